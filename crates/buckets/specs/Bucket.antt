@@ -1,0 +1,179 @@
+-- Document 01, "A bucket".
+-- Assumes nothing.
+use Prim.Native.Nat.{ℕ, zero, suc, _+_, _-_, _*_}
+use mathlib.Core.Bool.{Bool, true, false, _&&_, not}
+use mathlib.Core.Option.{Option, none, some}
+use mathlib.Core.List.{List, [], _∷_, _++_, map}
+use lib.Dec.{leb, ltb, eqb}
+use lib.ListN.{length, take, drop, getD}
+use Rattle.columns.specs.Lists.{pick, joined, every, parts, same, strict, padded}
+use Rattle.columns.specs.PrintedNumbers.{print, blanks, value}
+use Rattle.buckets.specs.declared.Line.{Line}
+use Rattle.buckets.specs.ListLine.{tagFits, fits, figures, spelled}
+
+-- a control pair: its tag, none if blank, and its distance
+pub record Pair : Type 0 where
+  pub tag : Option ℕ
+  pub distance : ℕ
+
+-- an index entry
+pub record Entry : Type 0 where
+  pub tag : ℕ
+  pub distance : ℕ
+
+-- what tells the two kinds of bucket apart: control pairs and entries, or follow-on and lines
+pub data Body : Type 0 where
+  indexBody : List Pair → List Entry → Body
+  dataBody : ℕ → List Line → Body
+
+-- a bucket; a distance is counted from it
+pub record Bucket : Type 0 where
+  pub position : ℕ
+  pub toCycle : ℕ
+  pub toSegment : ℕ
+  pub body : Body
+
+-- "The position plus the second is N"
+unfoldable pub cycleLength : Bucket → ℕ
+cycleLength b = b .position + b .toCycle
+
+-- ---- printed
+
+-- "The follow-on is 0 in an index bucket."
+abbrev pub followOn : Body → ℕ
+followOn (indexBody ps es) = 0
+followOn (dataBody f ls) = f
+
+-- "Column 24: letter I (index) or D (data)."
+abbrev pub letter : Body → ℕ
+letter (indexBody ps es) = 73
+letter (dataBody f ls) = 68
+
+-- "25-26: number of control pairs"; a data bucket has "No control pairs"
+abbrev pub pairCount : Body → ℕ
+pairCount (indexBody ps es) = length ps
+pairCount (dataBody f ls) = 0
+
+-- "27-28: number of entries or of lines"
+abbrev pub itemCount : Body → ℕ
+itemCount (indexBody ps es) = length es
+itemCount (dataBody f ls) = length ls
+
+-- "Columns 0-5: position in the cycle. 6-11: distance to the next cycle's start. 12-17: distance to the next index
+-- segment's start. 18-23: follow-on." and columns 24 to 28
+unfoldable pub printHead : Bucket → List ℕ
+printHead b =
+    print 6 (b .position) ++
+    (print 6 (b .toCycle) ++
+    (print 6 (b .toSegment) ++
+    (print 6 (followOn (b .body)) ++
+    (letter (b .body) ∷
+    (print 2 (pairCount (b .body)) ++ print 2 (itemCount (b .body)))))))
+
+-- the tag columns of a pair, which may be blank
+abbrev pub printTag : Option ℕ → List ℕ
+printTag none = blanks 10
+printTag (some t) = print 10 t
+
+-- "each a tag (10 ..) and a distance (6)"
+unfoldable pub printPair : Pair → List ℕ
+printPair p = printTag (p .tag) ++ print 6 (p .distance)
+
+unfoldable pub printEntry : Entry → List ℕ
+printEntry e = print 10 (e .tag) ++ print 6 (e .distance)
+
+-- "Index: control pairs from column 29, entries from column 93" "Data: lines without newline, 26 columns each, from
+-- column 29.", "unused columns blank"
+abbrev pub printBody : Body → List ℕ
+printBody (indexBody ps es) = padded 64 (joined printPair ps) ++ padded 146 (joined printEntry es)
+printBody (dataBody f ls) = padded 210 (joined figures ls)
+
+-- "240 bytes, byte 239 a newline"
+unfoldable pub printBucket : Bucket → List ℕ
+printBucket b = printHead b ++ (printBody (b .body) ++ 10 ∷ [])
+
+-- ---- the rules
+
+-- "Each distance is 1 to N"
+unfoldable pub reaches : ℕ → ℕ → Bool
+reaches n d = leb 1 d && leb d n
+
+-- a printed tag is in range; a blank one has none
+abbrev pub pairTagFits : Option ℕ → Bool
+pairTagFits none = true
+pairTagFits (some t) = tagFits t
+
+abbrev pub printedTag : Option ℕ → Bool
+printedTag none = false
+printedTag (some t) = true
+
+unfoldable pub pairFits : ℕ → Pair → Bool
+pairFits n p = pairTagFits (p .tag) && reaches n (p .distance)
+
+unfoldable pub entryFits : ℕ → Entry → Bool
+entryFits n e = tagFits (e .tag) && reaches n (e .distance)
+
+-- "Only one field may be blank: the tag of an index bucket's first control pair."
+abbrev pub laterPrinted : List Pair → Bool
+laterPrinted [] = true
+laterPrinted (p ∷ ps) = every (λ q. printedTag (q .tag)) ps
+
+-- "Entry tags never fall." "Tags never fall.": from m on
+abbrev pub rising : ℕ → List ℕ → Bool
+rising m [] = true
+rising m (t ∷ ts) = leb m t && rising t ts
+
+-- "number of control pairs, 0 to 4", "number of entries (0 to 8) or of lines (1 to 8)", and the rules for each; the
+-- follow-on "is below the distance to the next cycle" (c)
+abbrev pub bodyGood : ℕ → ℕ → Body → Bool
+bodyGood n c (indexBody ps es) =
+    leb (length ps) 4 &&
+    (leb (length es) 8 &&
+    (every (pairFits n) ps &&
+    (laterPrinted ps &&
+    (every (entryFits n) es && rising 0 (map (λ e. e .tag) es)))))
+bodyGood n c (dataBody f ls) =
+    leb 1 (length ls) &&
+    (leb (length ls) 8 &&
+    (every fits ls &&
+    (rising 0 (map (λ l. l .tag) ls) && ltb f c)))
+
+-- "N, at most 99,999"; both distances of the head 1 to N
+unfoldable pub good : Bucket → Bool
+good b =
+    leb (cycleLength b) 99999 &&
+    (leb 1 (b .toCycle) &&
+    (reaches (cycleLength b) (b .toSegment) && bodyGood (cycleLength b) (b .toCycle) (b .body)))
+
+-- ---- read
+
+-- the columns of s from place k on, w of them
+unfoldable pub columns : ℕ → ℕ → List ℕ → List ℕ
+columns k w s = take w (drop k s)
+
+-- the number that those columns spell
+unfoldable pub field : ℕ → ℕ → List ℕ → ℕ
+field k w s = value 0 (columns k w s)
+
+unfoldable pub spelledPair : List ℕ → Pair
+spelledPair s = record { tag = pick (same (take 10 s) (blanks 10)) none (some (field 0 10 s)); distance = field 10 6 s }
+
+unfoldable pub spelledEntry : List ℕ → Entry
+spelledEntry s = record { tag = field 0 10 s; distance = field 10 6 s }
+
+-- what stands behind the head, by the letter
+unfoldable pub spelledBody : List ℕ → Body
+spelledBody s =
+    pick (eqb (getD s 24 0) 73)
+    (indexBody
+    (map spelledPair (parts (field 25 2 s) 16 (columns 29 64 s)))
+    (map spelledEntry (parts (field 27 2 s) 16 (columns 93 146 s))))
+    (dataBody (field 18 6 s) (map spelled (parts (field 27 2 s) 26 (columns 29 210 s))))
+
+unfoldable pub spelledBucket : List ℕ → Bucket
+spelledBucket s = record { position = field 0 6 s; toCycle = field 6 6 s; toSegment = field 12 6 s; body = spelledBody s }
+
+-- "A single bucket is misprinted exactly if it breaks a rule of this section or of "Printed numbers" that its own 240
+-- bytes can show": none where it is misprinted, also where it is not 240 bytes
+unfoldable pub readBucket : List ℕ → Option Bucket
+readBucket s = strict spelledBucket good printBucket s

@@ -1,0 +1,4 @@
+-- The definitions that the contracts of this crate and of the crates above it cite.
+pub mod ListLine
+pub mod Bucket
+pub mod Held

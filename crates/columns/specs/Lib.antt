@@ -1,0 +1,3 @@
+-- The definitions that the contracts of this crate and of the crates above it cite.
+pub mod Lists
+pub mod PrintedNumbers

@@ -1,0 +1,40 @@
+-- Document 01, "Printed numbers".
+-- Assumes nothing.
+use Prim.Native.Nat.{ℕ, zero, suc, _+_, _-_, _*_, _/_, _%_, _^_}
+use mathlib.Core.Bool.{Bool, true, false}
+use mathlib.Core.Option.{Option, none, some}
+use mathlib.Core.List.{List, [], _∷_}
+use lib.Dec.{ltb}
+use lib.ListN.{length, replicate}
+use Rattle.columns.specs.Lists.{pick, strict}
+use Rattle.columns.specs.declared.Number.{Number}
+use Rattle.columns.specs.declared.Number.the-variants.{Value, Misprinted}
+
+-- What stands in the column worth 10^w: a blank (byte 32) where the number does not reach it ("no leading zero"), else
+-- its digit. The last column always has a digit ("zero as one 0").
+abbrev pub column : ℕ → ℕ → ℕ
+column zero x = 48 + x % 10
+column (suc w) x = pick (ltb x (10 ^ suc w)) 32 (48 + x / 10 ^ suc w % 10)
+
+-- "A number stands right-justified in its columns: blanks (byte 32), then digits": x in w columns
+abbrev pub print : ℕ → ℕ → List ℕ
+print zero x = []
+print (suc w) x = column w x ∷ print w x
+
+-- w blank columns
+unfoldable pub blanks : ℕ → List ℕ
+blanks w = replicate w 32
+
+-- what the columns spell, left to right behind acc, a blank counting as 0
+abbrev pub value : ℕ → List ℕ → ℕ
+value acc [] = acc
+value acc (c ∷ s) = value (acc * 10 + (c - 48)) s
+
+-- a number read strictly: only its own print is taken for it
+unfoldable pub readNumber : List ℕ → Option ℕ
+readNumber s = strict (value 0) (λ x. true) (print (length s)) s
+
+-- a strict reading as the code answers it
+abbrev pub asNumber : Option ℕ → Number
+asNumber none = Misprinted
+asNumber (some x) = Value x

@@ -1,0 +1,3 @@
+-- Laws that no single function owns.
+pub mod Sequence
+pub mod Sizes

@@ -1,0 +1,55 @@
+-- "Working D out from N: two list sizes can share one N.": with n 8, p 1 and r 2 a list of 472 lines and one of 513 have the
+-- same N, so reading back cannot take a list's size from it. It counts the list's own lines: two lines in a cycle of three
+-- buckets, and three lines in one of six.
+-- Assumes nothing.
+use mathlib.Core.Path.{_≡_, refl}
+use Prim.Native.Nat.{ℕ}
+use mathlib.Core.List.{List, [], _∷_}
+use lib.Dec.{lit≤}
+use Rattle.columns.specs.Lists
+use Rattle.columns.specs.PrintedNumbers
+use Rattle.buckets.specs.ListLine
+use Rattle.buckets.specs.Bucket
+use Rattle.cycle.specs.Tree
+use Rattle.cycle.specs.Layouts
+use Rattle.cycle.specs.Cycle
+use Rattle.cycle.specs.Building
+use Rattle.cycle.specs.ReadingBack
+use Rattle.columns.specs.Lists.{joined}
+use Rattle.buckets.specs.ListLine.{printLine}
+use Rattle.cycle.specs.Tree.{Settings, Plan, levels}
+use Rattle.cycle.specs.Cycle.{cycleSize}
+use Rattle.cycle.specs.Building.{build}
+use Rattle.cycle.specs.ReadingBack.{ReadBack, restored}
+use Rattle.cycle.specs.declared.Restored.the-variants.{Lines}
+
+-- every definition that these computations open
+unfoldable pub opened : Unit {0}
+unfolding Lists.up Lists.strict Lists.padded Lists.put PrintedNumbers.blanks PrintedNumbers.readNumber ListLine.tagFits ListLine.fits ListLine.figures ListLine.printLine ListLine.spelled ListLine.readLine ListLine.cutLines ListLine.listLines ListLine.wholeLines Bucket.cycleLength Bucket.printHead Bucket.printPair Bucket.printEntry Bucket.printBucket Bucket.reaches Bucket.pairFits Bucket.entryFits Bucket.good Bucket.columns Bucket.field Bucket.spelledPair Bucket.spelledEntry Bucket.spelledBody Bucket.spelledBucket Bucket.readBucket Tree.dataBuckets Tree.levels Tree.plan Tree.width Tree.children Tree.dataUnder Tree.linesOf Tree.tagsOf Tree.firstTag Tree.lastTag Tree.largestTag Layouts.slot Layouts.treeBelow Layouts.sent Layouts.path Layouts.distributedSegment Layouts.distributed Layouts.wholeSegment Layouts.oneM Layouts.slots Cycle.occurs Cycle.toNext Cycle.toNextSegment Cycle.isData Cycle.hasPairs Cycle.firstPair Cycle.laterPair Cycle.pairs Cycle.entry Cycle.entries Cycle.bodyOf Cycle.bucketOf Cycle.lastSent Cycle.buckets Cycle.cycleSize Cycle.image Building.settingsFit Building.copiesFit Building.refuse Building.buildPlan Building.build ReadingBack.wholeBuckets
+opened = tt
+
+-- a plan of d data buckets; N does not look at their lines
+unfoldable pub planOf : ℕ → Plan
+planOf d = record { n = 8; p = 1; layout = 1; copies = 2; lines = []; d = d; k = levels 8 d }
+
+pub one-N-two-sizes : (cycleSize (planOf 472) ≡ 598) × (cycleSize (planOf 513) ≡ 598)
+unfolding planOf opened
+one-N-two-sizes = (refl, refl)
+
+-- a list of these tags, other figures 0
+unfoldable pub listOf : List ℕ → List ℕ
+listOf tags = joined (λ t. printLine (record { tag = t; tare = 0; code = 0; weighing = 0 })) tags
+
+-- one line a bucket, layout 1, no copies
+unfoldable pub plain : Settings
+plain = record { n = 2; p = 1; layout = 1; copies = 0 }
+
+pub two-lines-restored :
+    ReadBack plain (build plain (listOf (3 ∷ 5 ∷ [])) 720 .output) 54 (Lines 2) (listOf (3 ∷ 5 ∷ []))
+unfolding plain listOf opened
+two-lines-restored = restored refl refl (listOf (3 ∷ 5 ∷ [])) (record { answers = refl; writes = refl }) (lit≤ tt)
+
+pub three-lines-restored :
+    ReadBack plain (build plain (listOf (3 ∷ 5 ∷ 5 ∷ [])) 1440 .output) 81 (Lines 3) (listOf (3 ∷ 5 ∷ 5 ∷ []))
+unfolding plain listOf opened
+three-lines-restored = restored refl refl (listOf (3 ∷ 5 ∷ 5 ∷ [])) (record { answers = refl; writes = refl }) (lit≤ tt)

@@ -1,0 +1,107 @@
+-- Document 01, "The tree": the control pairs, and each bucket of the cycle with its distances; the cycle as bytes.
+-- Assumes nothing.
+use Prim.Native.Nat.{ℕ, zero, suc, _+_, _-_, _*_}
+use mathlib.Core.Bool.{Bool, true, false, _&&_}
+use mathlib.Core.Option.{Option, none, some}
+use mathlib.Core.List.{List, [], _∷_, _++_, map}
+use lib.Dec.{leb, eqb}
+use lib.ListN.{length}
+use Rattle.columns.specs.Lists.{pick, joined, range}
+use Rattle.buckets.specs.Bucket.{Pair, Entry, Body, indexBody, dataBody, Bucket, printBucket}
+use Rattle.cycle.specs.Tree.{Plan, children, above, linesOf, firstTag, lastTag, largestTag}
+use Rattle.cycle.specs.Layouts.{Slot, slots}
+
+-- the distance to the first bucket ahead that passes f
+abbrev pub distanceTo : (Slot → Bool) → List Slot → ℕ
+distanceTo f [] = 0
+distanceTo f (x ∷ xs) = pick (f x) 1 (suc (distanceTo f xs))
+
+-- an occurrence of bucket j of level i
+unfoldable pub occurs : ℕ → ℕ → Slot → Bool
+occurs i j x = eqb (x .level) i && eqb (x .place) j
+
+-- "A pair or entry distance always reaches the next occurrence, in the coming repeat if this cycle has no more.": ahead
+-- is the rest of this cycle and then the coming one
+unfoldable pub toNext : List Slot → ℕ → ℕ → ℕ
+toNext ahead i j = distanceTo (occurs i j) ahead
+
+-- "distance to the next index segment's start"
+unfoldable pub toNextSegment : List Slot → ℕ
+toNextSegment ahead = distanceTo (λ x. x .starts) ahead
+
+unfoldable pub isData : Plan → Slot → Bool
+isData t x = eqb (x .level) (t .k + 1)
+
+-- "Control pairs stand in path buckets of layout 1 and in each root of layout 2, nowhere else."
+unfoldable pub hasPairs : Plan → Slot → Bool
+hasPairs t x = pick (eqb (t .layout) 1) (leb (x .level) (t .copies)) (eqb (x .level) 1)
+
+-- "The first: the tag of the last line sent earlier in this cycle (blank if none), and the distance to the next cycle."
+unfoldable pub firstPair : Option ℕ → ℕ → Pair
+firstPair last toCycle = record { tag = last; distance = toCycle }
+
+-- "its pair j, from 2 to i, has the largest tag under the path's level j bucket, and the distance to the next occurrence
+-- of the level j - 1 bucket"
+unfoldable pub laterPair : Plan → List Slot → Slot → ℕ → Pair
+laterPair t ahead x j =
+    record {
+      tag = some (largestTag t j (above (t .n) (x .level - j) (x .place)));
+      distance = toNext ahead (j - 1) (above (t .n) (x .level - (j - 1)) (x .place));
+    }
+
+-- "A path bucket on level i has i pairs"
+unfoldable pub pairs : Plan → List Slot → Option ℕ → ℕ → Slot → List Pair
+pairs t ahead last toCycle x =
+    pick (hasPairs t x) (firstPair last toCycle ∷ map (laterPair t ahead x) (range 2 (x .level + 1))) []
+
+-- "Every entry holds the largest tag below it."
+unfoldable pub entry : Plan → List Slot → ℕ → ℕ → Entry
+entry t ahead i j = record { tag = largestTag t i j; distance = toNext ahead i j }
+
+unfoldable pub entries : Plan → List Slot → Slot → List Entry
+entries t ahead x = map (entry t ahead (x .level + 1)) (children t (x .level) (x .place))
+
+-- "In a data bucket it is the distance to the next data bucket of this cycle if that one's first tag equals this one's
+-- last, else 0": rest is the rest of this cycle, and d the distance to its first bucket
+abbrev pub followOnFrom : Plan → ℕ → ℕ → List Slot → ℕ
+followOnFrom t last d [] = 0
+followOnFrom t last d (x ∷ xs) =
+    pick (isData t x) (pick (eqb (firstTag t (x .place)) last) d 0) (followOnFrom t last (suc d) xs)
+
+-- bucket x of a cycle: its position, the tag of the last line sent before it, the rest of the cycle, and all of it
+unfoldable pub bodyOf : Plan → ℕ → Option ℕ → Slot → List Slot → List Slot → Body
+bodyOf t toCycle last x rest all =
+    pick (isData t x)
+    (dataBody (followOnFrom t (lastTag t (x .place)) 1 rest) (linesOf t (x .place)))
+    (indexBody (pairs t (rest ++ all) last toCycle x) (entries t (rest ++ all) x))
+
+unfoldable pub bucketOf : Plan → ℕ → Option ℕ → Slot → List Slot → List Slot → Bucket
+bucketOf t position last x rest all =
+    record {
+      position = position;
+      toCycle = length all - position;
+      toSegment = toNextSegment (rest ++ all);
+      body = bodyOf t (length all - position) last x rest all;
+    }
+
+-- the tag of the last line sent, behind bucket x
+unfoldable pub lastSent : Plan → Slot → Option ℕ → Option ℕ
+lastSent t x last = pick (isData t x) (some (lastTag t (x .place))) last
+
+-- the buckets from a position on
+abbrev pub bucketsFrom : Plan → List Slot → ℕ → Option ℕ → List Slot → List Bucket
+bucketsFrom t all position last [] = []
+bucketsFrom t all position last (x ∷ rest) =
+    bucketOf t position last x rest all ∷ bucketsFrom t all (suc position) (lastSent t x last) rest
+
+-- the cycle
+unfoldable pub buckets : Plan → List Bucket
+buckets t = bucketsFrom t (slots t) 0 none (slots t)
+
+-- N
+unfoldable pub cycleSize : Plan → ℕ
+cycleSize t = length (slots t)
+
+-- the cycle as bytes
+unfoldable pub image : Plan → List ℕ
+image t = joined printBucket (buckets t)

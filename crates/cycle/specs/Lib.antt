@@ -1,0 +1,6 @@
+-- The definitions that the contracts of this crate and of the crates above it cite.
+pub mod Tree
+pub mod Layouts
+pub mod Cycle
+pub mod Building
+pub mod ReadingBack

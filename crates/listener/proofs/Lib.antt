@@ -1,0 +1,2 @@
+-- Facts that no single function owns.
+pub mod SampleYard

@@ -1,0 +1,5 @@
+-- The definitions that the contracts of this crate and of the crates above it cite.
+pub mod Listener
+pub mod Hearing
+pub mod Lookup
+pub mod SampleYard

@@ -1,0 +1,60 @@
+// The listener and the lookup: document 01, "The listener".
+
+// What a listener awaits: its tune-in bucket, an index bucket, either kind, a data bucket, or nothing any more.
+pub enum Phase {
+    TuneIn,
+    Index,
+    Either,
+    Data,
+    Ended,
+}
+
+// A listener's state. It is made by starting it with a tag, and handed on from step to step.
+pub struct Listener {
+    // the tag listened for
+    tag: u64,
+    // what is awaited
+    phase: Phase,
+    // the position awaited
+    due: u64,
+    // the N awaited
+    cycle: u64,
+    // the position of the tune-in bucket
+    tuned: u64,
+    // the buckets that go by up to the next one taken, that one counted
+    doze: u64,
+    // buckets taken
+    heard: u64,
+    // buckets gone by from tune-in to the last one taken, both in
+    elapsed: u64,
+}
+
+// A listener's answer to one bucket: doze by a distance, found, absent, refused by a number.
+pub enum Answer {
+    Doze(u64),
+    Found,
+    Absent,
+    Refused(u64),
+}
+
+// What a step hands back: the next listener, the answer, and which lines of the bucket match.
+pub struct Stepped {
+    pub listener: Listener,
+    pub answer: Answer,
+    pub first: u64,
+    pub count: u64,
+}
+
+// What a lookup answers: found or absent with heard and elapsed, or a refusal's number and place.
+pub enum Looked {
+    Found {
+        heard: u64,
+        elapsed: u64,
+        lines: u64,
+    },
+    Absent {
+        heard: u64,
+        elapsed: u64,
+    },
+    Refused(u64, u64),
+}
