@@ -43,6 +43,8 @@ pub record Comes (t : Plan) (s q i j : ℕ) (ahead : List Slot) : Type 0 where
 pub record IndexKeeps (t : Plan) (before : List Slot) (x : Slot) (rest : List Slot) : Type 0 where
   pub low : 1 ≤ x .level
   pub high : x .level ≤ t .k
+  -- the root is above x
+  pub rooted : above (t .n) (x .level - 1) (x .place) ≡ 0
   -- if x is above q, its child above q comes no later than q
   pub child :
       (q : ℕ) → q < t .d → dataCount t before ≤ q → placeAbove t (x .level) q ≡ x .place →
