@@ -2,3 +2,5 @@
 pub mod ListLine
 pub mod Bucket
 pub mod Held
+pub mod Columns
+pub mod Read

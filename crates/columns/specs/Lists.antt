@@ -78,3 +78,7 @@ padded w s = s ++ replicate (w - length s) 32
 -- s written over d from place k on
 unfoldable pub put : List ℕ → ℕ → List ℕ → List ℕ
 put d k s = take k d ++ (s ++ drop (k + length s) d)
+
+-- a lent buffer d with s written at its front: what lies behind s keeps its former content
+unfoldable pub onto : List ℕ → List ℕ → List ℕ
+onto s d = s ++ drop (length s) d

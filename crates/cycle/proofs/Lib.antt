@@ -1,11 +1,26 @@
 -- Laws that no single function owns.
+pub mod Accepted
 pub mod Blocks
+pub mod BucketAt
+pub mod BuiltGood
+pub mod BuiltImage
+pub mod DataGood
+pub mod DataTags
+pub mod Distances
 pub mod Distributed
+pub mod IndexGood
+pub mod Inside
 pub mod Keeping
+pub mod Least
+pub mod Levels
+pub mod Occurring
 pub mod OneM
+pub mod Outcomes
 pub mod Paths
 pub mod Pieces
 pub mod Ranges
+pub mod Rising
+pub mod Sendable
 pub mod Sequence
 pub mod Suffixes
 pub mod TreeLaws

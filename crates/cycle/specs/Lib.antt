@@ -4,3 +4,4 @@ pub mod Layouts
 pub mod Cycle
 pub mod Building
 pub mod ReadingBack
+pub mod Held

@@ -14,6 +14,9 @@ pub record Settings : Type 0 where
   pub layout : ℕ
   pub copies : ℕ
 
+abbrev pub settings : ℕ → ℕ → ℕ → ℕ → Settings
+settings n p layout copies = record { n = n; p = p; layout = layout; copies = copies }
+
 -- settings and a list's lines, with its data buckets D and its levels k
 pub record Plan : Type 0 where
   pub n : ℕ

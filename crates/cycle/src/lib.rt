@@ -11,3 +11,48 @@ pub enum Restored {
     Lines(u64),
     Refused(u64, u64),
 }
+
+// Settings, a list's number of lines, and what follows from them. A height counts levels above the data buckets.
+pub struct Figures {
+    pub n: u64,
+    pub p: u64,
+    pub layout: u64,
+    pub copies: u64,
+    pub lines: u64,
+    // data buckets
+    pub d: u64,
+    // index levels
+    pub k: u64,
+    // N
+    pub size: u64,
+    // powers[h] = n^h: the data buckets under a full bucket of height h
+    pub powers: [u64; 17],
+    // fulls[h]: the index buckets of a full subtree of height h
+    pub fulls: [u64; 17],
+}
+
+// A segment of the cycle: its path, its tree and its data buckets, and where they stand.
+pub struct Segment {
+    // which one, from 0: in layout 1 also the place of its bucket B on level r + 1
+    pub number: u64,
+    // its first position
+    pub start: u64,
+    // the level on which its path begins; one past the copies where it has none
+    pub top: u64,
+    // the position of its tree, and the tree's height and place
+    pub tree_at: u64,
+    pub height: usize,
+    pub root: u64,
+    // the position of its data buckets, which are those from first up to but without last
+    pub data_at: u64,
+    pub first: u64,
+    pub last: u64,
+    // the position behind it
+    pub end: u64,
+}
+
+// Where lines stand: in a list, or in the data buckets of an image.
+pub enum Source {
+    List,
+    Image,
+}

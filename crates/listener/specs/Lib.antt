@@ -2,4 +2,5 @@
 pub mod Listener
 pub mod Hearing
 pub mod Lookup
+pub mod Demand3
 pub mod SampleYard

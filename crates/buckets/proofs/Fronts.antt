@@ -1,0 +1,113 @@
+-- What the writer's loops have written after i turns: the front of what they are to write, and one item more.
+--     entries-next, length-entries    entries from two arrays, one more, and how many
+--     joined-next                     one more item behind those that stand
+--     entry-written                   one more entry, printed as two numbers
+--     entries-first                   the first entry and the others
+--     pairs-printed, pairs-blank      pairs printed as entries, and with a blank tag first
+--     line-written, figures-at        one more line, and where its figures stand in a list
+-- Assumes nothing.
+use Prim.Native.Nat.{ℕ, zero, suc, _+_, _-_, _*_, _≤_, _<_}
+use mathlib.Core.Path.{_≡_, refl, sym, ap, _∙_}
+use mathlib.Core.Bool.{true, false}
+use mathlib.Core.List.{List, [], _∷_, _++_, map, append-assoc, append-nil}
+use native.Mathlib.Numerals.{add-one}
+use native.Mathlib.Omega.{arith}
+use lib.Dec.{lit≤}
+use lib.ListN.{length, take, drop, getD}
+use lib.Seq.{length-take-le, take-suc, take-take, take-at}
+use Rattle.columns.specs.Lists.{joined}
+use Rattle.columns.specs.PrintedNumbers.{print, blanks}
+use Rattle.columns.proofs.Joined.{joined-append, length-joined, joined-at}
+use Rattle.buckets.specs.declared.Line.{Line}
+use Rattle.buckets.specs.ListLine.{figures, printLine}
+use Rattle.buckets.specs.Bucket.{Entry, printPair, printEntry}
+use Rattle.buckets.specs.Held.{entriesOf, printedPair, pairsOf}
+use Rattle.buckets.proofs.ListLines.{length-figures, length-printLine}
+
+pub length-entry : (e : Entry) → length (printEntry e) ≡ 16
+unfolding printEntry
+length-entry e = refl
+
+-- entry i of two arrays
+abbrev pub entryAt : List ℕ → List ℕ → ℕ → Entry
+entryAt ts ds i = record { tag = getD ts i 0; distance = getD ds i 0 }
+
+pub entries-next : (ts ds : List ℕ) (i : ℕ) → i < length ts → i < length ds →
+    take (suc i) (entriesOf ts ds) ≡ take i (entriesOf ts ds) ++ entryAt ts ds i ∷ []
+entries-next [] ds i h g = absurd (omega arith)
+entries-next (t ∷ ts) [] i h g = absurd (omega arith)
+entries-next (t ∷ ts) (d ∷ ds) zero h g = refl
+entries-next (t ∷ ts) (d ∷ ds) (suc i) h g = ap (λ (es : List Entry). record { tag = t; distance = d } ∷ es) (entries-next ts ds i (omega arith) (omega arith))
+
+pub length-entries : (ts ds : List ℕ) (i : ℕ) → i ≤ length ts → i ≤ length ds → length (take i (entriesOf ts ds)) ≡ i
+length-entries ts ds zero h g = refl
+length-entries [] ds (suc i) h g = absurd (omega arith)
+length-entries (t ∷ ts) [] (suc i) h g = absurd (omega arith)
+length-entries (t ∷ ts) (d ∷ ds) (suc i) h g = ap suc (length-entries ts ds i (omega arith) (omega arith))
+
+pub joined-next : {A : Type 0} (f : A → List ℕ) (xs : List A) (x : A) → joined f (xs ++ x ∷ []) ≡ joined f xs ++ f x
+joined-next f xs x = joined-append f xs (x ∷ []) ∙ ap (λ (s : List ℕ). joined f xs ++ s) (append-nil (f x))
+
+-- the first i entries, printed
+abbrev pub entriesTo : List ℕ → List ℕ → ℕ → List ℕ
+entriesTo ts ds i = joined printEntry (take i (entriesOf ts ds))
+
+pub length-entries-to : (ts ds : List ℕ) (i : ℕ) → i ≤ length ts → i ≤ length ds → length (entriesTo ts ds i) ≡ i * 16
+length-entries-to ts ds i h g = length-joined printEntry 16 length-entry (take i (entriesOf ts ds)) ∙ ap (λ (k : ℕ). k * 16) (length-entries ts ds i h g)
+
+pub entry-written : (ts ds : List ℕ) (i : ℕ) → i < length ts → i < length ds →
+    (entriesTo ts ds i ++ print 10 (getD ts i 0)) ++ print 6 (getD ds i 0) ≡ entriesTo ts ds (i + 1)
+unfolding printEntry
+entry-written ts ds i h g =
+    append-assoc (entriesTo ts ds i) (print 10 (getD ts i 0)) (print 6 (getD ds i 0))
+    ∙ sym (joined-next printEntry (take i (entriesOf ts ds)) (entryAt ts ds i))
+    ∙ ap (joined printEntry) (sym (entries-next ts ds i h g))
+    ∙ ap (entriesTo ts ds) (sym (add-one i))
+
+-- the first entry, and those of the arrays without their first places
+pub entries-first : (ts ds : List ℕ) (n : ℕ) → 0 < n → n ≤ length ts → n ≤ length ds →
+    take n (entriesOf ts ds) ≡ entryAt ts ds 0 ∷ take (n - 1) (entriesOf (drop 1 ts) (drop 1 ds))
+entries-first ts ds zero p h g = absurd (omega arith)
+entries-first [] ds (suc n) p h g = absurd (omega arith)
+entries-first (t ∷ ts) [] (suc n) p h g = absurd (omega arith)
+entries-first (t ∷ ts) (d ∷ ds) (suc n) p h g = let e : suc n - 1 ≡ n = omega arith in rw e
+
+-- pairs with printed tags are printed as entries are
+pub later-printed : (es : List Entry) → joined printPair (map printedPair es) ≡ joined printEntry es
+unfolding printPair printEntry
+later-printed [] = refl
+later-printed (e ∷ es) = ap (λ (s : List ℕ). printEntry e ++ s) (later-printed es)
+
+pub pairs-printed : (es : List Entry) → joined printPair (pairsOf false es) ≡ joined printEntry es
+unfolding printPair printEntry
+pairs-printed [] = refl
+pairs-printed (e ∷ es) = ap (λ (s : List ℕ). printEntry e ++ s) (later-printed es)
+
+pub pairs-blank : (e : Entry) (es : List Entry) →
+    joined printPair (pairsOf true (e ∷ es)) ≡ (blanks 10 ++ print 6 (e .distance)) ++ joined printEntry es
+unfolding printPair
+pairs-blank e es = ap (λ (s : List ℕ). (blanks 10 ++ print 6 (e .distance)) ++ s) (later-printed es)
+
+-- the first i lines, without their newlines
+abbrev pub linesTo : List Line → ℕ → List ℕ
+linesTo ls i = joined figures (take i ls)
+
+pub length-lines-to : (ls : List Line) (i : ℕ) → i ≤ length ls → length (linesTo ls i) ≡ i * 26
+length-lines-to ls i h = length-joined figures 26 length-figures (take i ls) ∙ ap (λ (k : ℕ). k * 26) (length-take-le i ls h)
+
+pub line-written : (ls : List Line) (d : Line) (i : ℕ) → i < length ls → linesTo ls i ++ figures (getD ls i d) ≡ linesTo ls (i + 1)
+line-written ls d i h =
+    sym (joined-next figures (take i ls) (getD ls i d))
+    ∙ ap (joined figures) (sym (take-suc ls i d h))
+    ∙ ap (linesTo ls) (sym (add-one i))
+
+-- the figures of line i in a printed list
+pub figures-at : (s : List ℕ) (ls : List Line) (d : Line) (i : ℕ) → s ≡ joined printLine ls → i < length ls →
+    take 26 (drop (i * 27) s) ≡ figures (getD ls i d)
+unfolding printLine
+figures-at s ls d i e h =
+    let line : take 27 (drop (i * 27) s) ≡ printLine (getD ls i d) =
+    rw (e, ← append-nil (joined printLine ls)) (joined-at printLine 27 length-printLine d ls [] i h) in
+    sym (take-take 26 27 (drop (i * 27) s) (lit≤ tt))
+    ∙ ap (take 26) line
+    ∙ take-at (figures (getD ls i d)) (10 ∷ []) 26 (length-figures (getD ls i d))

@@ -1,0 +1,95 @@
+-- The laws of a list line: its width, and that reading undoes printing and printing undoes reading.
+-- Assumes nothing.
+use Prim.Native.Nat.{ℕ, _≤_}
+use mathlib.Core.Path.{_≡_, refl, ap, _∙_}
+use mathlib.Core.Bool.{true, _&&_}
+use mathlib.Core.Option.{Option, none, some}
+use mathlib.Core.List.{List, [], _∷_, _++_, append-nil}
+use native.Mathlib.Omega.{arith}
+use lib.Dec.{leb}
+use lib.ListN.{length}
+use borrow.Author.Tests.{leb-true, le-leb}
+use Rattle.columns.proofs.Strict.{both, strict-back, strict-only}
+use Rattle.columns.proofs.Printed.{value-print}
+use Rattle.buckets.specs.declared.Line.{Line}
+use Rattle.buckets.specs.ListLine.{tagFits, fits, figures, printLine, spelled, readLine, taken}
+
+-- what `fits` tests
+pub record Fits (l : Line) : Type 0 where
+  pub small-tag : l .tag ≤ 4294967295
+  pub small-tare : l .tare ≤ 99999
+  pub small-code : l .code ≤ 9999
+  pub small-weighing : l .weighing ≤ 999999
+
+pub tag-small : (t : ℕ) → tagFits t ≡ true → t ≤ 4294967295
+unfolding tagFits
+tag-small t h = leb-true t 4294967295 h
+
+pub small-tag : (t : ℕ) → t ≤ 4294967295 → tagFits t ≡ true
+unfolding tagFits
+small-tag t h = le-leb t 4294967295 h
+
+pub line-fits : (l : Line) → fits l ≡ true → Fits l
+unfolding fits
+line-fits l h =
+    let w = leb (l .weighing) 999999 in
+    let c = leb (l .code) 9999 in
+    let t = leb (l .tare) 99999 in
+    let first = both (tagFits (l .tag)) (t && (c && w)) h in
+    let second = both t (c && w) (first .1) in
+    let third = both c w (second .1) in
+    record {
+      small-tag = tag-small (l .tag) (first .0);
+      small-tare = leb-true (l .tare) 99999 (second .0);
+      small-code = leb-true (l .code) 9999 (third .0);
+      small-weighing = leb-true (l .weighing) 999999 (third .1);
+    }
+
+pub length-figures : (l : Line) → length (figures l) ≡ 26
+unfolding figures
+length-figures l = refl
+
+pub length-printLine : (l : Line) → length (printLine l) ≡ 27
+unfolding figures printLine
+length-printLine l = refl
+
+-- a line's columns spell the line, whatever stands behind them
+pub spelled-figures : (l : Line) (rest : List ℕ) → fits l ≡ true → spelled (figures l ++ rest) ≡ l
+unfolding figures spelled
+spelled-figures l rest h =
+    let f = line-fits l h in
+    λ i.
+    record {
+      tag = value-print 10 (l .tag) (omega arith) i;
+      tare = value-print 6 (l .tare) (omega arith) i;
+      code = value-print 4 (l .code) (omega arith) i;
+      weighing = value-print 6 (l .weighing) (omega arith) i;
+    }
+
+pub spelled-alone : (l : Line) → fits l ≡ true → spelled (figures l) ≡ l
+spelled-alone l h = rw append-nil at (spelled-figures l [] h)
+
+pub spelled-printLine : (l : Line) → fits l ≡ true → spelled (printLine l) ≡ l
+unfolding printLine
+spelled-printLine l h = spelled-figures l (10 ∷ []) h
+
+pub read-of-print-line : (l : Line) → fits l ≡ true → readLine (printLine l) ≡ some l
+unfolding readLine
+read-of-print-line l h = strict-back spelled fits printLine l h (spelled-printLine l h)
+
+pub print-of-read-line : (s : List ℕ) {l : Line} → readLine s ≡ some l → (s ≡ printLine l) × (fits l ≡ true) × (l ≡ spelled s)
+unfolding readLine
+print-of-read-line s h = strict-only spelled fits printLine s h
+
+pub length-of-read-line : (s : List ℕ) {l : Line} → readLine s ≡ some l → length s ≡ 27
+length-of-read-line s {l} h = ap length (print-of-read-line s h .0) ∙ length-printLine l
+
+-- bytes that read are the print of what they spell
+pub read-line-spelled : (s : List ℕ) → taken (readLine s) ≡ true → (s ≡ printLine (spelled s)) × (fits (spelled s) ≡ true)
+read-line-spelled s h = go (readLine s) refl h
+  where
+    go : (o : Option Line) → readLine s ≡ o → taken o ≡ true → (s ≡ printLine (spelled s)) × (fits (spelled s) ≡ true)
+    go none e k = absurd (let z : _≡_ {A = ℕ} 0 1 = cc in omega arith)
+    go (some l) e k =
+        let told = print-of-read-line s e in
+        (told .0 ∙ ap printLine (told .2), rw (told .2) at (told .1))

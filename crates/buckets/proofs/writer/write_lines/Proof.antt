@@ -1,0 +1,198 @@
+-- `buckets::writer::write_lines` meets its contract. After i turns the first i lines stand at the front, and the rest is blank.
+-- Assumes nothing.
+use Prim.Native.Nat.{ℕ, _+_, _-_, _*_, _/_, _%_, _≤_, _<_}
+use mathlib.Core.Path.{_≡_, refl, _∙_, sym, ap}
+use mathlib.Core.List.{List, [], _++_}
+use native.Mathlib.Omega.{arith}
+use lib.ListN.{length, take, drop, getD}
+use lib.Seq.{take-length}
+use Rattle.columns.specs.Lists.{joined, padded}
+use Rattle.columns.specs.PrintedNumbers.{blanks}
+use Rattle.columns.proofs.FromTheRight.{length-blanks}
+use Rattle.columns.proofs.Printed.{length-padded}
+use Rattle.columns.proofs.Put.{length-part}
+use Rattle.columns.proofs.Padded.{padded-nil, back-padded}
+use Rattle.buckets.specs.declared.Line.{Line}
+use Rattle.buckets.specs.ListLine.{figures, printLine, spelled, listLines}
+use Rattle.buckets.proofs.ListLines.{length-figures}
+use Rattle.buckets.proofs.Lists.{length-listLines, print-of-list}
+use Rattle.buckets.proofs.Fronts.{linesTo, length-lines-to, line-written, figures-at}
+use Rattle.buckets.proofs.writer.write_lines.Statement.{statement}
+use Rattle.buckets.proofs.writer.write_lines.Tie as tie
+
+-- s is a printed list of at most 8 lines
+record Printed (s : List ℕ) : Type 0 where
+  is : s ≡ joined printLine (listLines s)
+  count : length s ≡ length (listLines s) * 27
+  few : length s ≤ 216
+
+-- the first i lines of s stand in the columns, and the next are to come from `from` to `at`
+record Front (s part : List ℕ) (from at : ℕ) : Type 0 where
+  i : ℕ
+  within : i ≤ length (listLines s)
+  source : from ≡ i * 27
+  place : at ≡ i * 26
+  is : part ≡ padded 210 (linesTo (listLines s) i)
+
+module _ (s part : List ℕ) (from at : ℕ) (l : Printed s) (o : Front s part from at) where
+  wide : length (linesTo (listLines s) (o .i)) ≡ at
+  wide = length-lines-to (listLines s) (o .i) (o .within) ∙ sym (o .place)
+
+  long : length part ≡ 210
+  long = ap length (o .is) ∙ length-padded 210 (linesTo (listLines s) (o .i)) (omega (arith, wide, o .place, o .within, l .count, l .few))
+
+  done : length s ≤ from → part ≡ padded 210 (joined figures (listLines s))
+  done h =
+      let end : o .i ≡ length (listLines s) = omega (arith, o .within, o .source, l .count) in
+      o .is ∙ rw (end, take-length (listLines s))
+
+-- a turn
+module _ (s part : List ℕ) (from at : ℕ) (l : Printed s) (o : Front s part from at) (h : from < length s) where
+  more : o .i < length (listLines s)
+  more = omega (arith, o .source, l .count)
+
+  source-end : from + 26 ≤ length s
+  source-end = omega (arith, o .source, l .count)
+
+  place-end : at + 26 ≤ 210
+  place-end = omega (arith, more, o .place, l .count, l .few)
+
+  six-and-twenty : (k : ℕ) → k + 26 - k ≡ 26
+  six-and-twenty k = omega arith
+
+  as-wide : length (take (from + 26 - from) (drop from s)) ≡ length (take (at + 26 - at) (drop at part))
+  as-wide =
+      rw (six-and-twenty from, six-and-twenty at)
+      (length-part s from 26 source-end ∙ sym (length-part part at 26 (omega (arith, long s part from at l o, place-end))))
+
+  next : {last : List ℕ} → last ≡ take (from + 26 - from) (drop from s) →
+      Front s (take at part ++ (last ++ drop (at + 26 - at) (drop at part))) (from + 27) (at + 26)
+  next {last} e =
+      let none : Line = spelled [] in
+      let line : last ≡ figures (getD (listLines s) (o .i) none) =
+      e ∙ rw (six-and-twenty from, o .source) (figures-at s (listLines s) none (o .i) (l .is) more) in
+      record {
+        i = o .i + 1;
+        within = omega (arith, more);
+        source = omega (arith, o .source);
+        place = omega (arith, o .place);
+        is =
+            rw (six-and-twenty at)
+            (back-padded 210 at 26 (linesTo (listLines s) (o .i)) (o .is) (wide s part from at l o) place-end (figures (getD (listLines s) (o .i) none))
+            line (length-figures (getD (listLines s) (o .i) none)))
+            ∙ ap (padded 210) (line-written (listLines s) none (o .i) more);
+      }
+
+abbrev Inv-loop : tie.InvT-loop
+Inv-loop part₀ lines from₀ at₀ part from at = Front lines part from at
+
+abbrev μ-loop : tie.MeasureT-loop
+μ-loop part₀ lines from₀ at₀ part from at = length lines - from
+
+abbrev start : tie.At-loop Inv-loop μ-loop → tie.Start Inv-loop μ-loop
+start c = c .before .before .before
+
+printed : (s : tie.Start Inv-loop μ-loop) → Printed (s .args .lines .now)
+printed s =
+    let whole = s .pre .1 .0 in
+    record {
+      is = print-of-list (s .args .lines .now) whole (s .pre .1 .1 .1) .0;
+      count = omega (arith, length-listLines (s .args .lines .now), whole);
+      few = s .pre .1 .1 .0;
+    }
+
+-- where a turn's line ends
+record Ends (s part : List ℕ) (from at : ℕ) : Type 0 where
+  source : from + 27 ≤ length s
+  few : length s ≤ 216
+  place : at + 26 ≤ 210
+  long : length part ≡ 210
+
+ends : (c : tie.In-loop Inv-loop μ-loop) →
+    Ends (start (c .before) .args .lines .now) (c .before .loop .part) (c .before .loop .from) (c .before .loop .at)
+ends c =
+    let l = printed (start (c .before)) in
+    let o = c .before .loop .inv in
+    record {
+      source = omega (arith, o .source, l .count, c .loop-test .taken);
+      few = l .few;
+      place = place-end _ _ _ _ l o (c .loop-test .taken);
+      long = long _ _ _ _ l o;
+    }
+
+loop-holds : tie.Need-loop-holds Inv-loop μ-loop
+loop-holds c = record { i = 0; within = omega arith; source = refl; place = refl; is = c .before .before .pre .0 ∙ sym (padded-nil 210) }
+
+add-copy-columns : tie.Need-add-copy-columns Inv-loop μ-loop
+add-copy-columns c = omega (arith, ends c)
+
+sub-copy-columns : tie.Need-sub-copy-columns Inv-loop μ-loop
+sub-copy-columns c = omega arith
+
+part-copy-columns-start : tie.Need-part-copy-columns-start Inv-loop μ-loop
+part-copy-columns-start c = omega arith
+
+part-copy-columns-end : tie.Need-part-copy-columns-end Inv-loop μ-loop
+part-copy-columns-end c = omega (arith, ends c)
+
+add-copy-columns-2 : tie.Need-add-copy-columns-2 Inv-loop μ-loop
+add-copy-columns-2 c = omega (arith, ends (c .before))
+
+sub-copy-columns-2 : tie.Need-sub-copy-columns-2 Inv-loop μ-loop
+sub-copy-columns-2 c = omega arith
+
+part-copy-columns-start-2 : tie.Need-part-copy-columns-start-2 Inv-loop μ-loop
+part-copy-columns-start-2 c = omega arith
+
+part-copy-columns-end-2 : tie.Need-part-copy-columns-end-2 Inv-loop μ-loop
+part-copy-columns-end-2 c = omega (arith, ends (c .before))
+
+copy-columns-requires : tie.Need-copy-columns-requires Inv-loop μ-loop
+copy-columns-requires c κs =
+    let t = c .before .before in
+    as-wide _ _ _ _ (printed (start (t .before))) (t .before .loop .inv) (t .loop-test .taken)
+
+add-from : tie.Need-add-from Inv-loop μ-loop
+add-from c = omega (arith, ends (c .before .before .before .before .before))
+
+add-at : tie.Need-add-at Inv-loop μ-loop
+add-at c = omega (arith, ends (c .before .before .before .before .before))
+
+loop-less : tie.Need-loop-less Inv-loop μ-loop
+loop-less c = omega (arith, ends (c .before .before .before .before .before))
+
+loop-again : tie.Need-loop-again Inv-loop μ-loop
+loop-again c =
+    let t = c .before .before .before .before .before in
+    next _ _ _ _ (printed (start (t .before))) (t .before .loop .inv) (t .loop-test .taken) (c .before .before .copy-columns .ensures)
+
+same-length : tie.Need-same-length Inv-loop μ-loop
+same-length c =
+    let s = start (c .before) in
+    long _ _ _ _ (printed s) (c .before .loop .inv) ∙ sym (ap length (s .pre .0) ∙ length-blanks 210)
+
+returns : tie.Need-returns Inv-loop μ-loop
+returns c = done _ _ _ _ (printed (start (c .before))) (c .before .loop .inv) (c .loop-test .left)
+
+pub write-lines-spec : {M : Type 1} → statement M
+write-lines-spec =
+    tie.close
+    (tie.spec
+    Inv-loop
+    μ-loop
+    loop-holds
+    add-copy-columns
+    sub-copy-columns
+    part-copy-columns-start
+    part-copy-columns-end
+    add-copy-columns-2
+    sub-copy-columns-2
+    part-copy-columns-start-2
+    part-copy-columns-end-2
+    copy-columns-requires
+    add-from
+    add-at
+    loop-less
+    loop-again
+    same-length
+    returns)

@@ -1,0 +1,118 @@
+-- Lines and buckets read field by field, each column once: what each function of the reader answers. That this is the strict
+-- reading of `ListLine` and `Bucket` is a law.
+-- Assumes nothing.
+use Prim.Native.Nat.{ℕ, zero, suc, _+_, _-_, _*_}
+use mathlib.Core.Bool.{Bool, _&&_}
+use mathlib.Core.Option.{Option, none, some}
+use mathlib.Core.List.{List, [], _∷_}
+use lib.Dec.{leb, eqb}
+use lib.ListN.{length, take, drop, getD}
+use Rattle.columns.specs.Lists.{pick, every}
+use Rattle.columns.specs.PrintedNumbers.{readNumber}
+use Rattle.buckets.specs.declared.Line.{Line}
+use Rattle.buckets.specs.declared.Head.{Head}
+use Rattle.buckets.specs.Bucket.{Pair, Entry, indexBody, dataBody, Bucket, columns}
+use Rattle.buckets.specs.Held.{printedPair, bucketWith}
+
+-- a reading that goes on with what the one before it found
+abbrev pub andThen : {A B : Type 0} → Option A → (A → Option B) → Option B
+andThen none k = none
+andThen (some a) k = k a
+
+-- a number from low to high
+unfoldable pub numberWithin : ℕ → ℕ → List ℕ → Option ℕ
+numberWithin low high s = andThen (readNumber s) (λ x. pick (leb low x && leb x high) (some x) none)
+
+-- every column is blank
+unfoldable pub allBlank : List ℕ → Bool
+allBlank s = every (λ c. eqb c 32) s
+
+-- a line's 26 columns, its tag at least m
+unfoldable pub readFigures : ℕ → List ℕ → Option Line
+readFigures m s =
+    andThen (numberWithin m 4294967295 (columns 0 10 s))
+    (λ t.
+    andThen (numberWithin 0 99999 (columns 10 6 s))
+    (λ k.
+    andThen (numberWithin 0 9999 (columns 16 4 s))
+    (λ c.
+    andThen (numberWithin 0 999999 (columns 20 6 s))
+    (λ w. some (record { tag = t; tare = k; code = c; weighing = w })))))
+
+-- an entry's 16 columns, its tag at least m, in a cycle of n
+unfoldable pub readEntry : ℕ → ℕ → List ℕ → Option Entry
+readEntry n m s =
+    andThen (numberWithin m 4294967295 (columns 0 10 s))
+    (λ t. andThen (numberWithin 1 n (columns 10 6 s)) (λ d. some (record { tag = t; distance = d })))
+
+-- a pair whose tag is blank
+unfoldable pub readBlankPair : ℕ → List ℕ → Option Pair
+readBlankPair n s = andThen (numberWithin 1 n (columns 10 6 s)) (λ d. some (record { tag = none; distance = d }))
+
+-- a pair whose tag is printed
+unfoldable pub readPrintedPair : ℕ → List ℕ → Option Pair
+readPrintedPair n s = andThen (readEntry n 0 s) (λ e. some (printedPair e))
+
+-- pair i: only the first one's tag may be blank
+unfoldable pub readPair : ℕ → ℕ → List ℕ → Option Pair
+readPair n i s = pick (eqb i 0 && allBlank (columns 0 10 s)) (readBlankPair n s) (readPrintedPair n s)
+
+-- c items in w columns each, one behind the other; an item is read by what those before it leave (next), at first m
+abbrev pub readRun : {A : Type 0} → (ℕ → List ℕ → Option A) → (ℕ → A → ℕ) → ℕ → ℕ → ℕ → List ℕ → Option (List A)
+readRun read next w m zero s = some []
+readRun read next w m (suc c) s =
+    andThen (read m (take w s)) (λ a. andThen (readRun read next w (next m a) c (drop w s)) (λ xs. some (a ∷ xs)))
+
+-- the same, with the unused columns behind them blank
+unfoldable pub readItems : {A : Type 0} → (ℕ → List ℕ → Option A) → (ℕ → A → ℕ) → ℕ → ℕ → List ℕ → Option (List A)
+readItems read next w c s = pick (allBlank (drop (c * w) s)) (readRun read next w 0 c s) none
+
+unfoldable pub readPairs : ℕ → ℕ → List ℕ → Option (List Pair)
+readPairs n c s = readItems (readPair n) (λ i p. suc i) 16 c s
+
+unfoldable pub readEntries : ℕ → ℕ → List ℕ → Option (List Entry)
+readEntries n c s = readItems (readEntry n) (λ m e. e .tag) 16 c s
+
+unfoldable pub readLines : ℕ → List ℕ → Option (List Line)
+readLines c s = readItems readFigures (λ m l. l .tag) 26 c s
+
+unfoldable pub readHead : List ℕ → Option Head
+readHead s =
+    andThen (numberWithin 0 99999 (columns 0 6 s))
+    (λ p.
+    andThen (numberWithin 1 (99999 - p) (columns 6 6 s))
+    (λ c.
+    andThen (numberWithin 1 (p + c) (columns 12 6 s))
+    (λ g. some (record { position = p; «to_cycle» = c; «to_segment» = g }))))
+
+-- behind the head h of an index bucket s
+unfoldable pub readIndex : Head → List ℕ → Option Bucket
+readIndex h s =
+    andThen (numberWithin 0 0 (columns 18 6 s))
+    (λ f.
+    andThen (numberWithin 0 4 (columns 25 2 s))
+    (λ k.
+    andThen (numberWithin 0 8 (columns 27 2 s))
+    (λ c.
+    andThen (readPairs (h .position + h .«to_cycle») k (columns 29 64 s))
+    (λ ps.
+    andThen (readEntries (h .position + h .«to_cycle») c (columns 93 146 s))
+    (λ es. some (bucketWith h (indexBody ps es)))))))
+
+-- behind the head h of a data bucket s
+unfoldable pub readData : Head → List ℕ → Option Bucket
+readData h s =
+    andThen (numberWithin 0 (h .«to_cycle» - 1) (columns 18 6 s))
+    (λ f.
+    andThen (numberWithin 0 0 (columns 25 2 s))
+    (λ k.
+    andThen (numberWithin 1 8 (columns 27 2 s))
+    (λ c. andThen (readLines c (columns 29 210 s)) (λ ls. some (bucketWith h (dataBody f ls))))))
+
+-- behind the head, by the letter
+unfoldable pub readByLetter : ℕ → Head → List ℕ → Option Bucket
+readByLetter x h s = pick (eqb x 73) (readIndex h s) (pick (eqb x 68) (readData h s) none)
+
+unfoldable pub readFields : List ℕ → Option Bucket
+readFields s =
+    pick (eqb (length s) 240 && eqb (getD s 239 0) 10) (andThen (readHead s) (λ h. readByLetter (getD s 24 0) h s)) none

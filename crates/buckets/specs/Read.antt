@@ -1,0 +1,50 @@
+-- How the reader's functions hold what they read, field by field.
+-- Assumes nothing.
+use mathlib.Core.Bool.{true, false}
+use mathlib.Core.Option.{Option, none, some}
+use mathlib.Core.List.{List, [], _∷_, map}
+use lib.ListN.{replicate}
+use Rattle.buckets.specs.declared.Line.{Line}
+use Rattle.buckets.specs.declared.Head.{Head}
+use Rattle.buckets.specs.declared.reader.EntryRead.{EntryRead}
+use Rattle.buckets.specs.declared.reader.EntryRead.the-variants.{Read as EntryIs, Misprinted as EntryMisprinted}
+use Rattle.buckets.specs.declared.reader.HeadRead.{HeadRead}
+use Rattle.buckets.specs.declared.reader.HeadRead.the-variants.{Read as HeadIs, Misprinted as HeadMisprinted}
+use Rattle.buckets.specs.declared.reader.PairRead.{PairRead}
+use Rattle.buckets.specs.declared.reader.Pairs.{Pairs}
+use Rattle.buckets.specs.declared.reader.Entries.{Entries}
+use Rattle.buckets.specs.declared.reader.Tags.{Tags}
+use Rattle.buckets.specs.Bucket.{Pair, Entry}
+use Rattle.buckets.specs.Held.{filled, tagOr0, firstBlank}
+
+abbrev pub asEntryRead : Option Entry → EntryRead
+asEntryRead none = EntryMisprinted
+asEntryRead (some e) = EntryIs (e .tag) (e .distance)
+
+abbrev pub asHeadRead : Option Head → HeadRead
+asHeadRead none = HeadMisprinted
+asHeadRead (some h) = HeadIs h
+
+abbrev pub asPairRead : Option Pair → PairRead
+asPairRead none = record { good = false; blank = false; tag = 0; distance = 0 }
+asPairRead (some p) =
+    record { good = true; blank = firstBlank (p ∷ []); tag = tagOr0 (p .tag); distance = p .distance }
+
+abbrev pub heldPairs : Option (List Pair) → Pairs
+heldPairs none = record { good = false; blank = false; tags = replicate 4 0; distances = replicate 4 0 }
+heldPairs (some ps) =
+    record {
+      good = true;
+      blank = firstBlank ps;
+      tags = filled 4 (map (λ p. tagOr0 (p .tag)) ps);
+      distances = filled 4 (map (λ p. p .distance) ps);
+    }
+
+abbrev pub heldEntries : Option (List Entry) → Entries
+heldEntries none = record { good = false; tags = replicate 8 0; distances = replicate 8 0 }
+heldEntries (some es) =
+    record { good = true; tags = filled 8 (map (λ e. e .tag) es); distances = filled 8 (map (λ e. e .distance) es) }
+
+abbrev pub heldTags : Option (List Line) → Tags
+heldTags none = record { good = false; tags = replicate 8 0 }
+heldTags (some ls) = record { good = true; tags = filled 8 (map (λ l. l .tag) ls) }

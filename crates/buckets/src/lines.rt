@@ -1,0 +1,76 @@
+// A list line, read and written.
+use super::CODE;
+use super::FIGURES;
+use super::LINE;
+use super::Line;
+use super::LineRead;
+use super::NEWLINE;
+use super::TARE;
+use super::WEIGHING;
+use super::fields;
+use columns;
+use columns::Number;
+ghost use mathlib.Core.Path.{_≡_};
+ghost use Prim.Native.Nat.{_≤_};
+ghost use lib.ListN.{length};
+ghost use Rattle.buckets.specs.ListLine.{figures, printLine, readLine};
+ghost use Rattle.buckets.specs.Held.{asLineRead};
+ghost use Rattle.buckets.specs.Columns.{readFigures};
+
+// The line in the first 26 columns of part, its tag at least low.
+pub fn read_figures(part: &[u8], low: u64) -> LineRead
+    requires { ⌜ 26 ≤ length (now part) ⌝ }
+    ensures { λ r. ⌜ r ≡ asLineRead (readFigures low (now (part .entry))) ⌝ }
+{
+    let Number::Value(tag) = fields::read_within(&part[0..TARE], low, 4294967295) else {
+        return LineRead::Misprinted;
+    };
+    let Number::Value(tare) = fields::read_within(&part[TARE..CODE], 0, 99999) else {
+        return LineRead::Misprinted;
+    };
+    let Number::Value(code) = fields::read_within(&part[CODE..WEIGHING], 0, 9999) else {
+        return LineRead::Misprinted;
+    };
+    let Number::Value(weighing) = fields::read_within(&part[WEIGHING..FIGURES], 0, 999999) else {
+        return LineRead::Misprinted;
+    };
+    LineRead::Read(Line {
+        tag: tag,
+        tare: tare,
+        code: code,
+        weighing: weighing,
+    })
+}
+
+// The list line that part is.
+pub fn read_line(part: &[u8]) -> LineRead
+    ensures { λ r. ⌜ r ≡ asLineRead (readLine (now (part .entry))) ⌝ }
+{
+    if part.len() != LINE {
+        return LineRead::Misprinted;
+    }
+    if part[FIGURES] != NEWLINE {
+        return LineRead::Misprinted;
+    }
+    read_figures(part, 0)
+}
+
+// A line without its newline.
+pub fn write_figures(part: &mut [u8], l: Line)
+    requires { ⌜ length (now part) ≡ 26 ⌝ }
+    ensures { λ _. ⌜ now (part .exit) ≡ figures l ⌝ }
+{
+    columns::print_blanks(part);
+    columns::print_at(part, 0, TARE, l.tag);
+    columns::print_at(part, TARE, CODE, l.tare);
+    columns::print_at(part, CODE, WEIGHING, l.code);
+    columns::print_at(part, WEIGHING, FIGURES, l.weighing);
+}
+
+pub fn write_line(part: &mut [u8], l: Line)
+    requires { ⌜ length (now part) ≡ 27 ⌝ }
+    ensures { λ _. ⌜ now (part .exit) ≡ printLine l ⌝ }
+{
+    write_figures(&mut part[0..FIGURES], l);
+    part[FIGURES] = NEWLINE;
+}

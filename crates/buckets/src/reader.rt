@@ -1,0 +1,426 @@
+// A bucket, read: field by field, each column once.
+use super::BODY;
+use super::BUCKET;
+use super::BUCKET_END;
+use super::DATA;
+use super::DISTANCE;
+use super::ENTRIES;
+use super::ENTRY;
+use super::FIGURES;
+use super::FOLLOW_ON;
+use super::Head;
+use super::INDEX;
+use super::ITEM_COUNT;
+use super::Index;
+use super::Kind;
+use super::LETTER;
+use super::LineRead;
+use super::NEWLINE;
+use super::PAIR_COUNT;
+use super::Reading;
+use super::TO_CYCLE;
+use super::TO_SEGMENT;
+use super::fields;
+use super::lines;
+use columns::Number;
+ghost use mathlib.Core.Path.{_≡_};
+ghost use mathlib.Core.List.{[]};
+ghost use mathlib.Core.Option.{none};
+ghost use Prim.Native.Nat.{_+_, _≤_};
+ghost use lib.ListN.{length};
+ghost use Rattle.buckets.specs.Bucket.{readBucket};
+ghost use Rattle.buckets.specs.Held.{heldIndex, asReading};
+ghost use Rattle.buckets.specs.Columns.{readEntry, readBlankPair, readPrintedPair, readPair, readPairs, readEntries, readLines, readHead, readIndex, readData};
+ghost use Rattle.buckets.specs.Read.{asEntryRead, asPairRead, heldPairs, heldEntries, heldTags, asHeadRead};
+
+// What a reading of an entry finds: its tag and distance.
+enum EntryRead {
+    Read(u64, u64),
+    Misprinted,
+}
+
+// What a reading of a control pair finds: false and 0 in each if it is misprinted; a blank tag is 0.
+struct PairRead {
+    good: bool,
+    blank: bool,
+    tag: u64,
+    distance: u64,
+}
+
+// What a reading of all control pairs finds, held as in `Index`: false and 0 in each if one is misprinted.
+struct Pairs {
+    good: bool,
+    blank: bool,
+    tags: [u64; 4],
+    distances: [u64; 4],
+}
+
+// The same of all entries.
+struct Entries {
+    good: bool,
+    tags: [u64; 8],
+    distances: [u64; 8],
+}
+
+// The same of the tags of all lines.
+struct Tags {
+    good: bool,
+    tags: [u64; 8],
+}
+
+// What a reading of the first three numbers finds.
+enum HeadRead {
+    Read(Head),
+    Misprinted,
+}
+
+// The entry in part, its tag at least low, in a cycle of n.
+fn read_entry(part: &[u8], low: u64, n: u64) -> EntryRead
+    requires { ⌜ length (now part) ≡ 16 ⌝ }
+    ensures { λ r. ⌜ r ≡ asEntryRead (readEntry n low (now (part .entry))) ⌝ }
+{
+    let Number::Value(tag) = fields::read_within(&part[0..DISTANCE], low, 4294967295) else {
+        return EntryRead::Misprinted;
+    };
+    let Number::Value(distance) = fields::read_within(&part[DISTANCE..ENTRY], 1, n) else {
+        return EntryRead::Misprinted;
+    };
+    EntryRead::Read(tag, distance)
+}
+
+// The pair in part, whose tag is blank.
+fn read_blank_pair(part: &[u8], n: u64) -> PairRead
+    requires { ⌜ length (now part) ≡ 16 ⌝ }
+    ensures { λ r. ⌜ r ≡ asPairRead (readBlankPair n (now (part .entry))) ⌝ }
+{
+    let Number::Value(distance) = fields::read_within(&part[DISTANCE..ENTRY], 1, n) else {
+        return PairRead {
+            good: false,
+            blank: false,
+            tag: 0,
+            distance: 0,
+        };
+    };
+    PairRead {
+        good: true,
+        blank: true,
+        tag: 0,
+        distance: distance,
+    }
+}
+
+// The pair in part, whose tag is printed.
+fn read_printed_pair(part: &[u8], n: u64) -> PairRead
+    requires { ⌜ length (now part) ≡ 16 ⌝ }
+    ensures { λ r. ⌜ r ≡ asPairRead (readPrintedPair n (now (part .entry))) ⌝ }
+{
+    let EntryRead::Read(tag, distance) = read_entry(part, 0, n) else {
+        return PairRead {
+            good: false,
+            blank: false,
+            tag: 0,
+            distance: 0,
+        };
+    };
+    PairRead {
+        good: true,
+        blank: false,
+        tag: tag,
+        distance: distance,
+    }
+}
+
+// Pair i, in part.
+fn read_pair(part: &[u8], i: usize, n: u64) -> PairRead
+    requires { ⌜ length (now part) ≡ 16 ⌝ }
+    ensures { λ r. ⌜ r ≡ asPairRead (readPair n i (now (part .entry))) ⌝ }
+{
+    if i != 0 {
+        return read_printed_pair(part, n);
+    }
+    if fields::all_blank(&part[0..DISTANCE]) {
+        return read_blank_pair(part, n);
+    }
+    read_printed_pair(part, n)
+}
+
+// The control pairs in part, count of them, in a cycle of n.
+fn read_pairs(part: &[u8], count: usize, n: u64) -> Pairs
+    requires { ⌜ (length (now part) ≡ 64) × (count ≤ 4) ⌝ }
+    ensures { λ r. ⌜ r ≡ heldPairs (readPairs n count (now (part .entry))) ⌝ }
+{
+    let used = count * ENTRY;
+    if !fields::all_blank(&part[used..]) {
+        return Pairs {
+            good: false,
+            blank: false,
+            tags: [0; 4],
+            distances: [0; 4],
+        };
+    }
+    let mut blank = false;
+    let mut tags = [0; 4];
+    let mut distances = [0; 4];
+    let mut i = 0;
+    while i < count {
+        let at = i * ENTRY;
+        let pair = read_pair(&part[at..at + ENTRY], i, n);
+        if !pair.good {
+            return Pairs {
+                good: false,
+                blank: false,
+                tags: [0; 4],
+                distances: [0; 4],
+            };
+        }
+        if pair.blank {
+            blank = true;
+        }
+        tags[i] = pair.tag;
+        distances[i] = pair.distance;
+        i += 1;
+    }
+    Pairs {
+        good: true,
+        blank: blank,
+        tags: tags,
+        distances: distances,
+    }
+}
+
+// The entries in part, count of them, in a cycle of n.
+fn read_entries(part: &[u8], count: usize, n: u64) -> Entries
+    requires { ⌜ (length (now part) ≡ 146) × (count ≤ 8) ⌝ }
+    ensures { λ r. ⌜ r ≡ heldEntries (readEntries n count (now (part .entry))) ⌝ }
+{
+    let used = count * ENTRY;
+    if !fields::all_blank(&part[used..]) {
+        return Entries {
+            good: false,
+            tags: [0; 8],
+            distances: [0; 8],
+        };
+    }
+    let mut tags = [0; 8];
+    let mut distances = [0; 8];
+    let mut last = 0;
+    let mut i = 0;
+    while i < count {
+        let at = i * ENTRY;
+        let EntryRead::Read(tag, distance) = read_entry(&part[at..at + ENTRY], last, n) else {
+            return Entries {
+                good: false,
+                tags: [0; 8],
+                distances: [0; 8],
+            };
+        };
+        tags[i] = tag;
+        distances[i] = distance;
+        last = tag;
+        i += 1;
+    }
+    Entries {
+        good: true,
+        tags: tags,
+        distances: distances,
+    }
+}
+
+// The tags of the lines in part, count of them.
+fn read_tags(part: &[u8], count: usize) -> Tags
+    requires { ⌜ (length (now part) ≡ 210) × (count ≤ 8) ⌝ }
+    ensures { λ r. ⌜ r ≡ heldTags (readLines count (now (part .entry))) ⌝ }
+{
+    let used = count * FIGURES;
+    if !fields::all_blank(&part[used..]) {
+        return Tags {
+            good: false,
+            tags: [0; 8],
+        };
+    }
+    let mut tags = [0; 8];
+    let mut last = 0;
+    let mut i = 0;
+    while i < count {
+        let at = i * FIGURES;
+        let LineRead::Read(line) = lines::read_figures(&part[at..at + FIGURES], last) else {
+            return Tags {
+                good: false,
+                tags: [0; 8],
+            };
+        };
+        last = line.tag;
+        tags[i] = last;
+        i += 1;
+    }
+    Tags {
+        good: true,
+        tags: tags,
+    }
+}
+
+// The first three numbers of a bucket.
+fn read_head(part: &[u8]) -> HeadRead
+    requires { ⌜ length (now part) ≡ 240 ⌝ }
+    ensures { λ r. ⌜ r ≡ asHeadRead (readHead (now (part .entry))) ⌝ }
+{
+    let Number::Value(position) = fields::read_within(&part[0..TO_CYCLE], 0, 99999) else {
+        return HeadRead::Misprinted;
+    };
+    let Number::Value(to_cycle) = fields::read_within(
+        &part[TO_CYCLE..TO_SEGMENT],
+        1,
+        99999 - position,
+    ) else {
+        return HeadRead::Misprinted;
+    };
+    let Number::Value(to_segment) = fields::read_within(
+        &part[TO_SEGMENT..FOLLOW_ON],
+        1,
+        position + to_cycle,
+    ) else {
+        return HeadRead::Misprinted;
+    };
+    HeadRead::Read(Head {
+        position: position,
+        to_cycle: to_cycle,
+        to_segment: to_segment,
+    })
+}
+
+// The index of a bucket that is no index bucket.
+fn no_index() -> Index
+    ensures { λ r. ⌜ r ≡ heldIndex [] [] ⌝ }
+{
+    Index {
+        pairs: 0,
+        blank: false,
+        pair_tags: [0; 4],
+        pair_distances: [0; 4],
+        entries: 0,
+        entry_tags: [0; 8],
+        entry_distances: [0; 8],
+    }
+}
+
+// What is answered of a misprinted bucket.
+fn misprinted() -> Reading
+    ensures { λ r. ⌜ r ≡ asReading none ⌝ }
+{
+    let head = Head {
+        position: 0,
+        to_cycle: 0,
+        to_segment: 0,
+    };
+    let index = no_index();
+    Reading {
+        kind: Kind::Misprinted,
+        head: head,
+        follow_on: 0,
+        index: index,
+        lines: 0,
+        tags: [0; 8],
+    }
+}
+
+// The index bucket that part is, behind its head.
+fn read_index(part: &[u8], head: Head) -> Reading
+    requires { ⌜ (length (now part) ≡ 240) × (head .position + head .«to_cycle» ≤ 99999) ⌝ }
+    ensures { λ r. ⌜ r ≡ asReading (readIndex head (now (part .entry))) ⌝ }
+{
+    let Number::Value(_) = fields::read_within(&part[FOLLOW_ON..LETTER], 0, 0) else {
+        return misprinted();
+    };
+    let Number::Value(pair_count) = fields::read_within(&part[PAIR_COUNT..ITEM_COUNT], 0, 4) else {
+        return misprinted();
+    };
+    let Number::Value(entry_count) = fields::read_within(&part[ITEM_COUNT..BODY], 0, 8) else {
+        return misprinted();
+    };
+    let n = head.position + head.to_cycle;
+    let pairs = read_pairs(&part[BODY..ENTRIES], pair_count as usize, n);
+    if !pairs.good {
+        return misprinted();
+    }
+    let entries = read_entries(&part[ENTRIES..BUCKET_END], entry_count as usize, n);
+    if !entries.good {
+        return misprinted();
+    }
+    let pair_tags = pairs.tags;
+    let pair_distances = pairs.distances;
+    let entry_tags = entries.tags;
+    let entry_distances = entries.distances;
+    let index = Index {
+        pairs: pair_count as usize,
+        blank: pairs.blank,
+        pair_tags: pair_tags,
+        pair_distances: pair_distances,
+        entries: entry_count as usize,
+        entry_tags: entry_tags,
+        entry_distances: entry_distances,
+    };
+    Reading {
+        kind: Kind::Index,
+        head: head,
+        follow_on: 0,
+        index: index,
+        lines: 0,
+        tags: [0; 8],
+    }
+}
+
+// The data bucket that part is, behind its head.
+fn read_data(part: &[u8], head: Head) -> Reading
+    requires { ⌜ (length (now part) ≡ 240) × (1 ≤ head .«to_cycle») ⌝ }
+    ensures { λ r. ⌜ r ≡ asReading (readData head (now (part .entry))) ⌝ }
+{
+    let Number::Value(follow_on) = fields::read_within(
+        &part[FOLLOW_ON..LETTER],
+        0,
+        head.to_cycle - 1,
+    ) else {
+        return misprinted();
+    };
+    let Number::Value(_) = fields::read_within(&part[PAIR_COUNT..ITEM_COUNT], 0, 0) else {
+        return misprinted();
+    };
+    let Number::Value(count) = fields::read_within(&part[ITEM_COUNT..BODY], 1, 8) else {
+        return misprinted();
+    };
+    let read = read_tags(&part[BODY..BUCKET_END], count as usize);
+    if !read.good {
+        return misprinted();
+    }
+    let tags = read.tags;
+    let index = no_index();
+    Reading {
+        kind: Kind::Data,
+        head: head,
+        follow_on: follow_on,
+        index: index,
+        lines: count as usize,
+        tags: tags,
+    }
+}
+
+// The bucket that part is.
+pub fn read_bucket(part: &[u8]) -> Reading
+    ensures { λ r. ⌜ r ≡ asReading (readBucket (now (part .entry))) ⌝ }
+{
+    if part.len() != BUCKET {
+        return misprinted();
+    }
+    if part[BUCKET_END] != NEWLINE {
+        return misprinted();
+    }
+    let HeadRead::Read(head) = read_head(part) else {
+        return misprinted();
+    };
+    if part[LETTER] == INDEX {
+        return read_index(part, head);
+    }
+    if part[LETTER] == DATA {
+        return read_data(part, head);
+    }
+    misprinted()
+}

@@ -1,0 +1,9 @@
+-- Laws that belong to no one function.
+pub mod Strict
+pub mod Printed
+pub mod OnePass
+pub mod Joined
+pub mod Put
+pub mod FromTheRight
+pub mod Padded
+pub mod Table

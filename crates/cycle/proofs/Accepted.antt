@@ -1,0 +1,207 @@
+-- What building accepts: the conditions 1 to 7 that do not hold, as facts of the plan, and what building then writes.
+-- Assumes nothing.
+use mathlib.Core.Path.{_≡_, refl, _∙_}
+use Prim.Native.Nat.{ℕ, _-_, _/_, _%_, _^_, _≤_, _<_, min, max}
+use mathlib.Core.Bool.{true, _&&_}
+use mathlib.Core.Option.{none}
+use mathlib.Core.List.{List, map}
+use native.Mathlib.Omega.{arith}
+use lib.Dec.{leb, eqb}
+use lib.ListN.{length, getD}
+use borrow.Author.Tests.{leb-true, eqb-true, eq-eqb, ne-eqb}
+use Rattle.columns.specs.Lists.{every, up}
+use Rattle.columns.proofs.Strict.{both}
+use Rattle.buckets.specs.declared.Line.{Line}
+use Rattle.buckets.specs.ListLine.{fits, cutLines, listLines, wholeLines, misprintFrom, fallFrom}
+use Rattle.buckets.specs.Bucket.{rising}
+use Rattle.buckets.proofs.Lists.{length-listLines, print-of-list, none-falls}
+use Rattle.cycle.specs.Tree.{Settings, Plan, dataBuckets, levels, plan}
+use Rattle.cycle.specs.Building.{settingsFit, copiesFit}
+use Rattle.cycle.proofs.Sequence.{Sound}
+use Rattle.cycle.proofs.Keeping.{keeps}
+use Rattle.cycle.proofs.Levels.{up-at-most, levels-low, levels-least, levels-high, levels-hold, levels-lone}
+use Rattle.cycle.proofs.Rising.{rising-tags, rising-order}
+use Rattle.cycle.proofs.DataTags.{Laid}
+
+-- ---- the conditions, as facts
+
+-- 1 does not hold
+pub record SettingsFit (s : Settings) : Type 0 where
+  pub n-low : 2 ≤ s .n
+  pub n-high : s .n ≤ 8
+  pub p-low : 1 ≤ s .p
+  pub p-high : s .p ≤ 8
+  pub layout-low : 1 ≤ s .layout
+  pub layout-high : s .layout ≤ 2
+
+pub settings-fit : (s : Settings) → settingsFit s ≡ true → SettingsFit s
+unfolding settingsFit
+settings-fit s h =
+    let layouts = leb 1 (s .layout) && leb (s .layout) 2 in
+    let p-most = leb (s .p) 8 && layouts in
+    let ps = leb 1 (s .p) && p-most in
+    let first = both (leb 2 (s .n)) (leb (s .n) 8 && ps) h in
+    let second = both (leb (s .n) 8) ps (first .1) in
+    let third = both (leb 1 (s .p)) p-most (second .1) in
+    let fourth = both (leb (s .p) 8) layouts (third .1) in
+    let fifth = both (leb 1 (s .layout)) (leb (s .layout) 2) (fourth .1) in
+    record {
+      n-low = leb-true 2 (s .n) (first .0);
+      n-high = leb-true (s .n) 8 (second .0);
+      p-low = leb-true 1 (s .p) (third .0);
+      p-high = leb-true (s .p) 8 (fourth .0);
+      layout-low = leb-true 1 (s .layout) (fifth .0);
+      layout-high = leb-true (s .layout) 2 (fifth .1);
+    }
+
+-- 5 does not hold
+pub record CopiesFit (t : Plan) : Type 0 where
+  pub few-paths : t .layout ≡ 1 → t .copies ≤ 4
+  pub paths-fit : t .layout ≡ 1 → t .copies ≤ t .k - 1
+  pub parts-some : (t .layout ≡ 1 → ⊥) → 1 ≤ t .copies
+  pub parts-fit : (t .layout ≡ 1 → ⊥) → t .copies ≤ max 1 (t .d)
+
+pub copies-fit : (t : Plan) → copiesFit t ≡ true → CopiesFit t
+unfolding copiesFit
+copies-fit t h =
+    record {
+      few-paths = λ e. omega (arith, one e);
+      paths-fit = λ e. omega (arith, one e);
+      parts-some = λ f. leb-true 1 (t .copies) (other f .0);
+      parts-fit = λ f. leb-true (t .copies) (max 1 (t .d)) (other f .1);
+    }
+  where
+    one : t .layout ≡ 1 → t .copies ≤ min 4 (t .k - 1)
+    one e = leb-true (t .copies) (min 4 (t .k - 1)) (rw (eq-eqb (t .layout) 1 e) at h)
+
+    other : (t .layout ≡ 1 → ⊥) → (leb 1 (t .copies) ≡ true) × (leb (t .copies) (max 1 (t .d)) ≡ true)
+    other f = both (leb 1 (t .copies)) (leb (t .copies) (max 1 (t .d))) (rw (ne-eqb (t .layout) 1 f) at h)
+
+-- 2 does not hold
+pub whole-lines : (c : ℕ) → wholeLines c ≡ true → (c % 27 ≡ 0) × (c / 27 ≤ 40000)
+unfolding wholeLines
+whole-lines c h =
+    let told = both (eqb (c % 27) 0) (leb (c / 27) 40000) h in
+    (eqb-true (c % 27) 0 (told .0), leb-true (c / 27) 40000 (told .1))
+
+-- ---- a plan that building can send
+
+pub record Accepted (t : Plan) : Type 0 where
+  pub sound : Sound t
+  pub n-high : t .n ≤ 8
+  pub p-high : t .p ≤ 8
+  pub layout-low : 1 ≤ t .layout
+  pub layout-high : t .layout ≤ 2
+  pub few-paths : t .layout ≡ 1 → t .copies ≤ 4
+  pub lines-fit : every fits (t .lines) ≡ true
+  pub tags-rise : rising 0 (map (λ l. l .tag) (t .lines)) ≡ true
+  pub few-lines : length (t .lines) ≤ 40000
+  pub d-is : t .d ≡ up (length (t .lines)) (t .p)
+  pub d-high : t .d ≤ 40000
+  pub k-is : t .k ≡ levels (t .n) (t .d)
+  pub k-high : t .k ≤ 16
+  pub k-least : (h : ℕ) → 1 ≤ h → h < t .k → t .n ^ h < t .d
+
+-- settings and lines within their ranges, with their D and k
+pub record Ranged (t : Plan) : Type 0 where
+  pub n-low : 2 ≤ t .n
+  pub n-high : t .n ≤ 8
+  pub p-low : 1 ≤ t .p
+  pub p-high : t .p ≤ 8
+  pub layout-low : 1 ≤ t .layout
+  pub layout-high : t .layout ≤ 2
+  pub few-lines : length (t .lines) ≤ 40000
+  pub d-is : t .d ≡ up (length (t .lines)) (t .p)
+  pub k-is : t .k ≡ levels (t .n) (t .d)
+
+module _ (t : Plan) (r : Ranged t) (fit : copiesFit t ≡ true) where
+  pub few-data : t .d ≤ 40000
+  few-data = omega (arith, r .few-lines, r .d-is, up-at-most (length (t .lines)) (t .p) (r .p-low))
+
+  pub ranged-sound : Sound t
+  ranged-sound =
+      let c = copies-fit t fit in
+      let low : 1 ≤ t .k = rw (r .k-is) (levels-low (t .n) (t .d)) in
+      record {
+        grows = r .n-low;
+        full = r .p-low;
+        levelled = low;
+        holds = rw (r .k-is) (levels-hold (t .n) (t .d) (r .n-low) few-data);
+        path-fits = λ e. omega (arith, c .paths-fit e);
+        parts-some = c .parts-some;
+        parts-fit = c .parts-fit;
+      }
+
+  pub ranged-accepted :
+      every fits (t .lines) ≡ true → rising 0 (map (λ l. l .tag) (t .lines)) ≡ true → Accepted t
+  ranged-accepted fine order =
+      record {
+        sound = ranged-sound;
+        n-high = r .n-high;
+        p-high = r .p-high;
+        layout-low = r .layout-low;
+        layout-high = r .layout-high;
+        few-paths = copies-fit t fit .few-paths;
+        lines-fit = fine;
+        tags-rise = order;
+        few-lines = r .few-lines;
+        d-is = r .d-is;
+        d-high = few-data;
+        k-is = r .k-is;
+        k-high = rw (r .k-is) (levels-high (t .n) (t .d) (r .n-low) few-data);
+        k-least = λ h low l. levels-least (t .n) (t .d) h low (rw (r .k-is) at l);
+      }
+
+-- ---- the plan of a list and settings
+
+module _ (s : Settings) (list : List ℕ) (fit : settingsFit s ≡ true) (whole : wholeLines (length list) ≡ true) where
+  pub plan-ranged : Ranged (plan s (listLines list))
+  unfolding plan dataBuckets
+  plan-ranged =
+      let f = settings-fit s fit in
+      record {
+        n-low = f .n-low;
+        n-high = f .n-high;
+        p-low = f .p-low;
+        p-high = f .p-high;
+        layout-low = f .layout-low;
+        layout-high = f .layout-high;
+        few-lines = rw length-listLines (whole-lines (length list) whole .1);
+        d-is = refl;
+        k-is = refl;
+      }
+
+  pub accepted-sound : copiesFit (plan s (listLines list)) ≡ true → Sound (plan s (listLines list))
+  accepted-sound h = ranged-sound (plan s (listLines list)) plan-ranged h
+
+  pub accepted-plan :
+      misprintFrom 0 (cutLines list) ≡ none → fallFrom 0 0 (listLines list) ≡ none →
+      copiesFit (plan s (listLines list)) ≡ true → Accepted (plan s (listLines list))
+  unfolding plan
+  accepted-plan read order h =
+      ranged-accepted (plan s (listLines list)) plan-ranged h
+      (print-of-list list (whole-lines (length list) whole .0) read .1)
+      (none-falls 0 0 (listLines list) order)
+
+-- ---- from it
+
+module _ (t : Plan) (a : Accepted t) where
+  pub lone-level : t .d ≡ 0 → t .k ≡ 1
+  lone-level e = a .k-is ∙ levels-lone (t .n) (t .d) e
+
+  -- n^(k-1) is below D, or there is one level
+  pub levels-needed : (t .k ≡ 1 → ⊥) → t .n ^ (t .k - 1) < t .d
+  levels-needed f = let low : 1 ≤ t .k = a .sound .levelled in a .k-least (t .k - 1) (omega (arith, f)) (omega arith)
+
+  pub tags-order : (z : Line) (i j : ℕ) → i ≤ j → j < length (t .lines) → getD (t .lines) i z .tag ≤ getD (t .lines) j z .tag
+  tags-order z i j h l = rising-order 0 (t .lines) z i j (rising-tags 0 (t .lines) (a .tags-rise)) h l
+
+  pub laid : Laid t
+  laid =
+      record {
+        sound = a .sound;
+        keeps = keeps t (a .sound);
+        rises = rising-tags 0 (t .lines) (a .tags-rise);
+        d-is = a .d-is;
+        lone = lone-level;
+      }

@@ -1,0 +1,199 @@
+-- What the contracts of this crate's inner functions say beyond document 01's own words: how the code holds a plan, where
+-- lines stand in the text it reads, and which part of the cycle a function writes. Each is put in terms of `Layouts` and
+-- `Cycle`; sums and products that the code computes with are laws in proofs/.
+-- Assumes nothing.
+use mathlib.Core.Path.{_≡_}
+use Prim.Native.Nat.{ℕ, zero, suc, _+_, _-_, _*_, _/_, _%_, _^_, _≤_, _<_, max}
+use mathlib.Core.Bool.{Bool, true, false}
+use mathlib.Core.Option.{Option, none, some}
+use mathlib.Core.List.{List, [], _∷_, _++_, map}
+use lib.Dec.{eqb}
+use lib.ListN.{length, take, drop, getD}
+use Rattle.columns.specs.Lists.{pick, joined, range, up}
+use Rattle.columns.specs.PrintedNumbers.{value}
+use Rattle.buckets.specs.declared.Line.{Line}
+use Rattle.buckets.specs.declared.Index.{Index}
+use Rattle.buckets.specs.ListLine.{spelled, cutLines, listLines, misprintFrom, fallFrom}
+use Rattle.buckets.specs.Bucket.{Body, indexBody, dataBody, Bucket}
+use Rattle.buckets.specs.Held.{heldIndex}
+use Rattle.cycle.specs.Tree.{Plan, levels, width, lastTag}
+use Rattle.cycle.specs.Layouts.{Slot, slot, subtree, sent, path, pathTop, distributedSegment, wholeSegment, slots}
+use Rattle.cycle.specs.Cycle.{occurs, distanceTo, toNextSegment, lastSent, buckets, cycleSize, image}
+use Rattle.cycle.specs.Building.{copiesFit}
+use Rattle.cycle.specs.declared.Figures.{Figures}
+use Rattle.cycle.specs.declared.Segment.{Segment}
+use Rattle.cycle.specs.declared.Source.{Source}
+use Rattle.cycle.specs.declared.Source.the-variants.{List as InList, Image as InImage}
+
+-- ---- the plan
+
+-- the plan that figures stand for, over some lines
+unfoldable pub planOf : Figures → List Line → Plan
+planOf f ls =
+    record
+    { n = f .n; p = f .p; layout = f .layout; copies = f .copies; lines = ls; d = f .d; k = f .k }
+
+-- the index buckets of a full subtree of height h
+abbrev pub fullSize : ℕ → ℕ → ℕ
+fullSize n zero = 0
+fullSize n (suc h) = fullSize n h * n + 1
+
+-- figures that settings within their ranges give
+pub record Shaped (f : Figures) : Type 0 where
+  pub n-low : 2 ≤ f .n
+  pub n-high : f .n ≤ 8
+  pub p-low : 1 ≤ f .p
+  pub p-high : f .p ≤ 8
+  pub layout-low : 1 ≤ f .layout
+  pub layout-high : f .layout ≤ 2
+  pub lines-high : f .lines ≤ 40000
+  pub d-is : f .d ≡ up (f .lines) (f .p)
+  pub k-is : f .k ≡ levels (f .n) (f .d)
+  pub powers-are : (h : ℕ) → h < 17 → getD (f .powers) h 0 ≡ f .n ^ h
+  pub fulls-are : (h : ℕ) → h < 17 → getD (f .fulls) h 0 ≡ fullSize (f .n) h
+
+-- bucket j of height e is one of the tree's
+unfoldable pub InTree : Figures → ℕ → ℕ → Type 0
+InTree f e j = (e ≤ f .k) × (j * f .n ^ e < max 1 (f .d))
+
+-- the number of segments
+unfoldable pub segmentCount : Plan → ℕ
+segmentCount t = pick (eqb (t .layout) 1) (max 1 (width t (t .copies + 1))) (t .copies)
+
+-- figures with their N
+unfoldable pub sized : Figures → ℕ → Figures
+sized f size =
+    record {
+      n = f .n;
+      p = f .p;
+      layout = f .layout;
+      copies = f .copies;
+      lines = f .lines;
+      d = f .d;
+      k = f .k;
+      size = size;
+      powers = f .powers;
+      fulls = f .fulls;
+    }
+
+-- figures of a cycle that can be sent
+pub record Ready (f : Figures) : Type 0 where
+  pub shaped : Shaped f
+  pub copies-fit : copiesFit (planOf f []) ≡ true
+  pub size-is : f .size ≡ cycleSize (planOf f [])
+  pub size-high : f .size ≤ 99999
+
+-- ---- places
+
+-- the first position of bucket j of level i in the cycle
+unfoldable pub firstPlace : Plan → ℕ → ℕ → ℕ
+firstPlace t i j = distanceTo (occurs i j) (slots t) - 1
+
+-- a bucket as sent, apart from whether a segment starts with it
+unfoldable pub bare : Slot → Slot
+bare x = slot (x .level) (x .place)
+
+-- the buckets xs stand in the cycle from position x on
+pub record Stand (t : Plan) (x : ℕ) (xs : List Slot) : Type 0 where
+  pub before : List Slot
+  pub middle : List Slot
+  pub behind : List Slot
+  pub splits : slots t ≡ before ++ (middle ++ behind)
+  pub here : length before ≡ x
+  pub alike : map bare middle ≡ xs
+
+-- the path of a segment, none in layout 2
+unfoldable pub pathOf : Plan → ℕ → List Slot
+pathOf t b = pick (eqb (t .layout) 1) (path t b) []
+
+-- the buckets of segment b
+unfoldable pub segmentSlots : Plan → ℕ → List Slot
+segmentSlots t b = pick (eqb (t .layout) 1) (distributedSegment t b) (wholeSegment t b)
+
+-- the subtree of bucket j of height e
+unfoldable pub treeAt : Plan → ℕ → ℕ → List Slot
+treeAt t e j = subtree t e (t .k + 1 - e) j
+
+-- the tag of the last line sent before position x
+abbrev pub lastSentIn : Plan → Option ℕ → List Slot → Option ℕ
+lastSentIn t last [] = last
+lastSentIn t last (x ∷ xs) = lastSentIn t (lastSent t x last) xs
+
+unfoldable pub lastSentBefore : Plan → ℕ → Option ℕ
+lastSentBefore t x = lastSentIn t none (take x (slots t))
+
+-- the last tag of the data buckets up to but without q
+abbrev pub lastOf : Plan → ℕ → Option ℕ
+lastOf t zero = none
+lastOf t (suc q) = some (lastTag t q)
+
+-- Segment number `number` of the cycle, as the code holds it: its path, from level `top` on; its tree, that of bucket `root`
+-- of height `height`; its data buckets, from `first` up to but without `last`; and where these stand.
+pub record Placed (t : Plan) (s : Segment) : Type 0 where
+  pub path-stands : Stand t (s .start) (pathOf t (s .number))
+  pub path-length : s .«tree_at» ≡ s .start + length (pathOf t (s .number))
+  pub top-is : t .layout ≡ 1 → s .top ≡ pathTop (t .n) (t .copies) (s .number)
+  pub no-path : (t .layout ≡ 1 → ⊥) → s .top ≡ t .copies + 1
+  pub root-is : t .layout ≡ 1 → s .root ≡ s .number
+  pub low : 1 ≤ s .height
+  pub high : s .height ≤ t .k
+  pub height-is : s .height ≡ pick (eqb (t .layout) 1) (t .k - t .copies) (t .k)
+  pub tree-stands : Stand t (s .«tree_at») (treeAt t (s .height) (s .root))
+  pub tree-length : s .«data_at» ≡ s .«tree_at» + length (treeAt t (s .height) (s .root))
+  pub first-last : s .first ≤ s .last
+  pub data-stands : Stand t (s .«data_at») (sent t (range (s .first) (s .last)))
+  pub ends : s .end ≡ s .«data_at» + (s .last - s .first)
+  pub start-is : s .start ≡ length (joined (segmentSlots t) (range 0 (s .number)))
+  pub end-is : s .end ≡ length (joined (segmentSlots t) (range 0 (suc (s .number))))
+  -- the next segment, or the coming cycle, starts at `end`, and none in between
+  pub next-starts : (x : ℕ) → s .start ≤ x → x < s .end → toNextSegment (drop (suc x) (slots t) ++ slots t) ≡ s .end - x
+  -- the data buckets sent before the segment are those up to `first`
+  pub sent-before : (x : ℕ) → s .start ≤ x → x < s .«data_at» → lastSentBefore t x ≡ lastOf t (s .first)
+
+-- ---- lines
+
+-- the place of line i's first byte in the text
+abbrev pub lineAt : Plan → Source → ℕ → ℕ
+lineAt t InList i = 27 * i
+lineAt t InImage i = 240 * firstPlace t (t .k + 1) (i / t .p) + (29 + 26 * (i % t .p))
+
+-- the lines that stand in a text
+unfoldable pub linesHeld : Figures → Source → List ℕ → List Line
+linesHeld f source text = map (λ i. spelled (drop (lineAt (planOf f []) source i) text)) (range 0 (f .lines))
+
+-- the tag of line i
+unfoldable pub tagAt : Figures → Source → List ℕ → ℕ → ℕ
+tagAt f source text i = value 0 (take 10 (drop (lineAt (planOf f []) source i) text))
+
+-- the plan over those lines
+unfoldable pub planIn : Figures → Source → List ℕ → Plan
+planIn f source text = planOf f (linesHeld f source text)
+
+-- a list that can be sent, under figures of its length
+pub record Sending (f : Figures) (list : List ℕ) : Type 0 where
+  pub ready : Ready f
+  pub whole : length list ≡ 27 * f .lines
+  pub printed : misprintFrom 0 (cutLines list) ≡ none
+  pub rising : fallFrom 0 0 (listLines list) ≡ none
+
+-- the text is long enough to hold them
+abbrev pub TextFits : Figures → Source → ℕ → Type 0
+TextFits f InList c = c ≡ 27 * f .lines
+TextFits f InImage c = c ≡ 240 * f .size
+
+-- ---- buckets
+
+unfoldable pub noBucket : Bucket
+noBucket = record { position = 0; toCycle = 0; toSegment = 0; body = indexBody [] [] }
+
+-- bucket x of the cycle
+unfoldable pub cycleBucket : Plan → ℕ → Bucket
+cycleBucket t x = getD (buckets t) x noBucket
+
+abbrev pub asIndex : Body → Index
+asIndex (indexBody ps es) = heldIndex ps es
+asIndex (dataBody f ls) = heldIndex [] []
+
+-- the image's bytes from bucket x on, c buckets
+unfoldable pub imagePart : Plan → ℕ → ℕ → List ℕ
+imagePart t x c = take (240 * c) (drop (240 * x) (image t))

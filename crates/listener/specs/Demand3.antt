@@ -1,0 +1,85 @@
+-- Demand 3: one statement on a whole hearing, and on the lookup beside it.
+-- Assumes nothing.
+use mathlib.Core.Path.{_≡_}
+use Prim.Native.Nat.{ℕ, zero, suc, _+_, _*_, _≤_, _<_, max}
+use mathlib.Core.Bool.{Bool, true, false}
+use mathlib.Core.Option.{Option, none, some}
+use mathlib.Core.List.{List, [], _∷_}
+use lib.Dec.{eqb}
+use lib.ListN.{length, drop}
+use Rattle.columns.specs.Lists.{joined, every}
+use Rattle.buckets.specs.declared.Line.{Line}
+use Rattle.buckets.specs.ListLine.{printLine, listLines}
+use Rattle.cycle.specs.Tree.{Settings, plan}
+use Rattle.cycle.specs.Building.{build}
+use Rattle.cycle.specs.declared.Built.the-variants.{Cycle}
+use Rattle.listener.specs.Listener.{start, matching}
+use Rattle.listener.specs.Hearing.{Taken, hearing, End, found, absent, endOf, untilEnd, heardIn, elapsedIn, refusedBeforeEnd, linesGot, listenerAfter, runsWith}
+use Rattle.listener.specs.Lookup.{lookup}
+use Rattle.listener.specs.declared.Answer.{Answer}
+use Rattle.listener.specs.declared.Answer.the-variants.{Doze, Found, Absent, Refused}
+use Rattle.listener.specs.declared.Looked.the-variants
+
+-- "2 + k + max(1, C)": "k is the index levels, C the data buckets with that tag"
+unfoldable pub heardLimit : Settings → List ℕ → ℕ → ℕ
+heardLimit s list tag = 2 + plan s (listLines list) .k + max 1 (runsWith (s .p) tag (listLines list))
+
+-- "all the list's lines of that tag and no others, in list order"
+unfoldable pub linesWanted : List ℕ → ℕ → List Line
+linesWanted list tag = matching tag (listLines list)
+
+-- ""absent" exactly when the list has no line of the tag, else "found""
+abbrev pub endWanted : List Line → End
+endWanted [] = absent
+endWanted (l ∷ ls) = found
+
+abbrev pub refusedBy : ℕ → Answer → Bool
+refusedBy number (Doze d) = false
+refusedBy number Found = false
+refusedBy number Absent = false
+refusedBy number (Refused given) = eqb given number
+
+-- What demand 3 says of the hearing of m steps, log, and of a lookup, over the cycle of n buckets that a list and settings
+-- build: image is that cycle, and space is the room of the lookup's buffer.
+pub record Demand3 (s : Settings) (list image : List ℕ) (n tag tune m : ℕ) (log : List Taken) : Type 0 where
+  -- "it has heard no more than 2 + k + max(1, C) buckets, no more than 2N - t have gone by .., and no step was refused
+  -- before its end"
+  pub heard-limit : heardIn log ≤ heardLimit s list tag
+  pub elapsed-limit : tune + elapsedIn log ≤ 2 * n
+  pub unrefused : refusedBeforeEnd log ≡ false
+  -- "By step 2 + k + max(1, C) the end has come"
+  pub end-come : heardLimit s list tag ≤ m → endOf log ≡ some (endWanted (linesWanted list tag))
+  -- whenever it has come, it is "absent" exactly when the list has no line of the tag, else "found", "and the lines it got
+  -- are all the list's lines of that tag and no others, in list order"
+  pub end-right : (e : End) → endOf log ≡ some e → e ≡ endWanted (linesWanted list tag)
+  pub lines-right : (e : End) → endOf log ≡ some e → linesGot log ≡ linesWanted list tag
+  -- "Both counts are the listener's own and equal those of the steps."
+  pub heard-own : listenerAfter (start tag) log .heard ≡ heardIn log
+  pub elapsed-own : listenerAfter (start tag) log .elapsed ≡ elapsedIn log
+  -- after the end "each such step is refused by 14 and changes nothing in the listener"
+  pub after-end : every (λ x. refusedBy 14 (x .outcome .answer)) (drop (heardIn log) log) ≡ true
+  pub unchanged : listenerAfter (start tag) log ≡ listenerAfter (start tag) (untilEnd log)
+  -- "A lookup over that cycle gives the same end, lines and counts, or is refused by 7 exactly if its buffer is too short for
+  -- the lines."
+  pub lookup-found :
+      (space : ℕ) → endOf log ≡ some found → 27 * length (linesGot log) ≤ space →
+      lookup image tag tune space ≡
+      record {
+        answer = the-variants.Found (heardIn log) (elapsedIn log) (length (linesGot log));
+        output = joined printLine (linesGot log);
+      }
+  pub lookup-short :
+      (space : ℕ) → endOf log ≡ some found → space < 27 * length (linesGot log) →
+      lookup image tag tune space ≡ record { answer = the-variants.Refused 7 0; output = [] }
+  pub lookup-absent :
+      (space : ℕ) → endOf log ≡ some absent →
+      lookup image tag tune space ≡ record { answer = the-variants.Absent (heardIn log) (elapsedIn log); output = [] }
+
+-- "For any list and settings the builder accepts, any tag and any tune-in t from 0 to N - 1, the cycle repeated unchanged
+-- and each bucket the display wakes for arriving intact: for every list of steps the display takes from a fresh start":
+-- strays are the bytes given after the end, of which nothing is known
+abbrev pub EveryHearing : Type 0
+EveryHearing =
+    (s : Settings) (list : List ℕ) (room n : ℕ) → build s list room .answer ≡ Cycle n → (tag tune : ℕ) → tune < n →
+    (m : ℕ) (strays : ℕ → List ℕ) →
+    Demand3 s list (build s list room .output) n tag tune m (hearing (build s list room .output) n strays tag tune m)
