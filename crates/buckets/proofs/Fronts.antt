@@ -48,6 +48,12 @@ length-entries (t ∷ ts) (d ∷ ds) (suc i) h g = ap suc (length-entries ts ds 
 pub joined-next : {A : Type 0} (f : A → List ℕ) (xs : List A) (x : A) → joined f (xs ++ x ∷ []) ≡ joined f xs ++ f x
 joined-next f xs x = joined-append f xs (x ∷ []) ∙ ap (λ (s : List ℕ). joined f xs ++ s) (append-nil (f x))
 
+-- n columns and two arrays that have room for count entries
+pub record Room (n count : ℕ) (ts ds : List ℕ) : Type 0 where
+  pub columns : 16 * count ≤ n
+  pub tags : count ≤ length ts
+  pub distances : count ≤ length ds
+
 -- the first i entries, printed
 abbrev pub entriesTo : List ℕ → List ℕ → ℕ → List ℕ
 entriesTo ts ds i = joined printEntry (take i (entriesOf ts ds))

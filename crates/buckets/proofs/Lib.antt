@@ -12,5 +12,7 @@ pub mod BodyItems
 pub mod ByField
 pub mod Answers
 pub mod Progress
+pub mod Holding
 pub mod Fronts
 pub mod Pages
+pub mod ListParts

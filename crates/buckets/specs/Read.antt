@@ -1,11 +1,14 @@
 -- How the reader's functions hold what they read, field by field.
 -- Assumes nothing.
+use Prim.Native.Nat.{ℕ}
 use mathlib.Core.Bool.{true, false}
 use mathlib.Core.Option.{Option, none, some}
 use mathlib.Core.List.{List, [], _∷_, map}
 use lib.ListN.{replicate}
 use Rattle.buckets.specs.declared.Line.{Line}
 use Rattle.buckets.specs.declared.Head.{Head}
+use Rattle.buckets.specs.declared.Kind.the-variants.{Index as KindIndex}
+use Rattle.buckets.specs.declared.Reading.{Reading}
 use Rattle.buckets.specs.declared.reader.EntryRead.{EntryRead}
 use Rattle.buckets.specs.declared.reader.EntryRead.the-variants.{Read as EntryIs, Misprinted as EntryMisprinted}
 use Rattle.buckets.specs.declared.reader.HeadRead.{HeadRead}
@@ -48,3 +51,24 @@ heldEntries (some es) =
 abbrev pub heldTags : Option (List Line) → Tags
 heldTags none = record { good = false; tags = replicate 8 0 }
 heldTags (some ls) = record { good = true; tags = filled 8 (map (λ l. l .tag) ls) }
+
+-- an index bucket of k pairs, held as p, and c entries, held as e
+unfoldable pub indexReading : Head → ℕ → Pairs → ℕ → Entries → Reading
+indexReading h k p c e =
+    record {
+      kind = KindIndex;
+      head = h;
+      «follow_on» = 0;
+      index =
+          record {
+            pairs = k;
+            blank = p .blank;
+            «pair_tags» = p .tags;
+            «pair_distances» = p .distances;
+            entries = c;
+            «entry_tags» = e .tags;
+            «entry_distances» = e .distances;
+          };
+      lines = 0;
+      tags = replicate 8 0;
+    }

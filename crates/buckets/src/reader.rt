@@ -31,7 +31,7 @@ ghost use lib.ListN.{length};
 ghost use Rattle.buckets.specs.Bucket.{readBucket};
 ghost use Rattle.buckets.specs.Held.{heldIndex, asReading};
 ghost use Rattle.buckets.specs.Columns.{readEntry, readBlankPair, readPrintedPair, readPair, readPairs, readEntries, readLines, readHead, readIndex, readData};
-ghost use Rattle.buckets.specs.Read.{asEntryRead, asPairRead, heldPairs, heldEntries, heldTags, asHeadRead};
+ghost use Rattle.buckets.specs.Read.{asEntryRead, asPairRead, heldPairs, heldEntries, heldTags, asHeadRead, indexReading};
 
 // What a reading of an entry finds: its tag and distance.
 enum EntryRead {
@@ -144,6 +144,18 @@ fn read_pair(part: &[u8], i: usize, n: u64) -> PairRead
     read_printed_pair(part, n)
 }
 
+// What is answered of misprinted pairs.
+fn no_pairs() -> Pairs
+    ensures { λ r. ⌜ r ≡ heldPairs none ⌝ }
+{
+    Pairs {
+        good: false,
+        blank: false,
+        tags: [0; 4],
+        distances: [0; 4],
+    }
+}
+
 // The control pairs in part, count of them, in a cycle of n.
 fn read_pairs(part: &[u8], count: usize, n: u64) -> Pairs
     requires { ⌜ (length (now part) ≡ 64) × (count ≤ 4) ⌝ }
@@ -151,12 +163,7 @@ fn read_pairs(part: &[u8], count: usize, n: u64) -> Pairs
 {
     let used = count * ENTRY;
     if !fields::all_blank(&part[used..]) {
-        return Pairs {
-            good: false,
-            blank: false,
-            tags: [0; 4],
-            distances: [0; 4],
-        };
+        return no_pairs();
     }
     let mut blank = false;
     let mut tags = [0; 4];
@@ -166,12 +173,7 @@ fn read_pairs(part: &[u8], count: usize, n: u64) -> Pairs
         let at = i * ENTRY;
         let pair = read_pair(&part[at..at + ENTRY], i, n);
         if !pair.good {
-            return Pairs {
-                good: false,
-                blank: false,
-                tags: [0; 4],
-                distances: [0; 4],
-            };
+            return no_pairs();
         }
         if pair.blank {
             blank = true;
@@ -323,6 +325,39 @@ fn misprinted() -> Reading
     }
 }
 
+// What is answered of an index bucket.
+fn index_reading(
+    head: Head,
+    pair_count: usize,
+    pairs: Pairs,
+    entry_count: usize,
+    entries: Entries,
+) -> Reading
+    ensures { λ r. ⌜ r ≡ indexReading head «pair_count» pairs «entry_count» entries ⌝ }
+{
+    let pair_tags = pairs.tags;
+    let pair_distances = pairs.distances;
+    let entry_tags = entries.tags;
+    let entry_distances = entries.distances;
+    let index = Index {
+        pairs: pair_count,
+        blank: pairs.blank,
+        pair_tags: pair_tags,
+        pair_distances: pair_distances,
+        entries: entry_count,
+        entry_tags: entry_tags,
+        entry_distances: entry_distances,
+    };
+    Reading {
+        kind: Kind::Index,
+        head: head,
+        follow_on: 0,
+        index: index,
+        lines: 0,
+        tags: [0; 8],
+    }
+}
+
 // The index bucket that part is, behind its head.
 fn read_index(part: &[u8], head: Head) -> Reading
     requires { ⌜ (length (now part) ≡ 240) × (head .position + head .«to_cycle» ≤ 99999) ⌝ }
@@ -346,27 +381,13 @@ fn read_index(part: &[u8], head: Head) -> Reading
     if !entries.good {
         return misprinted();
     }
-    let pair_tags = pairs.tags;
-    let pair_distances = pairs.distances;
-    let entry_tags = entries.tags;
-    let entry_distances = entries.distances;
-    let index = Index {
-        pairs: pair_count as usize,
-        blank: pairs.blank,
-        pair_tags: pair_tags,
-        pair_distances: pair_distances,
-        entries: entry_count as usize,
-        entry_tags: entry_tags,
-        entry_distances: entry_distances,
-    };
-    Reading {
-        kind: Kind::Index,
-        head: head,
-        follow_on: 0,
-        index: index,
-        lines: 0,
-        tags: [0; 8],
-    }
+    index_reading(
+        head,
+        pair_count as usize,
+        pairs,
+        entry_count as usize,
+        entries,
+    )
 }
 
 // The data bucket that part is, behind its head.

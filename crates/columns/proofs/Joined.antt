@@ -1,13 +1,13 @@
 -- Equal parts: what `joined` writes one behind the other, `parts` cuts again, and each part stands where its number says.
 -- Assumes nothing.
 use Prim.Native.Nat.{ℕ, zero, suc, _+_, _*_, _≤_, _<_}
-use mathlib.Core.Path.{_≡_, refl, sym, ap, ap₂, _∙_}
+use mathlib.Core.Path.{_≡_, refl, sym, ap}
 use mathlib.Core.Bool.{Bool, true, false, _&&_}
 use mathlib.Core.List.{List, [], _∷_, _++_, map, append-assoc}
 use native.Mathlib.Omega.{arith}
 use native.Mathlib.Nat.{zero-mul, suc-mul}
-use lib.ListN.{length, take, drop, getD, length-append, length-take, length-drop}
-use lib.Seq.{take-at, drop-at, drop-append-add, take-append-add, take-append-le, drop-drop, take-add}
+use lib.ListN.{length, take, drop, getD, length-append}
+use lib.Seq.{take-at, drop-at, drop-append-add, take-append-add, drop-drop, take-add}
 use Rattle.columns.specs.Lists.{joined, every, parts}
 use Rattle.columns.proofs.Strict.{both}
 

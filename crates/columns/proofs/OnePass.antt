@@ -2,21 +2,21 @@
 -- digits, of which the first is no 0 unless it is the last column.
 -- Assumes nothing.
 use Prim.Native.Nat.{ℕ, zero, suc, _+_, _-_, _*_, _/_, _%_, _^_, _<_, _≤_}
-use mathlib.Core.Path.{_≡_, refl, sym, ap, ap₂, _∙_}
+use mathlib.Core.Path.{_≡_, refl, ap, _∙_}
 use mathlib.Core.Bool.{Bool, true, false, _&&_}
-use mathlib.Core.Option.{Option, none, some}
-use mathlib.Core.List.{List, [], _∷_, _++_}
+use mathlib.Core.Option.{none, some}
+use mathlib.Core.List.{List, [], _∷_}
 use native.Mathlib.Omega.{arith}
 use native.Mathlib.Numerals.{lt-of-le-of-ne}
-use native.Mathlib.Nat.{pow-succ', mod-lt, mod-eq-of-lt, add-mul, mul-assoc, div-one, mul-le-mul-right}
+use native.Mathlib.Nat.{pow-succ', mod-lt, add-mul, mul-assoc, div-one, mul-le-mul-right}
 use lib.Arith.{digits-div, digits-lt}
 use lib.Dec.{ltb, leb, eqb, lit<}
 use lib.ListN.{length}
-use borrow.Author.Tests.{ltb-true, ltb-false, leb-true, leb-false, lt-ltb, le-ltb, le-leb, lt-leb, eq-eqb, ne-eqb, eqb-true}
+use borrow.Author.Tests.{ltb-true, ltb-false, leb-true, leb-false, lt-ltb, le-ltb, lt-leb, eq-eqb, ne-eqb}
 use Rattle.columns.specs.Lists.{pick, same, strict, every}
 use Rattle.columns.specs.PrintedNumbers.{column, print, value, readNumber}
-use Rattle.columns.proofs.Strict.{both, and-false, same-refl, same-eq}
-use Rattle.columns.proofs.Printed.{ten-pos, length-print, value-columns}
+use Rattle.columns.proofs.Strict.{both, and-false, same-eq}
+use Rattle.columns.proofs.Printed.{ten-pos, value-columns}
 
 abbrev pub digit : ℕ → Bool
 digit c = leb 48 c && leb c 57

@@ -1,17 +1,17 @@
 -- The laws of printed numbers: width, value, and that reading undoes printing and printing undoes reading.
 -- Assumes nothing.
 use Prim.Native.Nat.{ℕ, zero, suc, _+_, _-_, _*_, _/_, _%_, _^_, _<_, _≤_}
-use mathlib.Core.Path.{_≡_, refl, sym, ap, _∙_}
+use mathlib.Core.Path.{_≡_, refl, ap, _∙_}
 use mathlib.Core.Bool.{Bool, true, false}
-use mathlib.Core.Option.{Option, none, some}
-use mathlib.Core.List.{List, [], _∷_, _++_}
+use mathlib.Core.Option.{some}
+use mathlib.Core.List.{List}
 use native.Mathlib.Omega.{arith}
 use native.Mathlib.Nat.{pow-succ', one-le-pow, mod-lt, mod-eq-of-lt, mod-one, add-mul, mul-assoc, div-eq-of-lt, div-one}
 use lib.Arith.{mod-mul}
 use lib.Dec.{ltb, eqb, lit<}
-use lib.ListN.{length, replicate, length-append, length-replicate}
+use lib.ListN.{length, length-append, length-replicate}
 use borrow.Author.Tests.{ltb-true, ne-eqb}
-use Rattle.columns.specs.Lists.{pick, same, strict, padded}
+use Rattle.columns.specs.Lists.{pick, same, padded}
 use Rattle.columns.specs.PrintedNumbers.{column, print, blanks, value, readNumber}
 use Rattle.columns.proofs.Strict.{and-false, strict-back, strict-only}
 

@@ -32,6 +32,7 @@ const TENS: [u64; 10] = [
     1000000000,
 ];
 
+// The power of ten that has e zeros.
 pub fn ten_to(e: usize) -> u64
     requires { ⌜ e < 10 ⌝ }
     ensures { λ r. ⌜ r ≡ 10 ^ e ⌝ }
@@ -92,19 +93,53 @@ pub fn print_number(part: &mut [u8], x: u64)
     print_digits(part, x);
 }
 
-// The columns of `from`, as they are.
+// The columns of `from`, as they are: four a turn, each read before the first is written, and then one by one.
 pub fn copy_columns(part: &mut [u8], from: &[u8])
     requires { ⌜ length (now from) ≡ length (now part) ⌝ }
     ensures { λ _. ⌜ now (part .exit) ≡ now (from .entry) ⌝ }
 {
+    let n = part.len();
     let mut i = 0;
-    while i < part.len() {
+    'four: while 4 <= n - i {
+        let j = i + 1;
+        let k = i + 2;
+        let l = i + 3;
+        let a = from[i];
+        let b = from[j];
+        let c = from[k];
+        let d = from[l];
+        part[i] = a;
+        part[j] = b;
+        part[k] = c;
+        part[l] = d;
+        i += 4;
+    }
+    while i < n {
         part[i] = from[i];
         i += 1;
     }
 }
 
-// The same where the first column is not blank.
+// The number that stands in all the columns of part, read strictly: blanks are passed over.
+pub fn read_number(part: &[u8]) -> Number
+    requires { ⌜ length (now part) ≤ 10 ⌝ }
+    ensures { λ r. ⌜ r ≡ asNumber (readNumber (now (part .entry))) ⌝ }
+{
+    let n = part.len();
+    let mut i = 0;
+    while i < n {
+        if part[i] != BLANK {
+            return read_digits(&part[i..]);
+        }
+        i += 1;
+    }
+    if n == 0 {
+        return Number::Value(0);
+    }
+    Number::Misprinted
+}
+
+// The same where the first column is not blank: digits to the end, the first no 0 unless it is the only one.
 fn read_digits(part: &[u8]) -> Number
     requires { ⌜ (1 ≤ length (now part)) × ((length (now part) ≤ 10) × (getD (now part) 0 0 ≡ 32 → ⊥)) ⌝ }
     ensures { λ r. ⌜ r ≡ asNumber (readNumber (now (part .entry))) ⌝ }
@@ -126,27 +161,8 @@ fn read_digits(part: &[u8]) -> Number
         if NINE < c {
             return Number::Misprinted;
         }
+        x = x * ten_to(1) + (c - ZERO) as u64;
         i += 1;
-        x += ((c - ZERO) as u64) * ten_to(n - i);
     }
     Number::Value(x)
-}
-
-// The number that stands in all the columns of part.
-pub fn read_number(part: &[u8]) -> Number
-    requires { ⌜ length (now part) ≤ 10 ⌝ }
-    ensures { λ r. ⌜ r ≡ asNumber (readNumber (now (part .entry))) ⌝ }
-{
-    let n = part.len();
-    let mut i = 0;
-    while i < n {
-        if part[i] != BLANK {
-            return read_digits(&part[i..]);
-        }
-        i += 1;
-    }
-    if n == 0 {
-        return Number::Value(0);
-    }
-    Number::Misprinted
 }

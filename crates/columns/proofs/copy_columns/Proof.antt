@@ -1,79 +1,163 @@
--- `columns::copy_columns` meets its contract. After i turns the first i columns are those of `from`.
+-- `columns::copy_columns` meets its contract. Both loops' invariant: the first i columns are those of `from`.
 -- Assumes nothing.
 use Prim.Native.Nat.{ℕ, suc, _+_, _-_, _≤_, _<_}
 use mathlib.Core.Path.{_≡_, refl, _∙_, sym, ap}
-use mathlib.Core.List.{List, _++_, append-nil}
-use native.Mathlib.Nat.{zero-add}
+use mathlib.Core.List.{List, [], _∷_, _++_}
 use native.Mathlib.Numerals.{add-one}
 use native.Mathlib.Omega.{arith}
-use lib.ListN.{length, take, drop, getD, set, length-set}
-use lib.Seq.{take-length, drop-length, paste-suc}
+use lib.ListN.{length, take, getD, set, length-set}
+use lib.Seq.{take-all, take-suc, take-suc-set}
 use Rattle.columns.proofs.copy_columns.Statement.{statement}
 use Rattle.columns.proofs.copy_columns.Tie as tie
 
--- d with its first i columns those of s
-record Copied (d s part : List ℕ) (i : ℕ) : Type 0 where
-  within : i ≤ length d
-  all : length part ≡ length d
-  is : part ≡ take i s ++ drop i d
+record Copied (s part : List ℕ) (i : ℕ) : Type 0 where
+  within : i ≤ length s
+  all : length part ≡ length s
+  is : take i part ≡ take i s
 
-turn : (d s part : List ℕ) (i : ℕ) → length s ≡ length d → Copied d s part i → i < length part → Copied d s (set part i (getD s i 0)) (i + 1)
-turn d s part i e o h =
-    let room : 0 + i < length d = omega (arith, o .all) in
-    let more : i < length s = omega (arith, o .all) in
+none : (s part : List ℕ) → length s ≡ length part → Copied s part 0
+none s part e = record { within = omega arith; all = sym e; is = refl }
+
+-- one more column, at j, which leaves k
+one-more : (s part : List ℕ) (i j k : ℕ) → Copied s part i → i < length s → j ≡ i → k ≡ i + 1 → Copied s (set part j (getD s j 0)) k
+one-more s part i j k o h ej ek =
+    let more : i < length part = omega (arith, o .all) in
     record {
-      within = omega (arith, o .all);
+      within = omega arith;
       all = simp length-set (o .all);
-      is = rw (o .is, add-one i) (rw (zero-add i, zero-add (suc i)) at (paste-suc d 0 s i 0 room more));
+      is = rw (ek, ej, add-one i, take-suc-set part i (getD s i 0), take-suc s i 0, o .is);
     }
 
-done : (d s part : List ℕ) (i : ℕ) → length s ≡ length d → Copied d s part i → length part ≤ i → part ≡ s
-done d s part i e o h =
-    let end : i ≡ length d = omega (arith, o .all, o .within) in
-    o .is ∙ rw (end, drop-length d, ← e, take-length s, append-nil)
+four-more : (s part : List ℕ) (i : ℕ) → Copied s part i → 4 ≤ length s - i →
+    Copied s
+    (set (set (set (set part i (getD s i 0)) (i + 1) (getD s (i + 1) 0)) (i + 2) (getD s (i + 2) 0)) (i + 3) (getD s (i + 3) 0))
+    (i + 4)
+four-more s part i o h =
+    let a = one-more s part i i (i + 1) o (omega arith) refl refl in
+    let b = one-more s _ (i + 1) (i + 1) (i + 2) a (omega arith) refl (omega arith) in
+    let c = one-more s _ (i + 2) (i + 2) (i + 3) b (omega arith) refl (omega arith) in
+    one-more s _ (i + 3) (i + 3) (i + 4) c (omega arith) refl (omega arith)
+
+done : (s part : List ℕ) (i : ℕ) → Copied s part i → length s ≤ i → part ≡ s
+done s part i o h = sym (take-all i part (omega (arith, o .all))) ∙ o .is ∙ take-all i s h
+
+abbrev Inv-four : tie.InvT-four
+Inv-four part₀ from n i₀ part i = (n ≡ length from) × Copied from part i
+
+abbrev μ-four : tie.MeasureT-four
+μ-four part₀ from n i₀ part i = length from - i
 
 abbrev Inv-loop : tie.InvT-loop
-Inv-loop part₀ from i₀ part i = Copied part₀ from part i
+Inv-loop part₀ from n i₀ part i = (n ≡ length from) × Copied from part i
 
 abbrev μ-loop : tie.MeasureT-loop
-μ-loop part₀ from i₀ part i = length part₀ - i
+μ-loop part₀ from n i₀ part i = length from - i
 
-loop-holds : tie.Need-loop-holds Inv-loop μ-loop
-loop-holds c = record { within = omega arith; all = refl; is = refl }
+four-holds : tie.Need-four-holds Inv-four μ-four Inv-loop μ-loop
+four-holds c = (sym (c .pre), none _ _ (c .pre))
 
-shared-slice-read-part : tie.Need-shared-slice-read-part Inv-loop μ-loop
-shared-slice-read-part c = omega arith
+sub-four : tie.Need-sub-four Inv-four μ-four Inv-loop μ-loop
+sub-four c = omega arith
 
-slice-write-part : tie.Need-slice-write-part Inv-loop μ-loop
+add-j : tie.Need-add-j Inv-four μ-four Inv-loop μ-loop
+add-j c = omega arith
+
+add-k : tie.Need-add-k Inv-four μ-four Inv-loop μ-loop
+add-k c = omega arith
+
+add-l : tie.Need-add-l Inv-four μ-four Inv-loop μ-loop
+add-l c = omega arith
+
+shared-slice-read-a : tie.Need-shared-slice-read-a Inv-four μ-four Inv-loop μ-loop
+shared-slice-read-a c = omega arith
+
+shared-slice-read-b : tie.Need-shared-slice-read-b Inv-four μ-four Inv-loop μ-loop
+shared-slice-read-b c = omega arith
+
+shared-slice-read-c : tie.Need-shared-slice-read-c Inv-four μ-four Inv-loop μ-loop
+shared-slice-read-c c = omega arith
+
+shared-slice-read-d : tie.Need-shared-slice-read-d Inv-four μ-four Inv-loop μ-loop
+shared-slice-read-d c = omega arith
+
+slice-write-part : tie.Need-slice-write-part Inv-four μ-four Inv-loop μ-loop
 slice-write-part c = omega arith
 
-add-i : tie.Need-add-i Inv-loop μ-loop
+slice-write-part-2 : tie.Need-slice-write-part-2 Inv-four μ-four Inv-loop μ-loop
+slice-write-part-2 c = simp length-set (omega arith)
+
+slice-write-part-3 : tie.Need-slice-write-part-3 Inv-four μ-four Inv-loop μ-loop
+slice-write-part-3 c = simp length-set (omega arith)
+
+slice-write-part-4 : tie.Need-slice-write-part-4 Inv-four μ-four Inv-loop μ-loop
+slice-write-part-4 c = simp length-set (omega arith)
+
+add-i : tie.Need-add-i Inv-four μ-four Inv-loop μ-loop
 add-i c = omega arith
 
-loop-less : tie.Need-loop-less Inv-loop μ-loop
+four-less : tie.Need-four-less Inv-four μ-four Inv-loop μ-loop
+four-less c = omega arith
+
+four-again : tie.Need-four-again Inv-four μ-four Inv-loop μ-loop
+four-again c =
+    let turn = c .before .before .before .before in
+    let at-four = turn .before .four in
+    (at-four .inv .0, four-more _ _ _ (at-four .inv .1) (omega arith))
+
+loop-holds : tie.Need-loop-holds Inv-four μ-four Inv-loop μ-loop
+loop-holds c = c .before .four .inv
+
+shared-slice-read-part : tie.Need-shared-slice-read-part Inv-four μ-four Inv-loop μ-loop
+shared-slice-read-part c = omega arith
+
+slice-write-part-5 : tie.Need-slice-write-part-5 Inv-four μ-four Inv-loop μ-loop
+slice-write-part-5 c = omega arith
+
+add-i-2 : tie.Need-add-i-2 Inv-four μ-four Inv-loop μ-loop
+add-i-2 c = omega arith
+
+loop-less : tie.Need-loop-less Inv-four μ-four Inv-loop μ-loop
 loop-less c = omega arith
 
-loop-again : tie.Need-loop-again Inv-loop μ-loop
+loop-again : tie.Need-loop-again Inv-four μ-four Inv-loop μ-loop
 loop-again c =
-    let at-loop = c .before .before in
-    turn _ _ _ _ (at-loop .before .pre) (at-loop .loop .inv) (c .before .loop-test .taken)
+    let at-loop = c .before .before .loop in
+    (at-loop .inv .0, one-more _ _ _ _ _ (at-loop .inv .1) (omega arith) refl refl)
 
-same-length : tie.Need-same-length Inv-loop μ-loop
-same-length c = c .before .loop .inv .all
+same-length : tie.Need-same-length Inv-four μ-four Inv-loop μ-loop
+same-length c = c .before .loop .inv .1 .all ∙ sym (c .before .loop .inv .0)
 
-returns : tie.Need-returns Inv-loop μ-loop
-returns c = done _ _ _ _ (c .before .before .pre) (c .before .loop .inv) (c .loop-test .left)
+returns : tie.Need-returns Inv-four μ-four Inv-loop μ-loop
+returns c = done _ _ _ (c .before .loop .inv .1) (omega arith)
 
 pub copy-columns-spec : {M : Type 1} → statement M
 copy-columns-spec =
     tie.close
     (tie.spec
+    Inv-four
+    μ-four
     Inv-loop
     μ-loop
+    four-holds
+    sub-four
+    add-j
+    add-k
+    add-l
+    shared-slice-read-a
+    shared-slice-read-b
+    shared-slice-read-c
+    shared-slice-read-d
+    slice-write-part
+    slice-write-part-2
+    slice-write-part-3
+    slice-write-part-4
+    add-i
+    four-less
+    four-again
     loop-holds
     shared-slice-read-part
-    slice-write-part
-    add-i
+    slice-write-part-5
+    add-i-2
     loop-less
     loop-again
     same-length

@@ -1,11 +1,11 @@
--- `columns::read_digits` meets its contract. The loop's invariant: the answer is that of the columns left, added to the digits read.
+-- `columns::read_digits` meets its contract. The loop's invariant: the answer is that of the columns left, behind the digits read.
 -- Assumes nothing.
 use Prim.Native.Nat.{ℕ, suc, _+_, _-_, _*_, _^_, _≤_, _<_}
 use mathlib.Core.Path.{_≡_, refl, _∙_, sym, ap}
 use mathlib.Core.Bool.{true, false}
 use mathlib.Core.Option.{Option, none, some}
 use mathlib.Core.List.{List, [], _∷_}
-use native.Mathlib.Nat.{pow-succ', pow-le-pow-right, mul-le-mul-right, zero-add, lt-of-le-of-lt}
+use native.Mathlib.Nat.{pow-succ', pow-le-pow-right, lt-of-lt-of-le}
 use native.Mathlib.Numerals.{add-one}
 use native.Mathlib.Omega.{arith}
 use lib.Dec.{lit<}
@@ -15,19 +15,18 @@ use borrow.Author.Needs.{needs}
 use borrow.Author.Tests.{le-leb, lt-leb}
 use Rattle.columns.specs.Lists.{pick, every, strict}
 use Rattle.columns.specs.PrintedNumbers.{value, readNumber, asNumber}
-use Rattle.columns.proofs.Strict.{and-false}
-use Rattle.columns.proofs.OnePass.{digit, value-behind, read-zero, read-digits}
+use Rattle.columns.proofs.OnePass.{digit, read-zero, read-digits}
 use Rattle.columns.proofs.read_digits.Statement.{statement}
 use Rattle.columns.proofs.read_digits.Tie as tie
 
--- x with what the digits s add
+-- what the digits s add behind x
 abbrev found : ℕ → List ℕ → Option ℕ
-found x s = pick (every digit s) (some (x + value 0 s)) none
+found x s = pick (every digit s) (some (value x s)) none
 
 -- the first i columns of s are digits, worth x
 record Digits (s : List ℕ) (x i : ℕ) : Type 0 where
   within : i ≤ length s
-  small : x + 10 ^ (length s - i) ≤ 10 ^ length s
+  small : x < 10 ^ i
   is : readNumber s ≡ found x (drop i s)
 
 zero-alone : (s : List ℕ) → getD s 0 0 ≡ 48 → length s ≡ 1 → readNumber s ≡ some 0
@@ -43,8 +42,7 @@ zero-leading (c ∷ d ∷ s) e h n = rw e (read-zero (d ∷ s) (omega arith))
 
 none-read : (s : List ℕ) → 1 ≤ length s → (getD s 0 0 ≡ 32 → ⊥) → (getD s 0 0 ≡ 48 → ⊥) → Digits s 0 0
 none-read [] h b z = absurd (omega arith)
-none-read (c ∷ s) h b z =
-    record { within = omega arith; small = (let e : length (c ∷ s) - 0 ≡ length (c ∷ s) = omega arith in rw e (omega arith)); is = read-digits c s (λ p. b) (λ p. z) ∙ rw (zero-add (value 0 (c ∷ s))) }
+none-read (c ∷ s) h b z = record { within = omega arith; small = lit< tt; is = read-digits c s (λ p. b) (λ p. z) }
 
 -- the next column, c, and those behind it
 module _ (s : List ℕ) (x i c : ℕ) (o : Digits s x i) (h : i < length s) (e : c ≡ getD s i 0) where
@@ -57,43 +55,28 @@ module _ (s : List ℕ) (x i c : ℕ) (o : Digits s x i) (h : i < length s) (e :
   too-high : 57 < c → readNumber s ≡ none
   too-high l = o .is ∙ rw (split, le-leb 48 c (omega arith), lt-leb c 57 l)
 
-  room : 48 ≤ c → c ≤ 57 → x + (c - 48) * 10 ^ (length s - (i + 1)) + 10 ^ (length s - (i + 1)) ≤ 10 ^ length s
-  room l u =
-      let p = 10 ^ (length s - (i + 1)) in
-      let up : length s - i ≡ suc (length s - (i + 1)) = omega arith in
-      let ten : 10 ^ (length s - i) ≡ 10 * p = rw up (pow-succ' 10 (length s - (i + 1))) in
-      let d : c - 48 ≤ 9 = omega arith in
-      omega (arith, mul-le-mul-right p d, o .small)
+  next-small : c ≤ 57 → x * 10 + (c - 48) < 10 ^ (i + 1)
+  next-small u = let ten : 10 ^ (i + 1) ≡ 10 * 10 ^ i = rw (add-one i) (pow-succ' 10 i) in omega (arith, o .small)
 
-  next : 48 ≤ c → c ≤ 57 → Digits s (x + (c - 48) * 10 ^ (length s - (i + 1))) (i + 1)
+  next : 48 ≤ c → c ≤ 57 → Digits s (x * 10 + (c - 48)) (i + 1)
   next l u =
-      let left : length (drop (suc i) s) ≡ length s - (i + 1) = simp length-drop (omega arith) in
-      let zero-front : 0 + (c - 48) ≡ c - 48 = omega arith in
-      let sum : x + value (0 + (c - 48)) (drop (suc i) s) ≡ x + (c - 48) * 10 ^ (length s - (i + 1)) + value 0 (drop (suc i) s) =
-      rw (value-behind (0 + (c - 48)) (drop (suc i) s), left, zero-front) (omega arith) in
-      let more : i + 1 ≡ suc i = add-one i in
       record {
         within = omega arith;
-        small = room l u;
+        small = next-small u;
         is =
             o .is
             ∙ ap (found x) split
-            ∙ rw (le-leb 48 c l, le-leb c 57 u)
-            (ap (λ (y : ℕ). pick (every digit (drop (suc i) s)) (some y) none) sum
-            ∙ ap (λ (k : ℕ). found (x + (c - 48) * 10 ^ (length s - (i + 1))) (drop k s)) (sym more));
+            ∙ rw (le-leb 48 c l, le-leb c 57 u) (ap (λ (k : ℕ). found (x * 10 + (c - 48)) (drop k s)) (sym (add-one i)));
       }
 
-  fits : length s ≤ 10 → 48 ≤ c → c ≤ 57 → x + (c - 48) * 10 ^ (length s - (i + 1)) ≤ 10000000000
-  fits t l u = omega (arith, room l u, pow-le-pow-right {n = 10} (lit< tt) {i = length s} {j = 10} t)
-
-  digit-fits : length s ≤ 10 → 48 ≤ c → c ≤ 57 → (c - 48) * 10 ^ (length s - (i + 1)) ≤ 10000000000
-  digit-fits t l u = omega (arith, fits t l u)
+  -- ten columns fit
+  fits : length s ≤ 10 → c ≤ 57 → x * 10 + (c - 48) < 10000000000
+  fits t u = lt-of-lt-of-le (next-small u) (pow-le-pow-right {n = 10} (lit< tt) {i = i + 1} {j = 10} (omega arith))
 
 all-read : (s : List ℕ) (x i : ℕ) → Digits s x i → length s ≤ i → readNumber s ≡ some x
 all-read s x i o h =
     let e : i ≡ length s = omega (arith, o .within) in
-    let z : x + 0 ≡ x = omega arith in
-    o .is ∙ rw (e, drop-length s, z)
+    o .is ∙ rw (e, drop-length s)
 
 abbrev Inv-loop : tie.InvT-loop
 Inv-loop part n x₀ i₀ x i = Digits part x i
@@ -126,41 +109,28 @@ returns-4 c =
     let turn = c .before .before .before in
     ap asNumber (sym (too-high _ _ _ _ (turn .before .loop .inv) (turn .loop-test .taken) refl (c .if4 .taken)))
 
-add-i : tie.Need-add-i Inv-loop μ-loop
-add-i c = omega arith
-
-cast-x : tie.Need-cast-x Inv-loop μ-loop
-cast-x c = omega (arith, c .before .before .shared-slice-known3 .given (c .before .before .before .before .loop .i))
-
-sub-ten-to : tie.Need-sub-ten-to Inv-loop μ-loop
-sub-ten-to c = omega arith
-
 ten-to-requires : tie.Need-ten-to-requires Inv-loop μ-loop
-ten-to-requires c κs = omega arith
+ten-to-requires c κs = lit< tt
+
+fit : (c : tie.After-ten-to Inv-loop μ-loop) →
+    c .before .before .before .before .before .loop .x * 10 +
+    (getD (c .before .before .before .before .before .before .before .before .before .args .part .now) (c .before .before .before .before .before .loop .i) 0 - 48) <
+    10000000000
+fit c =
+    let turn = c .before .before .before .before in
+    fits _ _ _ _ (turn .before .loop .inv) (turn .loop-test .taken) refl (turn .before .before .before .before .before .pre .1 .0) (c .before .if4 .left)
 
 mul-x : tie.Need-mul-x Inv-loop μ-loop
-mul-x c =
-    let turn = c .before .before .before .before in
-    let sized = turn .before .before .before .before .before .pre .1 .0 in
-    rw (c .ten-to .ensures)
-    (record {
-      fits =
-          lt-of-le-of-lt
-          (digit-fits _ _ _ _ (turn .before .loop .inv) (turn .loop-test .taken) refl sized (c .before .before .if3 .left) (c .before .if4 .left))
-          (lit< tt);
-    })
+mul-x c = rw (c .ten-to .ensures) (omega (arith, fit c))
+
+cast-x : tie.Need-cast-x Inv-loop μ-loop
+cast-x c = omega (arith, fit c)
 
 add-x : tie.Need-add-x Inv-loop μ-loop
-add-x c =
-    let turn = c .before .before .before .before in
-    let sized = turn .before .before .before .before .before .pre .1 .0 in
-    rw (c .ten-to .ensures)
-    (record {
-      fits =
-          lt-of-le-of-lt
-          (fits _ _ _ _ (turn .before .loop .inv) (turn .loop-test .taken) refl sized (c .before .before .if3 .left) (c .before .if4 .left))
-          (lit< tt);
-    })
+add-x c = rw (c .ten-to .ensures) (omega (arith, fit c))
+
+add-i : tie.Need-add-i Inv-loop μ-loop
+add-i c = omega arith
 
 loop-less : tie.Need-loop-less Inv-loop μ-loop
 loop-less c = omega arith
@@ -186,12 +156,11 @@ read-digits-spec =
     shared-slice-read-c
     returns-3
     returns-4
-    add-i
-    cast-x
-    sub-ten-to
     ten-to-requires
     mul-x
+    cast-x
     add-x
+    add-i
     loop-less
     loop-again
     returns-5)

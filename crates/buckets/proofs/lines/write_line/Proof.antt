@@ -1,7 +1,7 @@
 -- `buckets::lines::write_line` meets its contract: the figures and a newline.
 -- Assumes nothing.
 use Prim.Native.Nat.{ℕ}
-use mathlib.Core.Path.{_≡_, refl}
+use mathlib.Core.Path.{_≡_}
 use mathlib.Core.List.{List, _++_}
 use native.Mathlib.Omega.{arith}
 use lib.ListN.{length, drop, set, length-drop}
@@ -9,18 +9,15 @@ use borrow.Author.Needs.{needs}
 use Rattle.columns.proofs.Put.{set-last}
 use Rattle.buckets.specs.declared.Line.{Line}
 use Rattle.buckets.specs.ListLine.{figures, printLine}
+use Rattle.buckets.proofs.ListLines.{length-figures}
 use Rattle.buckets.proofs.lines.write_line.Statement.{statement}
 use Rattle.buckets.proofs.lines.write_line.Tie as tie
-
-wide : (l : Line) → length (figures l) ≡ 26
-unfolding figures
-wide l = refl
 
 ended : (d : List ℕ) (l : Line) {last : List ℕ} → length d ≡ 27 → last ≡ figures l → set (last ++ drop 26 d) 26 10 ≡ printLine l
 unfolding printLine
 ended d l h e =
     let one : length (drop 26 d) ≡ 1 = simp length-drop (omega arith) in
-    rw e (set-last (figures l) (drop 26 d) 26 10 (wide l) one)
+    rw e (set-last (figures l) (drop 26 d) 26 10 (length-figures l) one)
 
 sub-write-figures : tie.Need-sub-write-figures
 sub-write-figures c = search needs

@@ -5,44 +5,21 @@ use mathlib.Core.Path.{_≡_, sym, ap, _∙_}
 use mathlib.Core.Option.{none, some}
 use mathlib.Core.List.{List}
 use native.Mathlib.Omega.{arith}
-use lib.ListN.{length, replicate}
+use lib.ListN.{length}
 use borrow.Author.Needs.{needs}
 use borrow.Author.Tests.{not-true, not-false}
 use Rattle.buckets.specs.declared.Head.{Head}
-use Rattle.buckets.specs.declared.Kind.the-variants.{Index as KindIndex}
-use Rattle.buckets.specs.declared.Reading.{Reading}
 use Rattle.buckets.specs.declared.reader.Pairs.{Pairs}
 use Rattle.buckets.specs.declared.reader.Entries.{Entries}
 use Rattle.buckets.specs.Bucket.{Pair, Entry, columns}
 use Rattle.buckets.specs.Held.{heldIndex, bucketWith, headOf, asReading}
 use Rattle.buckets.specs.Columns.{numberWithin, readPairs, readEntries, readIndex}
-use Rattle.buckets.specs.Read.{heldPairs, heldEntries}
+use Rattle.buckets.specs.Read.{heldPairs, heldEntries, indexReading}
 use Rattle.buckets.proofs.Answers.{number-found, number-none, pairs-found, pairs-none, entries-found, entries-none}
 use Rattle.buckets.proofs.Within.{length-columns, field-only}
 use Rattle.buckets.proofs.BodyItems.{pairs-only, entries-only}
 use Rattle.buckets.proofs.reader.read_index.Statement.{statement}
 use Rattle.buckets.proofs.reader.read_index.Tie as tie
-
--- the answer that holds k pairs p and c entries e
-abbrev reading : Head → ℕ → Pairs → ℕ → Entries → Reading
-reading h k p c e =
-    record {
-      kind = KindIndex;
-      head = h;
-      «follow_on» = 0;
-      index =
-          record {
-            pairs = k;
-            blank = p .blank;
-            «pair_tags» = p .tags;
-            «pair_distances» = p .distances;
-            entries = c;
-            «entry_tags» = e .tags;
-            «entry_distances» = e .distances;
-          };
-      lines = 0;
-      tags = replicate 8 0;
-    }
 
 -- ---- the stages of the definition
 
@@ -77,15 +54,15 @@ module _ (h : Head) (s : List ℕ) where
           -- the whole answer
           answer : (es : List Entry) (p : Pairs) (e : Entries) → length s ≡ 240
               → readEntries cycle c (columns 93 146 s) ≡ some es → p ≡ heldPairs (some ps) → e ≡ heldEntries (some es)
-              → reading h k p c e ≡ asReading (readIndex h s)
-          unfolding readIndex bucketWith headOf heldIndex
+              → indexReading h k p c e ≡ asReading (readIndex h s)
+          unfolding readIndex bucketWith headOf heldIndex indexReading
           answer es p e long entries p-held e-held =
               let few = field-only 0 4 25 2 s (omega arith) pair-count in
               let few-entries = field-only 0 8 27 2 s (omega arith) entry-count in
               let told = pairs-only cycle k (columns 29 64 s) (length-columns 29 64 s (omega arith)) (few .most) pairs in
               let told-entries = entries-only cycle c (columns 93 146 s) (length-columns 93 146 s (omega arith)) (few-entries .most) entries in
               rw (follow, pair-count, entry-count, pairs, entries)
-              (λ i. reading h (sym (told .0) i) (p-held i) (sym (told-entries .0) i) (e-held i))
+              (λ i. indexReading h (sym (told .0) i) (p-held i) (sym (told-entries .0) i) (e-held i))
 
 -- ---- the fields, where they were read
 
@@ -183,14 +160,15 @@ returns-5 c =
 returns-6 : tie.Need-returns-6
 unfolding columns
 returns-6 c =
-    let passed2 = c .before .before .before .before in
+    let passed2 = c .before in
     let read2 = passed2 .before .before in
     let passed = read2 .before .before in
     let read = passed .before .before in
     let three = read .before .before .before in
     let pairs = pairs-found _ _ (read .read-pairs .ensures) (not-false _ (passed .if1 .left)) in
     let entries = entries-found _ _ (read2 .read-entries .ensures) (not-false _ (passed2 .if2 .left)) in
-    answer _ _ _ (follow-read (up2 (up3 three))) _ (pair-count-read (up3 three)) _ (entry-count-read three) (pairs .0) (pairs .1)
+    c .index-reading .ensures
+    ∙ answer _ _ _ (follow-read (up2 (up3 three))) _ (pair-count-read (up3 three)) _ (entry-count-read three) (pairs .0) (pairs .1)
     (entries .0) _ _ (start (up2 (up3 three)) .pre .0) (entries .1) (pairs .2) (entries .2)
 
 pub read-index-spec : {M : Type 1} → statement M
@@ -234,4 +212,5 @@ read-index-spec =
     read-entries-requires
     (λ c κs. search needs)
     returns-5
+    (λ c κs. search needs)
     returns-6)

@@ -138,8 +138,9 @@ abbrev μ-loop : tie.MeasureT-loop
 returns : tie.Need-returns Inv-loop μ-loop
 unfolding readPairs
 returns c =
-    let test = c .before .all-blank .ensures in
-    ap heldPairs (sym (not-blank-behind (readPair _) after 16 _ _ (sym test ∙ not-true _ (c .if1 .taken))))
+    let test = c .before .before .all-blank .ensures in
+    c .no-pairs .ensures
+    ∙ ap heldPairs (sym (not-blank-behind (readPair _) after 16 _ _ (sym test ∙ not-true _ (c .before .if1 .taken))))
 
 loop-holds : tie.Need-loop-holds Inv-loop μ-loop
 unfolding filled
@@ -172,12 +173,13 @@ read-pair-requires c κs =
 
 returns-2 : tie.Need-returns-2 Inv-loop μ-loop
 returns-2 c =
-    let read = c .before .before in
+    let read = c .before .before .before in
     let turn = read .before .before in
-    ap heldPairs
+    c .no-pairs2 .ensures
+    ∙ ap heldPairs
     (sym
     (whole (turn .before)
-    ∙ pair-misprinted _ _ _ _ _ _ _ (turn .before .loop .inv) _ (turn .loop-test .taken) (read .read-pair .ensures) (not-true _ (c .if2 .taken))))
+    ∙ pair-misprinted _ _ _ _ _ _ _ (turn .before .loop .inv) _ (turn .loop-test .taken) (read .read-pair .ensures) (not-true _ (c .before .if2 .taken))))
 
 loop-again : tie.Need-loop-again Inv-loop μ-loop
 loop-again c =
@@ -205,6 +207,7 @@ read-pairs-spec =
     (λ c. omega arith)
     (λ c. omega arith)
     (λ c κs. search needs)
+    (λ c κs. search needs)
     returns
     loop-holds
     (λ c. omega arith)
@@ -213,6 +216,7 @@ read-pairs-spec =
     (λ c. omega arith)
     (λ c. omega arith)
     read-pair-requires
+    (λ c κs. search needs)
     returns-2
     (λ c. omega arith)
     (λ c. omega arith)

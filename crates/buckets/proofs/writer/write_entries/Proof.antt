@@ -9,7 +9,7 @@ use Rattle.columns.specs.Lists.{put, padded}
 use Rattle.columns.specs.PrintedNumbers.{print, blanks}
 use Rattle.columns.proofs.Printed.{length-padded, length-print}
 use Rattle.columns.proofs.Padded.{padded-nil, ready, printed}
-use Rattle.buckets.proofs.Fronts.{entriesTo, length-entries-to, entry-written}
+use Rattle.buckets.proofs.Fronts.{Room, entriesTo, length-entries-to, entry-written}
 use Rattle.buckets.proofs.writer.write_entries.Statement.{statement}
 use Rattle.buckets.proofs.writer.write_entries.Tie as tie
 
@@ -17,12 +17,6 @@ use Rattle.buckets.proofs.writer.write_entries.Tie as tie
 record Front (n count : ℕ) (ts ds part : List ℕ) (i : ℕ) : Type 0 where
   within : i ≤ count
   is : part ≡ padded n (entriesTo ts ds i)
-
--- what is required of the columns and the arrays
-record Room (n count : ℕ) (ts ds : List ℕ) : Type 0 where
-  columns : 16 * count ≤ n
-  tags : count ≤ length ts
-  distances : count ≤ length ds
 
 -- the first i entries and the next one's tag
 abbrev behind-tag : List ℕ → List ℕ → ℕ → List ℕ

@@ -16,15 +16,9 @@ use Rattle.columns.proofs.Put.{to-the-end}
 use Rattle.columns.proofs.Padded.{padded-nil, padded-full, padded-on, padded-rest, padded-behind, back-padded, ready, printed}
 use Rattle.buckets.specs.Bucket.{Entry, printPair}
 use Rattle.buckets.specs.Held.{entriesOf, pairsOf}
-use Rattle.buckets.proofs.Fronts.{entriesTo, entryAt, length-entries-to, entries-first, pairs-printed, pairs-blank}
+use Rattle.buckets.proofs.Fronts.{Room, entriesTo, entryAt, length-entries-to, entries-first, pairs-printed, pairs-blank}
 use Rattle.buckets.proofs.writer.write_pairs.Statement.{statement}
 use Rattle.buckets.proofs.writer.write_pairs.Tie as tie
-
--- what is required of the columns and the arrays
-record Room (n count : ℕ) (ts ds : List ℕ) : Type 0 where
-  columns : 16 * count ≤ n
-  tags : count ≤ length ts
-  distances : count ≤ length ds
 
 -- the pairs, printed
 abbrev pairsTo : Bool → List ℕ → List ℕ → ℕ → List ℕ
