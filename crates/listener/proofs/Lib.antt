@@ -16,3 +16,14 @@ pub mod SegmentStart
 pub mod TuneIn
 pub mod Images
 pub mod Demand3
+pub mod HeldLists
+pub mod HeldBuckets
+pub mod Readings
+pub mod TagsAlone
+pub mod Chosen
+pub mod States
+pub mod StepBounds
+pub mod CopiedLines
+pub mod Runs
+pub mod WritingRuns
+pub mod Lookups

@@ -4,3 +4,5 @@ pub mod Hearing
 pub mod Lookup
 pub mod Demand3
 pub mod SampleYard
+pub mod OnReading
+pub mod OnRun

@@ -1,0 +1,146 @@
+-- `listener::Listener::index_step` meets its contract: the three distances one after the other.
+-- Assumes nothing.
+use mathlib.Core.Path.{_≡_, sym, _∙_, ap}
+use borrow.Author.Needs.{needs}
+use borrow.Author.Tests.{eq-eqb, ne-eqb}
+use native.Mathlib.Omega.{arith}
+use lib.ListN.{drop}
+use Rattle.buckets.specs.declared.Head.{Head}
+use Rattle.buckets.specs.declared.Index.{Index}
+use Rattle.buckets.specs.Held.{indexOf, bucketWith}
+use Rattle.listener.specs.Listener.{decided, bodyChoice, misses}
+use Rattle.listener.specs.OnReading.{pairsHeld, entriesHeld, near, chosen, below, reached, firstChosen, SoundIndex}
+use Rattle.listener.specs.declared.Phase.the-variants
+use Rattle.listener.specs.declared.Listener.{Listener}
+use Rattle.listener.proofs.Chosen.{dozesUnless0, chosen-near, first-near, index-chosen}
+use Rattle.listener.proofs.HeldLists.{every-drop}
+use Rattle.listener.proofs.Listener.index_step.Statement.{statement}
+use Rattle.listener.proofs.Listener.index_step.Tie as tie
+
+-- the step by its three distances
+by-three :
+    (s : Listener) (h : Head) (x : Index) → SoundIndex x →
+    decided s (bucketWith h (indexOf x)) (bodyChoice (s .tag) (indexOf x)) ≡
+    decided s (bucketWith h (indexOf x))
+    (dozesUnless0 (firstChosen (s .tag) (x .blank) (pairsHeld x)) the-variants.Index
+    (dozesUnless0 (chosen (below (s .tag)) (drop 1 (pairsHeld x))) the-variants.Index
+    (dozesUnless0 (chosen (reached (s .tag)) (entriesHeld x)) the-variants.Either misses)))
+unfolding indexOf pairsHeld entriesHeld
+by-three s h x k =
+    ap
+    (decided s (bucketWith h (indexOf x)))
+    (index-chosen (s .tag) (entriesHeld x) (x .blank) (pairsHeld x) (k .pairsNear) (k .entriesNear))
+
+doze-by-requires : tie.Need-doze-by-requires
+doze-by-requires c κs =
+    let s = c .before .before in (
+      s .pre .0,
+      (
+        s .pre .1 .0,
+        omega (
+          arith,
+          c .before .first-pair .ensures,
+          first-near (s .args .self .tag) (s .args .x .blank) (pairsHeld (s .args .x)) (s .pre .1 .1 .pairsNear),
+        ),
+      ),
+    )
+
+doze-by-requires-2 : tie.Need-doze-by-requires-2
+doze-by-requires-2 c κs =
+    let s = c .before .before .before .before in (
+      s .pre .0,
+      (
+        s .pre .1 .0,
+        omega (
+          arith,
+          c .before .pair-below .ensures,
+          chosen-near (below (s .args .self .tag)) (drop 1 (pairsHeld (s .args .x)))
+              (every-drop near 1 (pairsHeld (s .args .x)) (s .pre .1 .1 .pairsNear)),
+        ),
+      ),
+    )
+
+doze-by-requires-3 : tie.Need-doze-by-requires-3
+doze-by-requires-3 c κs =
+    let s = c .before .before .before .before .before .before in (
+      s .pre .0,
+      (
+        s .pre .1 .0,
+        omega (
+          arith,
+          c .before .entry-from .ensures,
+          chosen-near (reached (s .args .self .tag)) (entriesHeld (s .args .x)) (s .pre .1 .1 .entriesNear),
+        ),
+      ),
+    )
+
+returns : tie.Need-returns
+unfolding dozesUnless0
+returns c =
+    let s = c .before .before .before in
+    c .doze-by .ensures (indexOf (s .args .x)) ∙
+    sym
+    (by-three (s .args .self) (s .args .h) (s .args .x) (s .pre .1 .1) ∙
+    rw (← c .before .before .first-pair .ensures, ne-eqb _ 0 (c .before .if1 .taken)))
+
+returns-2 : tie.Need-returns-2
+unfolding dozesUnless0
+returns-2 c =
+    let s = c .before .before .before .before .before in
+    c .doze-by2 .ensures (indexOf (s .args .x)) ∙
+    sym
+    (by-three (s .args .self) (s .args .h) (s .args .x) (s .pre .1 .1) ∙
+    rw (
+      ← c .before .before .before .before .first-pair .ensures,
+      eq-eqb _ 0 (c .before .before .before .if1 .left),
+      ← c .before .before .pair-below .ensures,
+      ne-eqb _ 0 (c .before .if2 .taken),
+    ))
+
+returns-3 : tie.Need-returns-3
+unfolding dozesUnless0
+returns-3 c =
+    let s = c .before .before .before .before .before .before .before in
+    c .doze-by3 .ensures (indexOf (s .args .x)) ∙
+    sym
+    (by-three (s .args .self) (s .args .h) (s .args .x) (s .pre .1 .1) ∙
+    rw (
+      ← c .before .before .before .before .before .before .first-pair .ensures,
+      eq-eqb _ 0 (c .before .before .before .before .before .if1 .left),
+      ← c .before .before .before .before .pair-below .ensures,
+      eq-eqb _ 0 (c .before .before .before .if2 .left),
+      ← c .before .before .entry-from .ensures,
+      ne-eqb _ 0 (c .before .if3 .taken),
+    ))
+
+returns-4 : tie.Need-returns-4
+unfolding dozesUnless0
+returns-4 c =
+    let s = c .before .before .before .before .before .before .before in
+    c .end-by .ensures ∙
+    sym
+    (by-three (s .args .self) (s .args .h) (s .args .x) (s .pre .1 .1) ∙
+    rw (
+      ← c .before .before .before .before .before .before .first-pair .ensures,
+      eq-eqb _ 0 (c .before .before .before .before .before .if1 .left),
+      ← c .before .before .before .before .pair-below .ensures,
+      eq-eqb _ 0 (c .before .before .before .if2 .left),
+      ← c .before .before .entry-from .ensures,
+      eq-eqb _ 0 (c .before .if3 .left),
+    ))
+
+pub index-step-spec : {M : Type 1} → statement M
+index-step-spec =
+    tie.close
+    (tie.spec
+    (λ c κs. search needs)
+    doze-by-requires
+    returns
+    (λ c κs. search needs)
+    doze-by-requires-2
+    returns-2
+    (λ c κs. search needs)
+    doze-by-requires-3
+    returns-3
+    (λ c κs. search needs)
+    returns-4)

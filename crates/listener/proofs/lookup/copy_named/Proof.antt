@@ -1,0 +1,35 @@
+-- `listener::lookup::copy_named` meets its contract: the part that is lent is bucket x.
+-- Assumes nothing.
+use mathlib.Core.Path.{_∙_, ap}
+use Prim.Native.Nat.{_+_, _*_}
+use borrow.Author.Needs.{needs}
+use lib.ListN.{drop}
+use Rattle.columns.specs.Lists.{put}
+use Rattle.listener.specs.OnRun.{endedLines}
+use Rattle.listener.proofs.CopiedLines.{bucket-lent}
+use Rattle.listener.proofs.lookup.copy_named.Statement.{statement}
+use Rattle.listener.proofs.lookup.copy_named.Tie as tie
+
+returns : tie.Need-returns
+returns c =
+    let s = c .before .before .before .before .before .before .before in
+    c .before .before .copy-lines .ensures ∙
+    ap
+    (λ p. put (s .args .out .now) (27 * s .args .lines) (endedLines (s .args .count) (drop (29 + 26 * s .args .first) p)))
+    (bucket-lent (s .args .image .now) (s .args .x))
+
+pub copy-named-spec : {M : Type 1} → statement M
+copy-named-spec =
+    tie.close
+    (tie.spec
+    (λ c. search needs)
+    (λ c. search needs)
+    (λ c. search needs)
+    (λ c. search needs)
+    (λ c. search needs)
+    (λ c. search needs)
+    (λ c. search needs)
+    (λ c. search needs)
+    (λ c κs. search needs)
+    (λ c. search needs)
+    returns)

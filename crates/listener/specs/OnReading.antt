@@ -1,0 +1,84 @@
+-- What a listener takes from a bucket as the code holds one. These definitions serve the contracts of private functions
+-- alone; the public ones cite Listener and Lookup.
+-- Assumes nothing.
+use Prim.Native.Nat.{ℕ, _+_, _≤_}
+use mathlib.Core.Path.{_≡_}
+use mathlib.Core.Bool.{Bool, true, _&&_}
+use mathlib.Core.List.{List, [], _∷_, map}
+use lib.Dec.{leb, ltb}
+use lib.ListN.{length, take}
+use Rattle.columns.specs.Lists.{pick, every}
+use Rattle.buckets.specs.declared.Line.{Line}
+use Rattle.buckets.specs.declared.Head.{Head}
+use Rattle.buckets.specs.declared.Index.{Index}
+use Rattle.buckets.specs.declared.Reading.{Reading}
+use Rattle.buckets.specs.Bucket.{Entry, readBucket}
+use Rattle.buckets.specs.Held.{entriesOf, asReading}
+use Rattle.listener.specs.declared.Listener.{Listener}
+
+-- ---- index buckets
+
+-- the control pairs, and the entries
+unfoldable pub pairsHeld : Index → List Entry
+pairsHeld x = take (x .pairs) (entriesOf (x .«pair_tags») (x .«pair_distances»))
+
+unfoldable pub entriesHeld : Index → List Entry
+entriesHeld x = take (x .entries) (entriesOf (x .«entry_tags») (x .«entry_distances»))
+
+-- the distance of the first entry that passes f, 0 if none does
+abbrev pub chosen : (Entry → Bool) → List Entry → ℕ
+chosen f [] = 0
+chosen f (e ∷ es) = pick (f e) (e .distance) (chosen f es)
+
+-- an entry's tag is below ours; it is at least ours
+abbrev pub below : ℕ → Entry → Bool
+below tag e = ltb (e .tag) tag
+
+abbrev pub reached : ℕ → Entry → Bool
+reached tag e = leb tag (e .tag)
+
+-- the distance of the first control pair if it is to be followed, else 0
+abbrev pub firstChosen : ℕ → Bool → List Entry → ℕ
+firstChosen tag blank [] = 0
+firstChosen tag blank (e ∷ es) = pick blank 0 (pick (reached tag e) (e .distance) 0)
+
+-- ---- data buckets
+
+-- a line of which the tag alone is known
+unfoldable pub tagged : ℕ → Line
+tagged t = record { tag = t; tare = 0; code = 0; weighing = 0 }
+
+-- the first c lines, by their tags
+unfoldable pub taggedLines : ℕ → List ℕ → List Line
+taggedLines c ts = map tagged (take c ts)
+
+-- ---- what a well printed bucket keeps, and a state that fits
+
+unfoldable pub near : Entry → Bool
+near e = leb 1 (e .distance) && leb (e .distance) 99999
+
+pub record SoundHead (h : Head) : Type 0 where
+  pub ahead : 1 ≤ h .«to_cycle»
+  pub short : h .position + h .«to_cycle» ≤ 99999
+  pub segmentNear : h .«to_segment» ≤ 99999
+
+pub record SoundIndex (x : Index) : Type 0 where
+  pub pairTags : length (x .«pair_tags») ≡ 4
+  pub pairDistances : length (x .«pair_distances») ≡ 4
+  pub entryTags : length (x .«entry_tags») ≡ 8
+  pub entryDistances : length (x .«entry_distances») ≡ 8
+  pub fewPairs : x .pairs ≤ 4
+  pub fewEntries : x .entries ≤ 8
+  pub pairsNear : every near (pairsHeld x) ≡ true
+  pub entriesNear : every near (entriesHeld x) ≡ true
+
+-- the outcome of a strict reading of some bytes
+pub record WasRead (r : Reading) : Type 0 where
+  pub bytes : List ℕ
+  pub is : r ≡ asReading (readBucket bytes)
+
+pub record Counts (s : Listener) : Type 0 where
+  pub heard : s .heard ≤ 4294967295
+  pub elapsed : s .elapsed ≤ 4294967295
+  pub doze : s .doze ≤ 4294967295
+  pub tuned : s .tuned ≤ 4294967295

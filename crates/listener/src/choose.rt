@@ -1,0 +1,93 @@
+// What a listener chooses from a bucket: distances of control pairs and entries, and lines.
+use buckets::Index;
+ghost use mathlib.Core.Path.{_≡_};
+ghost use Prim.Native.Nat.{_≤_};
+ghost use lib.ListN.{drop, length};
+ghost use Rattle.listener.specs.Listener.{before, matching};
+ghost use Rattle.listener.specs.OnReading.{SoundIndex, chosen, below, reached, firstChosen, pairsHeld, entriesHeld, taggedLines};
+
+// The distance of the first control pair if its tag is printed and ours is at most it, else 0.
+pub fn first_pair(tag: u64, x: Index) -> u64
+    requires { ⌜ SoundIndex x ⌝ }
+    ensures { λ r. ⌜ r ≡ firstChosen tag (x .blank) (pairsHeld x) ⌝ }
+{
+    if x.pairs == 0 {
+        return 0;
+    }
+    if x.blank {
+        return 0;
+    }
+    if x.pair_tags[0] < tag {
+        return 0;
+    }
+    x.pair_distances[0]
+}
+
+// The distance of the first later control pair whose tag is below ours, 0 if there is none.
+pub fn pair_below(tag: u64, x: Index) -> u64
+    requires { ⌜ SoundIndex x ⌝ }
+    ensures { λ r. ⌜ r ≡ chosen (below tag) (drop 1 (pairsHeld x)) ⌝ }
+{
+    let count = x.pairs;
+    let mut i = 1;
+    let distance = loop {
+        if count <= i {
+            break 0;
+        }
+        if x.pair_tags[i] < tag {
+            break x.pair_distances[i];
+        }
+        i += 1;
+    };
+    distance
+}
+
+// The distance of the first entry whose tag is at least ours, 0 if there is none.
+pub fn entry_from(tag: u64, x: Index) -> u64
+    requires { ⌜ SoundIndex x ⌝ }
+    ensures { λ r. ⌜ r ≡ chosen (reached tag) (entriesHeld x) ⌝ }
+{
+    let count = x.entries;
+    let mut i = 0;
+    let distance = loop {
+        if count <= i {
+            break 0;
+        }
+        if tag <= x.entry_tags[i] {
+            break x.entry_distances[i];
+        }
+        i += 1;
+    };
+    distance
+}
+
+// How many of the first count lines come before the first one of our tag.
+pub fn lines_before(tag: u64, count: usize, tags: [u64; 8]) -> u64
+    requires { ⌜ count ≤ 8 ⌝ }
+    ensures { λ r. ⌜ r ≡ before tag (taggedLines count tags) ⌝ }
+{
+    let mut i = 0;
+    while i < count {
+        if tags[i] == tag {
+            return i as u64;
+        }
+        i += 1;
+    }
+    i as u64
+}
+
+// How many of the first count lines are of our tag.
+pub fn lines_matching(tag: u64, count: usize, tags: [u64; 8]) -> u64
+    requires { ⌜ count ≤ 8 ⌝ }
+    ensures { λ r. ⌜ r ≡ length (matching tag (taggedLines count tags)) ⌝ }
+{
+    let mut found = 0;
+    let mut i = 0;
+    while i < count {
+        if tags[i] == tag {
+            found += 1;
+        }
+        i += 1;
+    }
+    found
+}

@@ -1,0 +1,343 @@
+// A listener's start and its step: document 01, "The listener".
+use super::Answer;
+use super::Listener;
+use super::Phase;
+use super::Stepped;
+use super::choose;
+use buckets::Head;
+use buckets::Index;
+use buckets::Kind;
+use buckets::Reading;
+use buckets::reader;
+ghost use mathlib.Core.Path.{_≡_};
+ghost use mathlib.Core.Bool.{_&&_};
+ghost use mathlib.Core.List.{List};
+ghost use Prim.Native.Nat.{ℕ, _+_, _≤_};
+ghost use lib.Dec.{eqb};
+ghost use Rattle.buckets.specs.Bucket.{Body, Bucket, dataBody, readBucket};
+ghost use Rattle.buckets.specs.Held.{bucketWith, indexOf, asReading};
+ghost use Rattle.listener.specs.Listener.{start, isEnded, isIndex, countsFit, ended, stepped, refused, refusedEnded, heardWith};
+ghost use Rattle.listener.specs.Listener.{elapsedWith, tunedWith, awaited, dozes, decided, bodyChoice, dataChoice, take, takeRead, step};
+ghost use Rattle.listener.specs.OnReading.{Counts, SoundHead, SoundIndex, WasRead, taggedLines};
+
+// The largest number that a listener's counts keep to.
+const LARGEST: u64 = 4294967295;
+
+// Whether nothing is awaited any more.
+fn is_ended(phase: Phase) -> bool
+    ensures { λ r. ⌜ r ≡ isEnded phase ⌝ }
+{
+    match phase {
+        Phase::TuneIn => false,
+        Phase::Index => false,
+        Phase::Either => false,
+        Phase::Data => false,
+        Phase::Ended => true,
+    }
+}
+
+impl Listener {
+    // A bucket's bytes; where the lines of a data bucket start, and the columns of each; a list line's bytes.
+    pub const BUCKET: usize = 240;
+
+    pub const LINES: usize = 29;
+
+    pub const FIGURES: usize = 26;
+
+    pub const LINE: usize = 27;
+
+    // A listener that waits for its tune-in bucket.
+    pub fn new(tag: u64) -> Listener
+        ensures { λ r. ⌜ r ≡ start tag ⌝ }
+    {
+        Listener {
+            tag: tag,
+            phase: Phase::TuneIn,
+            due: 0,
+            cycle: 0,
+            tuned: 0,
+            doze: 1,
+            heard: 0,
+            elapsed: 0,
+        }
+    }
+
+    // The buckets taken.
+    pub fn heard(self) -> u64
+        ensures { λ r. ⌜ r ≡ self .heard ⌝ }
+    {
+        self.heard
+    }
+
+    // The buckets gone by from tune-in to the last one taken, both in.
+    pub fn elapsed(self) -> u64
+        ensures { λ r. ⌜ r ≡ self .elapsed ⌝ }
+    {
+        self.elapsed
+    }
+
+    // Whether the state's counts keep to their limit.
+    fn counts_fit(self) -> bool
+        ensures { λ r. ⌜ r ≡ countsFit self ⌝ }
+    {
+        if LARGEST < self.heard {
+            return false;
+        }
+        if LARGEST < self.elapsed {
+            return false;
+        }
+        if LARGEST < self.doze {
+            return false;
+        }
+        self.tuned <= LARGEST
+    }
+
+    // The ended listener with these counts.
+    fn ended(self, heard: u64, elapsed: u64) -> Listener
+        ensures { λ r. ⌜ r ≡ ended self heard elapsed ⌝ }
+    {
+        Listener {
+            tag: self.tag,
+            phase: Phase::Ended,
+            due: self.due,
+            cycle: self.cycle,
+            tuned: self.tuned,
+            doze: self.doze,
+            heard: heard,
+            elapsed: elapsed,
+        }
+    }
+
+    // The refusal by 8, 9 or 10: the bucket is not counted.
+    fn refused(self, number: u64) -> Stepped
+        ensures { λ r. ⌜ r ≡ refused self number ⌝ }
+    {
+        let listener = self.ended(self.heard, self.elapsed);
+        Stepped {
+            listener: listener,
+            answer: Answer::Refused(number),
+            first: 0,
+            count: 0,
+        }
+    }
+
+    // Found or absent, at the bucket at hand.
+    fn end_by(self, answer: Answer, first: u64, count: u64) -> Stepped
+        requires { ⌜ Counts self ⌝ }
+        ensures { λ r. ⌜ r ≡ stepped (ended self (heardWith self) (elapsedWith self)) answer first count ⌝ }
+    {
+        let listener = self.ended(self.heard + 1, self.elapsed + self.doze);
+        Stepped {
+            listener: listener,
+            answer: answer,
+            first: first,
+            count: count,
+        }
+    }
+
+    // The position of the tune-in bucket, which may be the one at hand.
+    fn tuned_with(self, position: u64) -> u64
+        ensures { λ r. ⌜ ((b : Bucket) → b .position ≡ position → r ≡ tunedWith (self .phase) self b) ⌝ }
+    {
+        let phase = self.phase;
+        match phase {
+            Phase::TuneIn => position,
+            Phase::Index => self.tuned,
+            Phase::Either => self.tuned,
+            Phase::Data => self.tuned,
+            Phase::Ended => self.tuned,
+        }
+    }
+
+    // Doze by d, awaiting a bucket of the kind named, unless that lies past the cycle after tune-in's.
+    fn doze_by(self, h: Head, d: u64, awaits: Phase, first: u64, count: u64) -> Stepped
+        requires { ⌜ Counts self ⌝ }
+        requires { ⌜ SoundHead h ⌝ }
+        requires { ⌜ d ≤ 99999 ⌝ }
+        ensures { λ r. ⌜ ((body : Body) → r ≡ decided self (bucketWith h body) (dozes d awaits first count)) ⌝ }
+    {
+        let n = h.position + h.to_cycle;
+        let elapsed = self.elapsed + self.doze;
+        let tuned = self.tuned_with(h.position);
+        if 2 * n < tuned + (elapsed + d) {
+            return self.refused(10);
+        }
+        let listener = Listener {
+            tag: self.tag,
+            phase: awaits,
+            due: (h.position + d) % n,
+            cycle: n,
+            tuned: tuned,
+            doze: d,
+            heard: self.heard + 1,
+            elapsed: elapsed,
+        };
+        Stepped {
+            listener: listener,
+            answer: Answer::Doze(d),
+            first: first,
+            count: count,
+        }
+    }
+
+    // Whether position and N are those awaited.
+    fn due_at(self, h: Head) -> bool
+        requires { ⌜ SoundHead h ⌝ }
+        ensures { λ r. ⌜ r ≡ (eqb (h .position) (self .due) && eqb (h .position + h .«to_cycle») (self .cycle)) ⌝ }
+    {
+        if h.position != self.due {
+            return false;
+        }
+        h.position + h.to_cycle == self.cycle
+    }
+
+    // Whether a bucket with this head, of index or data, is as awaited.
+    fn awaits(self, index: bool, h: Head) -> bool
+        requires { ⌜ SoundHead h ⌝ }
+        ensures { λ r. ⌜ ((body : Body) → isIndex body ≡ index → r ≡ awaited self (bucketWith h body)) ⌝ }
+    {
+        let phase = self.phase;
+        match phase {
+            Phase::TuneIn => true,
+            Phase::Index => if index { self.due_at(h) } else { false },
+            Phase::Either => self.due_at(h),
+            Phase::Data => if index { false } else { self.due_at(h) },
+            Phase::Ended => false,
+        }
+    }
+
+    // An index bucket: the first pair, else a later pair, else an entry, else absent.
+    fn index_step(self, h: Head, x: Index) -> Stepped
+        requires { ⌜ Counts self ⌝ }
+        requires { ⌜ SoundHead h ⌝ }
+        requires { ⌜ SoundIndex x ⌝ }
+        ensures { λ r. ⌜ r ≡ decided self (bucketWith h (indexOf x)) (bodyChoice (self .tag) (indexOf x)) ⌝ }
+    {
+        let first = choose::first_pair(self.tag, x);
+        if first != 0 {
+            return self.doze_by(h, first, Phase::Index, 0, 0);
+        }
+        let later = choose::pair_below(self.tag, x);
+        if later != 0 {
+            return self.doze_by(h, later, Phase::Index, 0, 0);
+        }
+        let entry = choose::entry_from(self.tag, x);
+        if entry != 0 {
+            return self.doze_by(h, entry, Phase::Either, 0, 0);
+        }
+        self.end_by(Answer::Absent, 0, 0)
+    }
+
+    // A data bucket: the lines of our tag, and whether the next data bucket may have more.
+    fn data_step(self, h: Head, follow_on: u64, count: usize, tags: [u64; 8]) -> Stepped
+        requires { ⌜ Counts self ⌝ }
+        requires { ⌜ SoundHead h ⌝ }
+        requires { ⌜ («follow_on» ≤ 99999) × (count ≤ 8) ⌝ }
+        ensures { λ r.
+            ⌜ r ≡
+            decided self (bucketWith h (dataBody «follow_on» (taggedLines count tags)))
+            (dataChoice (self .tag) «follow_on» (taggedLines count tags)) ⌝ }
+    {
+        let matching = choose::lines_matching(self.tag, count, tags);
+        if matching == 0 {
+            return self.end_by(Answer::Absent, 0, 0);
+        }
+        let first = choose::lines_before(self.tag, count, tags);
+        let last = count - 1;
+        if tags[last] != self.tag {
+            return self.end_by(Answer::Found, first, matching);
+        }
+        if follow_on == 0 {
+            return self.end_by(Answer::Found, first, matching);
+        }
+        self.doze_by(h, follow_on, Phase::Data, first, matching)
+    }
+
+    // An index bucket that was read: 9, the tune-in, or its choice.
+    fn take_index(self, h: Head, x: Index) -> Stepped
+        requires { ⌜ Counts self ⌝ }
+        requires { ⌜ SoundHead h ⌝ }
+        requires { ⌜ SoundIndex x ⌝ }
+        ensures { λ r. ⌜ r ≡ take self (bucketWith h (indexOf x)) ⌝ }
+    {
+        if !self.awaits(true, h) {
+            return self.refused(9);
+        }
+        let phase = self.phase;
+        match phase {
+            Phase::TuneIn => self.doze_by(h, h.to_segment, Phase::Index, 0, 0),
+            Phase::Index => self.index_step(h, x),
+            Phase::Either => self.index_step(h, x),
+            Phase::Data => self.index_step(h, x),
+            Phase::Ended => self.end_by(Answer::Absent, 0, 0),
+        }
+    }
+
+    // A data bucket that was read: 9, the tune-in, or its choice.
+    fn take_data(self, h: Head, follow_on: u64, count: usize, tags: [u64; 8]) -> Stepped
+        requires { ⌜ Counts self ⌝ }
+        requires { ⌜ SoundHead h ⌝ }
+        requires { ⌜ («follow_on» ≤ 99999) × (count ≤ 8) ⌝ }
+        ensures { λ r. ⌜ r ≡ take self (bucketWith h (dataBody «follow_on» (taggedLines count tags))) ⌝ }
+    {
+        if !self.awaits(false, h) {
+            return self.refused(9);
+        }
+        let phase = self.phase;
+        match phase {
+            Phase::TuneIn => self.doze_by(h, h.to_segment, Phase::Index, 0, 0),
+            Phase::Index => self.data_step(h, follow_on, count, tags),
+            Phase::Either => self.data_step(h, follow_on, count, tags),
+            Phase::Data => self.data_step(h, follow_on, count, tags),
+            Phase::Ended => self.end_by(Answer::Absent, 0, 0),
+        }
+    }
+
+    // What was read: 8, or the bucket of its kind.
+    fn take_reading(self, r: Reading) -> Stepped
+        requires { ⌜ Counts self ⌝ }
+        requires { ⌜ WasRead r ⌝ }
+        ensures { λ s. ⌜ ((bytes : List ℕ) → r ≡ asReading (readBucket bytes) → s ≡ takeRead self (readBucket bytes)) ⌝ }
+    {
+        let kind = r.kind;
+        let head = r.head;
+        match kind {
+            Kind::Index => {
+                let index = r.index;
+                self.take_index(head, index)
+            }
+            Kind::Data => {
+                let tags = r.tags;
+                self.take_data(head, r.follow_on, r.lines, tags)
+            }
+            Kind::Misprinted => self.refused(8),
+        }
+    }
+
+    // The refusal by 14, which changes nothing.
+    fn refused_ended(self) -> Stepped
+        ensures { λ r. ⌜ r ≡ refusedEnded self ⌝ }
+    {
+        Stepped {
+            listener: self,
+            answer: Answer::Refused(14),
+            first: 0,
+            count: 0,
+        }
+    }
+
+    // The answer to one bucket, and the next listener.
+    pub fn step(self, bucket: &[u8]) -> Stepped
+        ensures { λ r. ⌜ r ≡ step self (now (bucket .entry)) ⌝ }
+    {
+        let phase = self.phase;
+        if is_ended(phase) {
+            return self.refused_ended();
+        }
+        if !self.counts_fit() {
+            return self.refused_ended();
+        }
+        let reading = reader::read_bucket(bucket);
+        self.take_reading(reading)
+    }
+}
