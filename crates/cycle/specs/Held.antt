@@ -7,18 +7,18 @@ use Prim.Native.Nat.{ℕ, zero, suc, _+_, _-_, _*_, _/_, _%_, _^_, _≤_, _<_, m
 use mathlib.Core.Bool.{Bool, true, false}
 use mathlib.Core.Option.{Option, none, some}
 use mathlib.Core.List.{List, [], _∷_, _++_, map}
-use lib.Dec.{eqb}
+use lib.Dec.{eqb, ltb}
 use lib.ListN.{length, take, drop, getD}
-use Rattle.columns.specs.Lists.{pick, joined, range, up}
+use Rattle.columns.specs.Lists.{pick, joined, range, up, put}
 use Rattle.columns.specs.PrintedNumbers.{value}
 use Rattle.buckets.specs.declared.Line.{Line}
 use Rattle.buckets.specs.declared.Index.{Index}
 use Rattle.buckets.specs.ListLine.{spelled, cutLines, listLines, misprintFrom, fallFrom}
-use Rattle.buckets.specs.Bucket.{Body, indexBody, dataBody, Bucket}
+use Rattle.buckets.specs.Bucket.{Pair, Body, indexBody, dataBody, Bucket}
 use Rattle.buckets.specs.Held.{heldIndex}
-use Rattle.cycle.specs.Tree.{Plan, levels, width, lastTag}
+use Rattle.cycle.specs.Tree.{Plan, levels, width, children, above, lastTag, largestTag}
 use Rattle.cycle.specs.Layouts.{Slot, slot, subtree, sent, path, pathTop, distributedSegment, wholeSegment, slots}
-use Rattle.cycle.specs.Cycle.{occurs, distanceTo, toNextSegment, lastSent, buckets, cycleSize, image}
+use Rattle.cycle.specs.Cycle.{occurs, distanceTo, toNextSegment, firstPair, lastSent, buckets, cycleSize, image}
 use Rattle.cycle.specs.Building.{copiesFit}
 use Rattle.cycle.specs.declared.Figures.{Figures}
 use Rattle.cycle.specs.declared.Segment.{Segment}
@@ -89,6 +89,10 @@ pub record Ready (f : Figures) : Type 0 where
 unfoldable pub firstPlace : Plan → ℕ → ℕ → ℕ
 firstPlace t i j = distanceTo (occurs i j) (slots t) - 1
 
+-- the distance from position x to a place of a cycle of this size: of this one if it is ahead, else of the coming one
+unfoldable pub aheadOf : ℕ → ℕ → ℕ → ℕ
+aheadOf size x place = pick (ltb x place) (place - x) (size + place - x)
+
 -- a bucket as sent, apart from whether a segment starts with it
 unfoldable pub bare : Slot → Slot
 bare x = slot (x .level) (x .place)
@@ -149,6 +153,9 @@ pub record Placed (t : Plan) (s : Segment) : Type 0 where
   pub next-starts : (x : ℕ) → s .start ≤ x → x < s .end → toNextSegment (drop (suc x) (slots t) ++ slots t) ≡ s .end - x
   -- the data buckets sent before the segment are those up to `first`
   pub sent-before : (x : ℕ) → s .start ≤ x → x < s .«data_at» → lastSentBefore t x ≡ lastOf t (s .first)
+  pub number-in : s .number < segmentCount t
+  pub first-in : s .first < max 1 (t .d)
+  pub last-in : s .last ≤ t .d
 
 -- ---- lines
 
@@ -176,6 +183,11 @@ pub record Sending (f : Figures) (list : List ℕ) : Type 0 where
   pub printed : misprintFrom 0 (cutLines list) ≡ none
   pub rising : fallFrom 0 0 (listLines list) ≡ none
 
+-- a line's place, or the number of lines where there is none
+abbrev pub placeOr : ℕ → Option ℕ → ℕ
+placeOr lines none = lines
+placeOr lines (some i) = i
+
 -- the text is long enough to hold them
 abbrev pub TextFits : Figures → Source → ℕ → Type 0
 TextFits f InList c = c ≡ 27 * f .lines
@@ -197,3 +209,83 @@ asIndex (dataBody f ls) = heldIndex [] []
 -- the image's bytes from bucket x on, c buckets
 unfoldable pub imagePart : Plan → ℕ → ℕ → List ℕ
 imagePart t x c = take (240 * c) (drop (240 * x) (image t))
+
+-- ---- what stands in an index bucket, as the code works it out
+
+-- bucket j of height e: the largest tags below its children
+unfoldable pub childTags : Plan → ℕ → ℕ → List ℕ
+childTags t e j = map (largestTag t (suc (t .k + 1 - e))) (children t (t .k + 1 - e) j)
+
+-- the distances from position x to its children's first places, in a cycle of this size
+unfoldable pub farDistances : Plan → ℕ → ℕ → ℕ → ℕ → List ℕ
+farDistances t size x e j =
+    map (λ c. aheadOf size x (firstPlace t (suc (t .k + 1 - e)) c)) (children t (t .k + 1 - e) j)
+
+-- the distances to its children where their subtrees follow it
+unfoldable pub nearDistances : Plan → ℕ → ℕ → List ℕ
+nearDistances t e j =
+    map (λ c. 1 + length (joined (treeAt t (e - 1)) (range (j * t .n) c))) (children t (t .k + 1 - e) j)
+
+-- the control pairs of a bucket of height e in a segment's tree: the root of layout 2 has one
+unfoldable pub treePairs : Plan → ℕ → Option ℕ → ℕ → List Pair
+treePairs t e last toCycle = pick (eqb (t .layout) 2) (pick (eqb e (t .k)) (firstPair last toCycle ∷ []) []) []
+
+-- the distance that pair j of a path bucket at x reaches, over bucket `place` of level j: right before the next bucket under
+-- the same parent, or the parent in the coming cycle where there is none
+unfoldable pub pairReach : Plan → ℕ → ℕ → ℕ → ℕ → ℕ
+pairReach t size x j place =
+    pick (eqb ((place + 1) % t .n) 0) (size + firstPlace t (j - 1) (place / t .n) - x)
+    (pick (ltb (place + 1) (width t j)) (firstPlace t j (place + 1) - 1 - x)
+    (size + firstPlace t (j - 1) (place / t .n) - x))
+
+-- the bucket of level i above bucket b of level r + 1
+unfoldable pub placeOver : Plan → ℕ → ℕ → ℕ
+placeOver t b i = above (t .n) (t .copies + 1 - i) b
+
+-- the tags and the distances of the pairs of the path bucket of level i before b, at x
+unfoldable pub pairTags : Plan → ℕ → ℕ → ℕ → List ℕ
+pairTags t b i first = first ∷ map (λ j. largestTag t j (placeOver t b j)) (range 2 (i + 1))
+
+unfoldable pub pairDistances : Plan → ℕ → ℕ → ℕ → ℕ → List ℕ
+pairDistances t size x b i = (size - x) ∷ map (λ j. pairReach t size x j (placeOver t b j)) (range 2 (i + 1))
+
+-- the path bucket of level i before bucket b of level r + 1 stands at x
+pub record OnPath (t : Plan) (b i x : ℕ) : Type 0 where
+  pub distributed : t .layout ≡ 1
+  pub top : pathTop (t .n) (t .copies) b ≤ i
+  pub high : i ≤ t .copies
+  pub inside : b < segmentCount t
+  pub here : x ≡ length (joined (distributedSegment t) (range 0 b)) + (i - pathTop (t .n) (t .copies) b)
+
+-- an index bucket with these entries
+unfoldable pub entered : Index → ℕ → List ℕ → List ℕ → Index
+entered x count tags distances =
+    record {
+      pairs = x .pairs;
+      blank = x .blank;
+      «pair_tags» = x .«pair_tags»;
+      «pair_distances» = x .«pair_distances»;
+      entries = count;
+      «entry_tags» = tags;
+      «entry_distances» = distances;
+    }
+
+-- the bytes d with the cycle's buckets from x up to but without y written over them, each at its place
+unfoldable pub written : Plan → List ℕ → ℕ → ℕ → List ℕ
+written t d x y = put d (240 * x) (imagePart t x (y - x))
+
+-- ---- what the functions that write a segment are given
+
+-- a list that can be sent, a buffer of `room` bytes that holds its image, and one of its segments
+pub record Writing (f : Figures) (list : List ℕ) (s : Segment) (room : ℕ) : Type 0 where
+  pub sending : Sending f list
+  pub roomy : 240 * f .size ≤ room
+  pub placed : (ls : List Line) → Placed (planOf f ls) s
+
+-- the subtree of bucket j of height e stands at x, in the segment's tree
+pub record TreePlace (f : Figures) (s : Segment) (e j x : ℕ) : Type 0 where
+  pub low : 1 ≤ e
+  pub inside : InTree f e j
+  pub behind-path : s .«tree_at» ≤ x
+  pub before-data : x + length (treeAt (planOf f []) e j) ≤ s .«data_at»
+  pub stands : Stand (planOf f []) x (treeAt (planOf f []) e j)

@@ -1,0 +1,134 @@
+-- The children of a bucket that the figures of a cycle have, and how long a subtree can be.
+-- Assumes nothing.
+use mathlib.Core.Path.{_≡_, refl, sym, ap, ap₂, subst, _∙_}
+use Prim.Native.Nat.{ℕ, zero, suc, _+_, _-_, _*_, _^_, _≤_, _<_, min, max}
+use native.Mathlib.Nat.{mul-comm, mul-le-mul}
+use native.Mathlib.Omega.{arith}
+use mathlib.Core.List.{List, [], _∷_, _++_, append-nil}
+use mathlib.Core.Bool.{Bool, true, false}
+use lib.ListN.{length, length-append}
+use Rattle.columns.specs.Lists.{joined, span, range, up, pick}
+use Rattle.cycle.specs.Tree.{Plan, width, children}
+use Rattle.cycle.specs.Layouts.{Slot, slot, subtree, slots}
+use Rattle.cycle.specs.Cycle.{occurs, distanceTo, cycleSize}
+use Rattle.cycle.specs.declared.Figures.{Figures}
+use Rattle.cycle.specs.Held.{planOf, fullSize, Shaped, InTree, Ready, treeAt, firstPlace}
+use Rattle.cycle.proofs.Ranges.{length-range, span-append, joined-append}
+use Rattle.cycle.proofs.TreeLaws.{width-up, width-lt, length-children}
+use Rattle.cycle.proofs.Readiness.{Reached, reached}
+
+-- ---- N, and places in it
+
+pub size-slots : (f : Figures) → Ready f → f .size ≡ length (slots (planOf f []))
+unfolding cycleSize
+size-slots f ready = ready .size-is
+
+pub distance-all : (g : Slot → Bool) (xs : List Slot) → distanceTo g xs ≤ length xs
+distance-all g [] = omega arith
+distance-all g (x ∷ xs) = by-test (g x) (distance-all g xs)
+  where
+    by-test : (b : Bool) → distanceTo g xs ≤ length xs → pick b 1 (suc (distanceTo g xs)) ≤ suc (length xs)
+    by-test true h = omega arith
+    by-test false h = omega arith
+
+pub first-high : (t : Plan) (i j : ℕ) → firstPlace t i j ≤ length (slots t)
+unfolding firstPlace
+first-high t i j = omega (arith, distance-all (occurs i j) (slots t))
+
+-- ---- how long a subtree can be
+
+pub length-joined : {A : Type 0} (g : ℕ → List A) (m a c : ℕ) → ((x : ℕ) → length (g x) ≤ m) → length (joined g (span a c)) ≤ c * m
+length-joined g m a zero h = omega arith
+length-joined g m a (suc c) h =
+    let e : length (g a ++ joined g (span (suc a) c)) ≡ length (g a) + length (joined g (span (suc a) c)) =
+    length-append (g a) (joined g (span (suc a) c)) in
+    omega (arith, h a, length-joined g m (suc a) c h)
+
+pub subtree-small : (t : Plan) (h i j : ℕ) → length (subtree t h i j) ≤ fullSize (t .n) h
+unfolding children
+subtree-small t zero i j = omega arith
+subtree-small t (suc h) i j =
+    let c : ℕ = min (j * t .n + t .n) (width t (suc i)) - j * t .n in
+    let few : length (joined (λ x. subtree t h (suc i) x) (span (j * t .n) c)) ≤ c * fullSize (t .n) h =
+    length-joined (λ x. subtree t h (suc i) x) (fullSize (t .n) h) (j * t .n) c (λ x. subtree-small t h (suc i) x) in
+    let all : c * fullSize (t .n) h ≤ t .n * fullSize (t .n) h = mul-le-mul {n₂ = t .n} {m₂ = fullSize (t .n) h} (omega arith) (omega arith) in
+    let turned : t .n * fullSize (t .n) h ≡ fullSize (t .n) h * t .n = mul-comm (t .n) (fullSize (t .n) h) in
+    omega arith
+
+-- ---- the distance to a child behind its earlier siblings
+
+abbrev pub nearFrom : Plan → ℕ → ℕ → ℕ → ℕ
+nearFrom t h a c = 1 + length (joined (treeAt t h) (range a c))
+
+pub near-here : (t : Plan) (h a i : ℕ) → 1 + length (joined (treeAt t h) (span a i)) ≡ nearFrom t h a (a + i)
+near-here t h a i =
+    let e : i ≡ (a + i) - a = omega arith in ap (λ c. 1 + length (joined (treeAt t h) (span a c))) e
+
+pub near-next :
+    (t : Plan) (h a i : ℕ) →
+    1 + length (joined (treeAt t h) (span a i)) + length (treeAt t h (a + i)) ≡ 1 + length (joined (treeAt t h) (span a (i + 1)))
+near-next t h a i =
+    let row : joined (treeAt t h) (span a (i + 1)) ≡ joined (treeAt t h) (span a i) ++ (treeAt t h (a + i) ++ []) =
+    ap (joined (treeAt t h)) (span-append a i 1) ∙ joined-append (treeAt t h) (span a i) (span (a + i) 1) in
+    let e₁ : length (joined (treeAt t h) (span a (i + 1))) ≡ length (joined (treeAt t h) (span a i)) + length (treeAt t h (a + i) ++ []) =
+    ap length row ∙ length-append (joined (treeAt t h) (span a i)) (treeAt t h (a + i) ++ []) in
+    let e₂ : length (treeAt t h (a + i) ++ []) ≡ length (treeAt t h (a + i)) = ap length (append-nil (treeAt t h (a + i))) in
+    omega arith
+
+-- ---- children
+
+module _ (f : Figures) (ready : Ready f) (e j : ℕ) (low : 1 ≤ e) (inside : InTree f e j) where
+  abbrev pub childLevel : ℕ
+  childLevel = suc (f .k + 1 - e)
+
+  pub bucket : Reached f e j
+  bucket = reached f e j (ready .shaped) inside
+
+  pub pos : 0 < f .n
+  pos = omega (arith, ready .shaped .n-low)
+
+  pub high : e ≤ f .k
+  unfolding InTree
+  high = inside .0
+
+  pub below : f .k + 1 - childLevel ≡ e - 1
+  below = omega (arith, high)
+
+  pub child-width : width (planOf f []) childLevel ≡ up (f .d) (f .n ^ (e - 1))
+  unfolding planOf
+  child-width = width-up (planOf f []) pos childLevel ∙ ap (λ h. up (f .d) (f .n ^ h)) below
+
+  pub children-count :
+      length (children (planOf f []) (f .k + 1 - e) j) ≡ min (j * f .n + f .n) (up (f .d) (f .n ^ (e - 1))) - j * f .n
+  unfolding planOf
+  children-count =
+      length-children (planOf f []) pos (f .k + 1 - e) j ∙ ap (λ w. min (j * f .n + f .n) w - j * f .n) child-width
+
+  pub children-row : children (planOf f []) (f .k + 1 - e) j ≡ span (j * f .n) (length (children (planOf f []) (f .k + 1 - e) j))
+  unfolding children planOf
+  children-row =
+      ap (span (j * f .n)) (sym (length-range (j * f .n) (min (j * f .n + f .n) (width (planOf f []) childLevel))))
+
+  pub tree-small : (h x : ℕ) → h ≤ e → length (treeAt (planOf f []) h x) ≤ 320000
+  unfolding treeAt planOf
+  tree-small h x u = omega (arith, subtree-small (planOf f []) h (f .k + 1 - h) x, bucket .full-small h u)
+
+  pub first-small : j * f .n ≤ 320000
+  first-small =
+      let h : j * f .n ≤ 40000 * 8 = mul-le-mul {n₂ = 40000} {m₂ = 8} (bucket .place) (ready .shaped .n-high) in omega arith
+
+  module _ (i : ℕ) (among : i < length (children (planOf f []) (f .k + 1 - e) j)) where
+    pub few : i < 8
+    few = omega (arith, children-count, ready .shaped .n-high)
+
+    pub within : j * f .n + i < width (planOf f []) childLevel
+    within = omega (arith, children-count, child-width)
+
+    pub under-data : (j * f .n + i) * f .n ^ (e - 1) < f .d
+    unfolding planOf
+    under-data =
+        subst (λ h. (j * f .n + i) * f .n ^ h < f .d) below (width-lt (planOf f []) pos childLevel (j * f .n + i) within)
+
+    pub child-inside : InTree f (e - 1) (j * f .n + i)
+    unfolding InTree
+    child-inside = (omega (arith, high), omega (arith, under-data))

@@ -1,0 +1,107 @@
+-- Layout 1, under the figures of a cycle: the buckets above one of B's level, by the table of powers.
+-- Assumes nothing.
+use mathlib.Core.Path.{_≡_, refl, sym, ap, ap₂, subst, _∙_}
+use mathlib.Core.Logic.{⊎-elim}
+use Prim.Native.Nat.{ℕ, zero, suc, _+_, _-_, _*_, _/_, _^_, _≤_, _<_, max}
+use native.Mathlib.Nat.{zero-mul, pow-succ', mul-assoc, mul-le-mul-right, div-mul-le-self, one-le-pow, eq-zero-or-pos}
+use native.Mathlib.Omega.{arith}
+use mathlib.Core.List.{List, []}
+use lib.ListN.{length, getD}
+use lib.Pow.{pow-add}
+use borrow.Author.Tests.{eq-eqb}
+use Rattle.columns.specs.Lists.{up, joined, span, range}
+use Rattle.buckets.specs.declared.Line.{Line}
+use Rattle.cycle.specs.Tree.{Plan, width, above}
+use Rattle.cycle.specs.Layouts.{pathTop, distributedSegment}
+use Rattle.cycle.specs.declared.Figures.{Figures}
+use Rattle.cycle.specs.Held.{planOf, Ready, InTree, segmentCount, placeOver, OnPath}
+use Rattle.cycle.proofs.TreeLaws.{above-div, above-le, width-up, width-lt}
+use Rattle.cycle.proofs.Blocks.{blockLevel, blockCount}
+use Rattle.cycle.proofs.Occurrences.{placeOn}
+use Rattle.cycle.proofs.Readiness.{path-facts, levels-are}
+
+-- ---- a path bucket's place
+
+pub count-segments : (t : Plan) → t .layout ≡ 1 → segmentCount t ≡ blockCount t
+unfolding segmentCount
+count-segments t one = rw (eq-eqb (t .layout) 1 one)
+
+pub path-here : {t : Plan} {b i x : ℕ} → OnPath t b i x → x ≡ placeOn t b i
+path-here {t} {b} {i} {x} p =
+    let e : b - 0 ≡ b = omega arith in
+    p .here ∙ ap (λ c. length (joined (distributedSegment t) (span 0 c)) + (i - pathTop (t .n) (t .copies) b)) e
+
+pub path-inside : {t : Plan} {b i x : ℕ} → OnPath t b i x → b < blockCount t
+path-inside {t} {b} p = subst (λ c. b < c) (count-segments t (p .distributed)) (p .inside)
+
+-- ---- under figures
+
+module _ (f : Figures) (ready : Ready f) (one : f .layout ≡ 1) where
+  pub pos : 0 < f .n
+  pos = omega (arith, ready .shaped .n-low)
+
+  pub few-copies : (f .copies ≤ 4) × (f .copies + 1 ≤ f .k) × (f .k ≤ 16)
+  unfolding planOf
+  few-copies =
+      let h = path-facts (planOf f []) (ready .copies-fit) one in
+      let l = levels-are f (ready .shaped) in
+      (h .0, omega (arith, h .1, l .low), l .high)
+
+  module _ (level : ℕ) (low : 1 ≤ level) (high : level ≤ f .copies + 1) where
+    pub power : getD (f .powers) (f .copies + 1 - level) 0 ≡ f .n ^ (f .copies + 1 - level)
+    power = ready .shaped .powers-are (f .copies + 1 - level) (omega (arith, few-copies .0))
+
+    pub power-some : 0 < getD (f .powers) (f .copies + 1 - level) 0
+    power-some = rw power (one-le-pow (f .copies + 1 - level) (f .n) pos)
+
+    pub place-over : (ls : List Line) (b : ℕ) → b / getD (f .powers) (f .copies + 1 - level) 0 ≡ placeOver (planOf f ls) b level
+    unfolding placeOver planOf
+    place-over ls b = ap (λ z. b / z) power ∙ sym (above-div (f .n) (f .copies + 1 - level) b)
+
+    pub over-inside : (ls : List Line) (b : ℕ) → InTree f (f .k - f .copies) b → InTree f (f .k + 1 - level) (placeOver (planOf f ls) b level)
+    unfolding InTree placeOver planOf
+    over-inside ls b inside =
+        let h : ℕ = f .copies + 1 - level in
+        let e : ℕ = f .k - f .copies in
+        let q : ℕ = above (f .n) h b in
+        let l : q * f .n ^ h ≤ b = above-le (f .n) h pos q b (omega arith) in
+        let l′ : q * f .n ^ h * f .n ^ e ≤ b * f .n ^ e = mul-le-mul-right (f .n ^ e) l in
+        let height : f .k + 1 - level ≡ h + e = omega (arith, few-copies .1) in
+        let whole : q * f .n ^ (f .k + 1 - level) ≡ q * f .n ^ h * f .n ^ e =
+        ap (λ y. q * f .n ^ y) height ∙ ap (λ y. q * y) (pow-add (f .n) h e) ∙ sym (mul-assoc q (f .n ^ h) (f .n ^ e)) in
+        (omega arith, omega (arith, inside .1))
+
+    pub level-width : width (planOf f []) level ≡ up (f .d) (f .n ^ (f .k + 1 - level))
+    unfolding planOf
+    level-width = width-up (planOf f []) pos level
+
+    pub width-inside : (c : ℕ) → c < width (planOf f []) level → InTree f (f .k + 1 - level) c
+    unfolding InTree planOf
+    width-inside c h = (omega arith, omega (arith, width-lt (planOf f []) pos level c h))
+
+  pub parent-inside :
+      (level c : ℕ) → 2 ≤ level → level ≤ f .copies + 1 → InTree f (f .k + 1 - level) c → InTree f (f .k + 1 - (level - 1)) (c / f .n)
+  unfolding InTree
+  parent-inside level c low high inside =
+      let e : ℕ = f .k + 1 - level in
+      let height : f .k + 1 - (level - 1) ≡ suc e = omega (arith, few-copies .1) in
+      let q : ℕ = c / f .n in
+      let l : q * f .n * f .n ^ e ≤ c * f .n ^ e = mul-le-mul-right (f .n ^ e) (div-mul-le-self c (f .n)) in
+      let whole : q * f .n ^ (f .k + 1 - (level - 1)) ≡ q * f .n * f .n ^ e =
+      ap (λ y. q * f .n ^ y) height ∙ ap (λ y. q * y) (pow-succ' (f .n) e) ∙ sym (mul-assoc q (f .n) (f .n ^ e)) in
+      (omega (arith, few-copies .1), omega (arith, inside .1))
+
+  -- a B is in the tree
+  pub block-inside : (b : ℕ) → b < blockCount (planOf f []) → InTree f (f .k - f .copies) b
+  unfolding InTree planOf
+  block-inside b h =
+      let e : f .k + 1 - (f .copies + 1) ≡ f .k - f .copies = omega arith in
+      ⊎-elim
+      (λ (z : b ≡ 0).
+      let none : b * f .n ^ (f .k - f .copies) ≡ 0 = ap (λ y. y * f .n ^ (f .k - f .copies)) z ∙ zero-mul (f .n ^ (f .k - f .copies)) in
+      (omega arith, omega arith))
+      (λ (p : 0 < b).
+      let l : b * f .n ^ (f .k + 1 - (f .copies + 1)) < f .d = width-lt (planOf f []) pos (f .copies + 1) b (omega arith) in
+      let l′ : b * f .n ^ (f .k - f .copies) < f .d = rw e at l in
+      (omega arith, omega arith))
+      (eq-zero-or-pos b)

@@ -1,0 +1,198 @@
+-- Figures within their ranges, and of a cycle that can be sent: what follows of the plan that they stand for.
+-- Assumes nothing.
+use mathlib.Core.Path.{_≡_, refl, sym, _∙_}
+use mathlib.Core.Logic.{⊎-elim}
+use mathlib.Core.Bool.{Bool, true, false, _&&_, false≢true}
+use mathlib.Core.List.{List, []}
+use Prim.Native.Nat.{ℕ, _+_, _-_, _*_, _^_, _≤_, _<_, min, max}
+use native.Mathlib.Nat.{zero-mul, mul-le-mul, mul-le-mul-left, suc-mul, one-le-pow}
+use native.Mathlib.Numerals.{add-one}
+use native.Mathlib.Omega.{arith}
+use lib.Dec.{leb, ltb}
+use lib.ListN.{length, getD}
+use borrow.Author.Tests.{leb-true, le-leb, lt-leb, lt-ltb, le-ltb, eq-eqb, ne-eqb}
+use Rattle.columns.specs.Lists.{up}
+use Rattle.buckets.specs.declared.Line.{Line}
+use Rattle.cycle.specs.Tree.{Plan, levels}
+use Rattle.cycle.specs.Building.{copiesFit}
+use Rattle.cycle.specs.declared.Figures.{Figures}
+use Rattle.cycle.specs.Held.{planOf, fullSize, Shaped, InTree, treeAt}
+use Rattle.cycle.proofs.Ranges.{le-or-lt}
+use Rattle.cycle.proofs.TreeLaws.{up-least}
+use Rattle.cycle.proofs.Powers.{Levels, least-found, levels-fit, power-below}
+use Rattle.cycle.proofs.Fulls.{full-below}
+use Rattle.cycle.proofs.TreeSizes.{tree-small}
+use Rattle.cycle.proofs.Sequence.{Sound}
+
+-- ---- tests on numbers
+
+-- two tests on numbers that pass for the same numbers
+pub same-ltb-leb : (a b x y : ℕ) → (a < b → x ≤ y) → (b ≤ a → y < x) → ltb a b ≡ leb x y
+same-ltb-leb a b x y f g =
+    ⊎-elim
+    (λ (h : b ≤ a). le-ltb a b h ∙ sym (lt-leb x y (g h)))
+    (λ (h : a < b). lt-ltb a b h ∙ sym (le-leb x y (f h)))
+    (le-or-lt b a)
+
+pub both-true : (a b : Bool) → (a && b) ≡ true → (a ≡ true) × (b ≡ true)
+both-true true true e = (refl, refl)
+both-true true false e = (refl, e)
+both-true false b e = (e, absurd (false≢true e))
+
+-- ---- copies
+
+module _ (t : Plan) where
+  pub copies-distributed : t .layout ≡ 1 → copiesFit t ≡ leb (t .copies) (min 4 (t .k - 1))
+  unfolding copiesFit
+  copies-distributed one = rw (eq-eqb (t .layout) 1 one)
+
+  pub copies-whole : (t .layout ≡ 1 → ⊥) → copiesFit t ≡ leb 1 (t .copies) && leb (t .copies) (max 1 (t .d))
+  unfolding copiesFit
+  copies-whole other = rw (ne-eqb (t .layout) 1 other)
+
+  pub path-facts : copiesFit t ≡ true → t .layout ≡ 1 → (t .copies ≤ 4) × (t .copies ≤ t .k - 1)
+  path-facts fit one =
+      let h = leb-true (t .copies) (min 4 (t .k - 1)) (sym (copies-distributed one) ∙ fit) in (omega arith, omega arith)
+
+  pub parts-facts : copiesFit t ≡ true → (t .layout ≡ 1 → ⊥) → (1 ≤ t .copies) × (t .copies ≤ max 1 (t .d))
+  parts-facts fit other =
+      let h = both-true (leb 1 (t .copies)) (leb (t .copies) (max 1 (t .d))) (sym (copies-whole other) ∙ fit) in
+      (leb-true 1 (t .copies) (h .0), leb-true (t .copies) (max 1 (t .d)) (h .1))
+
+-- ---- figures
+
+pub few-data : (lines p : ℕ) → 1 ≤ p → lines ≤ 40000 → up lines p ≤ 40000
+few-data lines p low h =
+    let m : 40000 * 1 ≤ 40000 * p = mul-le-mul {n₁ = 40000} {n₂ = 40000} (omega arith) low in
+    up-least lines p 40000 low (omega arith)
+
+pub data-high : (f : Figures) → Shaped f → f .d ≤ 40000
+data-high f s = rw (s .d-is) (few-data (f .lines) (f .p) (s .p-low) (s .lines-high))
+
+pub levels-are : (f : Figures) → Shaped f → Levels (f .n) (f .d) (f .k)
+levels-are f s = rw (s .k-is) (levels-fit (f .n) (f .d) (s .n-low) (s .n-high) (data-high f s))
+
+pub sound : (f : Figures) (ls : List Line) → Shaped f → copiesFit (planOf f []) ≡ true → Sound (planOf f ls)
+unfolding planOf
+sound f ls s fit =
+    let l = levels-are f s in
+    record {
+      grows = s .n-low;
+      full = s .p-low;
+      levelled = l .low;
+      holds = l .holds;
+      path-fits = λ one. let h = path-facts (planOf f []) fit one in omega (arith, l .low);
+      parts-some = λ other. parts-facts (planOf f []) fit other .0;
+      parts-fit = λ other. parts-facts (planOf f []) fit other .1;
+    }
+
+-- ---- places in the tree
+
+-- bucket j of height e, and the tables' entries up to it
+pub record Reached (f : Figures) (e j : ℕ) : Type 0 where
+  pub height : e ≤ 16
+  pub few : f .d ≤ 40000
+  pub place : j ≤ 40000
+  pub start : j * f .n ^ e ≤ 40000
+  pub end : (j + 1) * f .n ^ e ≤ 360000
+  pub power : (h : ℕ) → h ≤ e → getD (f .powers) h 0 ≡ f .n ^ h
+  pub some : (h : ℕ) → h ≤ e → 1 ≤ f .n ^ h
+  pub small : (h : ℕ) → h ≤ e → f .n ^ h ≤ 320000
+  pub full : (h : ℕ) → h ≤ e → getD (f .fulls) h 0 ≡ fullSize (f .n) h
+  pub full-small : (h : ℕ) → h ≤ e → fullSize (f .n) h ≤ 320000
+
+pub reached : (f : Figures) (e j : ℕ) → Shaped f → InTree f e j → Reached f e j
+unfolding InTree
+reached f e j s inside =
+    let l = levels-are f s in
+    let few = data-high f s in
+    let small : (h : ℕ) → h ≤ e → f .n ^ h ≤ 320000 =
+    λ h u. let p = power-below (f .n) h (f .k) (s .n-low) (omega (arith, inside .0)) in omega (arith, l .small) in
+    record {
+      height = omega (arith, l .high, inside .0);
+      few = few;
+      place =
+          (let low : j * 1 ≤ j * f .n ^ e = mul-le-mul-left j (one-le-pow e (f .n) (omega (arith, s .n-low))) in
+          omega (arith, inside .1));
+      start = omega (arith, inside .1);
+      end = rw (add-one j, suc-mul) (omega (arith, inside .1, small e (omega arith)));
+      power = λ h u. s .powers-are h (omega (arith, l .high, inside .0));
+      some = λ h u. one-le-pow h (f .n) (omega (arith, s .n-low));
+      small = small;
+      full = λ h u. s .fulls-are h (omega (arith, l .high, inside .0));
+      full-small = λ h u. let b = full-below (f .n) h (s .n-low) in omega (arith, small h u);
+    }
+
+-- the empty list has one level
+pub one-level : (f : Figures) → Shaped f → f .d ≡ 0 → f .k ≡ 1
+unfolding levels
+one-level f s none = s .k-is ∙ least-found 16 1 (λ k. leb (f .d) (f .n ^ k)) (le-leb (f .d) (f .n ^ 1) (omega arith))
+
+-- ---- layout 1's blocks
+
+-- what figures of layout 1 say of the height of B
+pub record Block (f : Figures) : Type 0 where
+  pub pos : 0 < f .n
+  pub few : f .copies ≤ 4
+  pub fits : f .copies + 1 ≤ f .k
+  pub high : f .k ≤ 16
+  pub some : f .d ≤ 40000
+  pub power : getD (f .powers) (f .k - f .copies) 0 ≡ f .n ^ (f .k - f .copies)
+  pub power-low : 1 ≤ f .n ^ (f .k - f .copies)
+  pub power-high : f .n ^ (f .k - f .copies) ≤ 320000
+  pub full : getD (f .fulls) (f .k - f .copies) 0 ≡ fullSize (f .n) (f .k - f .copies)
+  pub full-high : fullSize (f .n) (f .k - f .copies) ≤ 320000
+
+pub block : (f : Figures) → Shaped f → f .layout ≡ 1 → copiesFit (planOf f []) ≡ true → Block f
+unfolding planOf
+block f s one fit =
+    let e : ℕ = f .k - f .copies in
+    let l = levels-are f s in
+    let c = path-facts (planOf f []) fit one in
+    let p = power-below (f .n) e (f .k) (s .n-low) (omega arith) in
+    let b = full-below (f .n) e (s .n-low) in
+    record {
+      pos = omega (arith, s .n-low);
+      few = c .0;
+      fits = omega (arith, l .low, c .1);
+      high = l .high;
+      some = data-high f s;
+      power = s .powers-are e (omega (arith, l .high));
+      power-low = one-le-pow e (f .n) (omega (arith, s .n-low));
+      power-high = omega (arith, l .small);
+      full = s .fulls-are e (omega (arith, l .high));
+      full-high = omega (arith, l .small);
+    }
+
+-- ---- layout 2's parts
+
+pub root-in : (f : Figures) → InTree f (f .k) 0
+unfolding InTree
+root-in f = (omega arith, rw (zero-mul (f .n ^ f .k)) (omega arith))
+
+-- what figures of layout 2 say
+pub record Parts (f : Figures) : Type 0 where
+  pub pos : 0 < f .n
+  pub low : 1 ≤ f .k
+  pub parted : 1 ≤ f .copies
+  pub few : f .copies ≤ 40000
+  pub some : f .d ≤ 40000
+  pub tree : length (treeAt (planOf f []) (f .k) 0) ≤ 320000
+
+pub parts : (f : Figures) → Shaped f → (f .layout ≡ 1 → ⊥) → copiesFit (planOf f []) ≡ true → Parts f
+unfolding planOf
+parts f s other fit =
+    let l = levels-are f s in
+    let c = parts-facts (planOf f []) fit other in
+    let pos : 0 < f .n = omega (arith, s .n-low) in
+    let small = tree-small (planOf f []) pos (f .k) 0 (omega arith) in
+    let few = data-high f s in
+    let b = full-below (f .n) (f .k) (s .n-low) in
+    record {
+      pos = pos;
+      low = l .low;
+      parted = c .0;
+      few = omega (arith, c .1);
+      some = few;
+      tree = omega (arith, l .small);
+    }

@@ -1,0 +1,138 @@
+-- A list that can be sent: its plan, the size of its image, each of its buckets, and the text of some of its lines.
+-- Assumes nothing.
+use mathlib.Core.Path.{_≡_, refl, sym, ap, _∙_, subst}
+use Prim.Native.Nat.{ℕ, zero, suc, _+_, _-_, _*_, _/_, _%_, _≤_, _<_}
+use native.Mathlib.Nat.{mul-comm, mul-mod-left, mul-div-cancel}
+use native.Mathlib.Omega.{arith}
+use mathlib.Core.Bool.{true}
+use mathlib.Core.List.{List, [], _∷_, _++_, map}
+use lib.Dec.{lit<}
+use lib.ListN.{length, take, drop, length-drop, length-map}
+use lib.Seq.{take-take, ext-getD}
+use Rattle.columns.specs.Lists.{joined, every, range}
+use Rattle.columns.specs.PrintedNumbers.{value}
+use Rattle.columns.proofs.Joined.{map-at, drop-joined, take-joined}
+use Rattle.buckets.specs.declared.Line.{Line}
+use Rattle.buckets.specs.ListLine.{fits, printLine, spelled, listLines}
+use Rattle.buckets.specs.Bucket.{good, printBucket}
+use Rattle.buckets.specs.declared.Head.{Head}
+use Rattle.buckets.specs.Held.{headOf}
+use Rattle.buckets.proofs.ListLines.{length-printLine}
+use Rattle.buckets.proofs.Lists.{line-at, print-of-list}
+use Rattle.cycle.specs.Layouts.{Slot, slots}
+use Rattle.cycle.specs.Cycle.{cycleSize, image, toNextSegment}
+use Rattle.cycle.specs.declared.Figures.{Figures}
+use Rattle.cycle.specs.declared.Source.the-variants.{List as InList}
+use Rattle.cycle.specs.Held.{planOf, Sending, linesHeld, planIn, cycleBucket, imagePart}
+use Rattle.cycle.proofs.Ranges.{length-range, getD-range}
+use Rattle.cycle.proofs.Shapes.{slots-shape}
+use Rattle.cycle.proofs.Accepted.{Accepted}
+use Rattle.cycle.proofs.Sendable.{sending-lines, sending-accepted}
+use Rattle.cycle.proofs.Positions.{at-position, head-at}
+use Rattle.cycle.proofs.BuiltGood.{built-good}
+use Rattle.cycle.proofs.BuiltImage.{length-image, image-bucket}
+
+-- ---- the lines as they stand in the list
+
+part-of-front : (j w m : ℕ) (s : List ℕ) → j + w ≤ m → take w (drop j (take m s)) ≡ take w (drop j s)
+part-of-front zero w m s h = take-take w m s (omega arith)
+part-of-front (suc j) w zero s h = absurd (omega arith)
+part-of-front (suc j) w (suc m) [] h = refl
+part-of-front (suc j) w (suc m) (x ∷ s) h = part-of-front j w m s (omega arith)
+
+pub spelled-front : (s : List ℕ) → spelled (take 27 s) ≡ spelled s
+unfolding spelled
+spelled-front s =
+    λ i. record {
+      tag = value 0 (part-of-front 0 10 27 s (omega arith) i);
+      tare = value 0 (part-of-front 10 6 27 s (omega arith) i);
+      code = value 0 (part-of-front 16 4 27 s (omega arith) i);
+      weighing = value 0 (part-of-front 20 6 27 s (omega arith) i);
+    }
+
+pub size-shape : (f : Figures) (ls ms : List Line) → cycleSize (planOf f ls) ≡ cycleSize (planOf f ms)
+unfolding cycleSize
+size-shape f ls ms = ap length (slots-shape f ls ms)
+
+-- a head does not look at the lines
+pub head-shape :
+    (f : Figures) (ls ms : List Line) (x : ℕ) → x < cycleSize (planOf f ls) →
+    headOf (cycleBucket (planOf f ls) x) ≡ headOf (cycleBucket (planOf f ms) x)
+unfolding cycleSize
+head-shape f ls ms x h =
+    let same : slots (planOf f ls) ≡ slots (planOf f ms) = slots-shape f ls ms in
+    let there : x < length (slots (planOf f ms)) = rw same at h in
+    let shown : List Slot → Head =
+    λ xs. record { position = x; «to_cycle» = length xs - x; «to_segment» = toNextSegment (drop (suc x) xs ++ xs) } in
+    head-at (at-position (planOf f ls) x h .1) ∙ ap shown same ∙ sym (head-at (at-position (planOf f ms) x there .1))
+
+module _ (f : Figures) (list : List ℕ) (s : Sending f list) where
+  count : length list / 27 ≡ f .lines
+  count = rw (s .whole, mul-comm 27 (f .lines)) (mul-div-cancel (f .lines) (lit< tt))
+
+  whole-lines : length list % 27 ≡ 0
+  whole-lines = rw (s .whole, mul-comm 27 (f .lines)) (mul-mod-left (f .lines) 27)
+
+  pub lines-in : linesHeld f InList list ≡ listLines list
+  unfolding linesHeld
+  lines-in =
+      let none-there : Line = spelled [] in
+      let text : ℕ → Line = λ i. spelled (drop (27 * i) list) in
+      let long : length (range 0 (f .lines)) ≡ f .lines = length-range 0 (f .lines) ∙ omega arith in
+      ext-getD none-there (map text (range 0 (f .lines))) (listLines list) (length-map (range 0 (f .lines)) text ∙ long ∙ sym (sending-lines f list s))
+      (λ i h.
+      let below : i < f .lines = omega (arith, length-map (range 0 (f .lines)) text, long) in
+      let there : i < length list / 27 = omega (arith, count) in
+      let e : i * 27 ≡ 27 * i = mul-comm i 27 in
+      map-at text (range 0 (f .lines)) i 0 none-there (omega (arith, long))
+      ∙ ap text (getD-range 0 0 (f .lines) i (omega arith))
+      ∙ ap (λ k. spelled (drop (27 * k) list)) (zero-plus i)
+      ∙ sym (line-at list none-there i there ∙ spelled-front (drop (i * 27) list) ∙ ap (λ k. spelled (drop k list)) e))
+    where
+      zero-plus : (i : ℕ) → 0 + i ≡ i
+      zero-plus i = omega arith
+
+  pub plan-in : planIn f InList list ≡ planOf f (listLines list)
+  unfolding planIn
+  plan-in = ap (planOf f) lines-in
+
+  pub accepted-in : Accepted (planIn f InList list)
+  accepted-in = subst Accepted (sym plan-in) (sending-accepted f list s)
+
+  pub size-in : cycleSize (planIn f InList list) ≡ f .size
+  unfolding planIn
+  size-in = size-shape f (linesHeld f InList list) [] ∙ sym (s .ready .size-is)
+
+  short-in : cycleSize (planIn f InList list) ≤ 99999
+  short-in = omega (arith, size-in, s .ready .size-high)
+
+  pub long-in : length (image (planIn f InList list)) ≡ 240 * f .size
+  long-in = length-image (planIn f InList list) accepted-in short-in ∙ ap (λ c. 240 * c) size-in
+
+  module _ (x : ℕ) (h : x < f .size) where
+    pub good-in : good (cycleBucket (planIn f InList list) x) ≡ true
+    good-in = built-good (planIn f InList list) accepted-in short-in x (omega (arith, size-in))
+
+    pub bucket-in : imagePart (planIn f InList list) x 1 ≡ printBucket (cycleBucket (planIn f InList list) x)
+    unfolding imagePart
+    bucket-in = image-bucket (planIn f InList list) accepted-in short-in x (omega (arith, size-in))
+
+    pub head-in : headOf (cycleBucket (planOf f []) x) ≡ headOf (cycleBucket (planIn f InList list) x)
+    unfolding planIn
+    head-in = head-shape f [] (linesHeld f InList list) x (omega (arith, s .ready .size-is))
+
+  -- the text of c lines from line a on
+  pub lines-fit : every fits (listLines list) ≡ true
+  lines-fit = print-of-list list whole-lines (s .printed) .1
+
+  pub lines-text : (a c : ℕ) → a + c ≤ f .lines → take (27 * c) (drop (27 * a) list) ≡ joined printLine (take c (drop a (listLines list)))
+  lines-text a c h =
+      let ls : List Line = listLines list in
+      let long : length ls ≡ f .lines = sending-lines f list s in
+      let wide : (l : Line) → length (printLine l) ≡ 27 = length-printLine in
+      let behind : length (drop a ls) ≡ length ls - a = length-drop a ls in
+      ap (λ t. take (27 * c) (drop (27 * a) t)) (print-of-list list whole-lines (s .printed) .0)
+      ∙ ap (λ k. take (27 * c) (drop k (joined printLine ls))) (mul-comm 27 a)
+      ∙ ap (take (27 * c)) (drop-joined printLine 27 wide ls a (omega arith))
+      ∙ ap (λ k. take k (joined printLine (drop a ls))) (mul-comm 27 c)
+      ∙ take-joined printLine 27 wide (drop a ls) c (omega arith)

@@ -1,0 +1,195 @@
+-- What the functions that write a segment have at hand: bounds, what they ask of their callees, and the turns of their loops.
+-- Assumes nothing.
+use mathlib.Core.Path.{_≡_, sym, ap, _∙_, subst}
+use Prim.Native.Nat.{ℕ, suc, _+_, _-_, _*_, _≤_, _<_}
+use native.Mathlib.Omega.{arith}
+use mathlib.Core.List.{List, [], _++_}
+use lib.ListN.{length, drop}
+use Rattle.cycle.specs.Tree.{Plan, above, children}
+use Rattle.cycle.specs.Layouts.{Slot, slots}
+use Rattle.cycle.specs.Cycle.{toNextSegment}
+use Rattle.cycle.specs.declared.Figures.{Figures}
+use Rattle.cycle.specs.declared.Segment.{Segment}
+use Rattle.cycle.specs.declared.Source.the-variants.{List as InList}
+use Rattle.cycle.specs.Held.{planOf, Ready, InTree, Stand, Placed, treeAt, Sending, linesHeld, planIn, written, Writing, TreePlace}
+use Rattle.cycle.proofs.Readiness
+use Rattle.cycle.proofs.Children
+use Rattle.cycle.proofs.Inside.{Inside, slot-inside}
+use Rattle.cycle.proofs.Positions.{At, stand-at}
+use Rattle.cycle.proofs.SegmentParts.{Seated, seated, path-there, path-layout, path-high}
+use Rattle.cycle.proofs.ChildTrees.{tree-parts, tree-lowest, earlier, earlier-more, earlier-all, child}
+use Rattle.cycle.proofs.Sending.{long-in}
+use Rattle.cycle.proofs.BucketsWritten.{HeldAt, index-held-at, tree-held-at}
+use Rattle.cycle.proofs.Written.{written-none, written-on, length-written}
+
+-- a bucket of the cycle is one of the tree's
+place-inside :
+    (f : Figures) → Ready f → {x i j : ℕ} {xs : List Slot} → At (planOf f []) x i j xs → Inside (planOf f []) i j
+place-inside f ready a =
+    let sound = Readiness.sound f [] (ready .shaped) (ready .copies-fit) in
+    let one : Inside (planOf f []) (a .it .level) (a .it .place) =
+    slot-inside (planOf f []) sound (a .before) (a .it) (a .next ++ a .behind) (a .splits) in
+    rw (a .level-is, a .place-is) at one
+
+-- ---- a run of buckets, written from a on over d
+
+module _ (f : Figures) (list : List ℕ) (sending : Sending f list) (d : List ℕ) (room : 240 * f .size ≤ length d) (a : ℕ) where
+  pub begun : d ≡ written (planIn f InList list) d a a
+  begun = sym (written-none (planIn f InList list) (f .size) (long-in f list sending) d room a)
+
+  pub grown :
+      (image image′ : List ℕ) (y z : ℕ) → a ≤ y → y ≤ z → z ≤ f .size → image ≡ written (planIn f InList list) d a y →
+      image′ ≡ written (planIn f InList list) image y z → image′ ≡ written (planIn f InList list) d a z
+  grown image image′ y z h g b here next =
+      next
+      ∙ ap (λ m. written (planIn f InList list) m y z) here
+      ∙ written-on (planIn f InList list) (f .size) (long-in f list sending) d room a y z h g b
+
+  pub grown-length :
+      (image : List ℕ) (y : ℕ) → a ≤ y → y ≤ f .size → image ≡ written (planIn f InList list) d a y → length image ≡ length d
+  grown-length image y h b here =
+      ap length here ∙ length-written (planIn f InList list) (f .size) (long-in f list sending) d room a y h b
+
+module _ (f : Figures) (list : List ℕ) (s : Segment) (r : ℕ) (w : Writing f list s r) where
+  pub seats : Seated f s
+  seats = seated f s (w .sending .ready) (w .placed)
+
+  pub writing-kept : (r′ : ℕ) → r′ ≡ r → Writing f list s r′
+  writing-kept r′ e = record { sending = w .sending; roomy = omega (arith, w .roomy); placed = w .placed }
+
+  pub placed-in : Placed (planIn f InList list) s
+  unfolding planIn
+  placed-in = w .placed (linesHeld f InList list)
+
+  pub head-asked :
+      (x : ℕ) → s .start ≤ x → x < s .end →
+      Ready f × (x < s .end) × (s .end ≤ f .size) × (toNextSegment (drop (suc x) (slots (planOf f [])) ++ slots (planOf f [])) ≡ s .end - x)
+  head-asked x low high = (w .sending .ready, high, seats .within, w .placed [] .next-starts x low high)
+
+  -- ---- the segment's own tree, and its data
+
+  pub own-tree : TreePlace f s (s .height) (s .root) (s .«tree_at»)
+  unfolding planOf InTree
+  own-tree =
+      let p = w .placed [] in
+      let at = stand-at {i = f .k + 1 - s .height} {j = s .root} (subst (Stand (planOf f []) (s .«tree_at»)) (tree-parts f (s .height) (s .root) (p .low) (p .high)) (p .tree-stands)) in
+      let there = place-inside f (w .sending .ready) at in
+      let deep : f .k + 1 - (f .k + 1 - s .height) ≡ s .height = omega (arith, p .low, p .high) in
+      record {
+        low = p .low;
+        inside = (p .high, rw deep at (there .covers));
+        behind-path = omega arith;
+        before-data = omega (arith, p .tree-length);
+        stands = p .tree-stands;
+      }
+
+  pub data-in : (q : ℕ) → q < s .last → q < f .d
+  unfolding planOf
+  data-in q h = omega (arith, w .placed [] .last-in)
+
+  -- ---- the path
+
+  pub path-held : (i : ℕ) → s .top ≤ i → i ≤ f .copies → HeldAt (planIn f InList list) (s .start + (i - s .top)) (length (children (planOf f []) i (above (f .n) (f .copies + 1 - i) (s .number))))
+  path-held i low high =
+      let one : f .layout ≡ 1 = path-layout f s (w .sending .ready) (w .placed) i low high in
+      index-held-at f list (w .sending) (s .start + (i - s .top)) i (above (f .n) (f .copies + 1 - i) (s .number))
+      (path-there f s (w .sending .ready) (w .placed) [] i one low high)
+      (omega (arith, path-high f s (w .sending .ready) (w .placed) one))
+
+  -- ---- the tree
+
+  module _ (e j x : ℕ) (p : TreePlace f s e j x) where
+    pub tree-high : e ≤ f .k
+    unfolding InTree
+    tree-high = p .inside .0
+
+    pub place-small : j ≤ 40000
+    place-small = Readiness.reached f e j (w .sending .ready .shaped) (p .inside) .place
+
+    pub first-small : j * f .n ≤ 320000
+    first-small = Children.first-small f (w .sending .ready) e j (p .low) (p .inside)
+
+    pub tree-some : 1 ≤ length (treeAt (planOf f []) e j)
+    tree-some = rw (tree-parts f e j (p .low) tree-high) (omega arith)
+
+    pub tree-before : x < s .«data_at»
+    tree-before = omega (arith, tree-some, p .before-data)
+
+    pub tree-held : HeldAt (planIn f InList list) x (length (children (planOf f []) (f .k + 1 - e) j))
+    tree-held = tree-held-at f list (w .sending) x e j (p .low) tree-high (p .stands)
+
+    pub tree-alone : e ≡ 1 → length (treeAt (planOf f []) e j) ≡ 1
+    tree-alone one = rw one (tree-lowest f j (omega (arith, tree-high)))
+
+    pub child-place :
+        (i next : ℕ) → (e ≡ 1 → ⊥) → i < length (children (planOf f []) (f .k + 1 - e) j) →
+        next ≡ x + 1 + length (earlier f e j i) → TreePlace f s (e - 1) (j * f .n + i) next
+    child-place i next more h is =
+        let c = child f e j (p .low) tree-high x i (w .sending .ready) (p .inside) (p .stands) h in
+        record {
+          low = omega (arith, p .low, more);
+          inside = c .inside;
+          behind-path = omega (arith, p .behind-path);
+          before-data = omega (arith, c .fits, p .before-data);
+          stands = subst (λ y. Stand (planOf f []) y (treeAt (planOf f []) (e - 1) (j * f .n + i))) (sym is) (c .stands);
+        }
+
+    -- ---- the loop over the children: d is the image where it begins
+
+    module _ (d : List ℕ) (room : length d ≡ r) where
+      enough : 240 * f .size ≤ length d
+      enough = omega (arith, w .roomy)
+
+      pub first-child : d ≡ written (planIn f InList list) d (x + 1) (x + 1)
+      first-child = sym (written-none (planIn f InList list) (f .size) (long-in f list (w .sending)) d enough (x + 1))
+
+      pub next-child :
+          (image : List ℕ) (next next′ i : ℕ) → (e ≡ 1 → ⊥) → i < length (children (planOf f []) (f .k + 1 - e) j) →
+          next ≡ x + 1 + length (earlier f e j i) → image ≡ written (planIn f InList list) d (x + 1) next →
+          next′ ≡ next + length (treeAt (planOf f []) (e - 1) (j * f .n + i)) → (image′ : List ℕ) →
+          image′ ≡ written (planIn f InList list) image next (next + length (treeAt (planOf f []) (e - 1) (j * f .n + i))) →
+          (next′ ≡ x + 1 + length (earlier f e j (i + 1))) × (image′ ≡ written (planIn f InList list) d (x + 1) next′)
+      next-child image next next′ i more h is here is′ image′ here′ =
+          let place = child-place i next more h is in
+          let on : length (earlier f e j (i + 1)) ≡ length (earlier f e j i) + length (treeAt (planOf f []) (e - 1) (j * f .n + i)) = earlier-more f e j i in
+          let t : Plan = planIn f InList list in (
+            omega arith,
+            here′
+                ∙ ap (λ y. written t image next y) (sym is′)
+                ∙ ap (λ m. written t m next next′) here
+                ∙ written-on t (f .size) (long-in f list (w .sending)) d enough (x + 1) next next′ (omega arith) (omega arith)
+                (omega (arith, place .before-data, seats)),
+          )
+
+      pub child-room :
+          (image : List ℕ) (next i : ℕ) → (e ≡ 1 → ⊥) → i < length (children (planOf f []) (f .k + 1 - e) j) →
+          next ≡ x + 1 + length (earlier f e j i) → image ≡ written (planIn f InList list) d (x + 1) next → length image ≡ r
+      child-room image next i more h is here =
+          let place = child-place i next more h is in
+          grown-length f list (w .sending) d enough (x + 1) image next (omega arith) (omega (arith, place .before-data, seats)) here ∙ room
+
+      pub last-room :
+          (image : List ℕ) (next i : ℕ) → i ≡ length (children (planOf f []) (f .k + 1 - e) j) →
+          next ≡ x + 1 + length (earlier f e j i) → image ≡ written (planIn f InList list) d (x + 1) next → length image ≡ r
+      last-room image next i all is here =
+          let count : 1 + length (earlier f e j i) ≡ length (treeAt (planOf f []) e j) =
+          ap (λ m. 1 + length (earlier f e j m)) all ∙ earlier-all f e j (p .low) tree-high in
+          grown-length f list (w .sending) d enough (x + 1) image next (omega arith) (omega (arith, p .before-data, seats)) here ∙ room
+
+      pub last-child :
+          (entry image : List ℕ) (next i : ℕ) → length entry ≡ r → d ≡ written (planIn f InList list) entry x (x + 1) →
+          i ≡ length (children (planOf f []) (f .k + 1 - e) j) → next ≡ x + 1 + length (earlier f e j i) →
+          image ≡ written (planIn f InList list) d (x + 1) next →
+          (next ≡ x + length (treeAt (planOf f []) e j)) × (image ≡ written (planIn f InList list) entry x (x + length (treeAt (planOf f []) e j)))
+      last-child entry image next i long first all is here =
+          let t : Plan = planIn f InList list in
+          let count : 1 + length (earlier f e j i) ≡ length (treeAt (planOf f []) e j) =
+          ap (λ m. 1 + length (earlier f e j m)) all ∙ earlier-all f e j (p .low) tree-high in
+          let end : next ≡ x + length (treeAt (planOf f []) e j) = omega arith in (
+            end,
+            here
+                ∙ ap (λ m. written t m (x + 1) next) first
+                ∙ written-on t (f .size) (long-in f list (w .sending)) entry (omega (arith, w .roomy)) x (x + 1) next (omega arith) (omega arith)
+                (omega (arith, p .before-data, seats))
+                ∙ ap (λ y. written t entry x y) end,
+          )

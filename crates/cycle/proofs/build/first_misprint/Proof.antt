@@ -1,0 +1,71 @@
+-- `cycle::build::first_misprint` meets its contract. The loop's invariant: the lines before i read, so that those from i on
+-- tell the place.
+-- Assumes nothing.
+use mathlib.Core.Path.{_≡_, refl, sym, ap, _∙_}
+use Prim.Native.Nat.{ℕ, _+_, _-_, _*_, _≤_}
+use native.Mathlib.Omega.{arith}
+use lib.ListN.{drop}
+use borrow.Author.Needs.{needs}
+use Rattle.buckets.specs.ListLine.{readLine, cutLines, taken, misprintFrom}
+use Rattle.buckets.proofs.Answers.{line-found, line-none}
+use Rattle.cycle.proofs.Refusals.{line-read, line-misprinted, lines-read}
+use Rattle.cycle.proofs.build.first_misprint.Statement.{statement}
+use Rattle.cycle.proofs.build.first_misprint.Tie as tie
+
+abbrev Inv-loop : tie.InvT-loop
+Inv-loop list lines i₀ i = (i ≤ lines) × (misprintFrom 0 (cutLines list) ≡ misprintFrom i (drop i (cutLines list)))
+
+abbrev μ-loop : tie.MeasureT-loop
+μ-loop list lines i₀ i = lines - i
+
+wide : (a : ℕ) → a + 27 - a ≡ 27
+wide a = omega arith
+
+returns : tie.Need-returns Inv-loop μ-loop
+returns c =
+    let call = c .before .before in
+    let turn = call .before .before in
+    let loop = turn .before in
+    let start = loop .before .before in
+    let told = line-none (readLine _) (sym (call .read-line .ensures) ∙ c .enum-told2 .given .1) in
+    line-misprinted (start .args .list .now) (start .args .lines) (start .pre .0) (loop .loop .i) (loop .loop .inv .1) (turn .loop-test .taken)
+    (rw (wide (27 * loop .loop .i)) at told)
+
+loop-again : tie.Need-loop-again Inv-loop μ-loop
+loop-again c =
+    let call = c .before .before in
+    let turn = call .before .before in
+    let loop = turn .before in
+    let start = loop .before .before in
+    let told = ap taken (line-found (readLine _) (sym (call .read-line .ensures) ∙ c .enum-told .given .1)) in (
+      omega arith,
+      line-read (start .args .list .now) (start .args .lines) (start .pre .0) (loop .loop .i) (loop .loop .inv .1) (turn .loop-test .taken)
+          (rw (wide (27 * loop .loop .i)) at told),
+    )
+
+returns-2 : tie.Need-returns-2 Inv-loop μ-loop
+returns-2 c =
+    let loop = c .before in
+    let start = loop .before .before in
+    lines-read (start .args .list .now) (start .args .lines) (start .pre .0) (loop .loop .i) (loop .loop .inv .1) (c .loop-test .left)
+
+pub first-misprint-spec : {M : Type 1} → statement M
+first-misprint-spec =
+    tie.close
+    (tie.spec
+    Inv-loop
+    μ-loop
+    (λ c. (omega arith, refl))
+    (λ c. omega arith)
+    (λ c. omega arith)
+    (λ c. omega arith)
+    (λ c. omega arith)
+    (λ c. omega arith)
+    (λ c κs. tt)
+    (λ c. search needs)
+    (λ c. search needs)
+    returns
+    (λ c. omega arith)
+    (λ c. omega arith)
+    loop-again
+    returns-2)

@@ -1,0 +1,140 @@
+-- `cycle::build::write_data_at` meets its contract: the lines of data bucket q lie in the list from line q × p on.
+-- Assumes nothing.
+use mathlib.Core.Path.{_≡_, refl, sym, ap, _∙_, subst}
+use Prim.Native.Nat.{_+_, _-_, _*_, _≤_, _<_}
+use native.Mathlib.Omega.{arith}
+use mathlib.Core.List.{[], _∷_}
+use lib.ListN.{length}
+use borrow.Author.Needs.{needs}
+use Rattle.columns.proofs.Put.{length-part}
+use Rattle.cycle.specs.Layouts.{slot}
+use Rattle.cycle.specs.Held.{planOf, Stand}
+use Rattle.cycle.proofs.Readiness.{data-high}
+use Rattle.cycle.proofs.SegmentParts.{Seated, data-there}
+use Rattle.cycle.proofs.BucketsWritten.{DataText, data-text, data-written}
+use Rattle.cycle.proofs.Written.{lent-written}
+use Rattle.cycle.proofs.Writings.{seats, head-asked, data-in}
+use Rattle.cycle.proofs.build.write_data_at.Statement.{statement}
+use Rattle.cycle.proofs.build.write_data_at.Tie as tie
+
+seated : (c : tie.Start) → Seated (c .args .f) (c .args .s)
+seated c = seats (c .args .f) (c .args .list .now) (c .args .s) (length (c .args .image .now)) (c .pre .0)
+
+in-data : (c : tie.Start) → c .args .q < c .args .f .d
+in-data c = data-in (c .args .f) (c .args .list .now) (c .args .s) (length (c .args .image .now)) (c .pre .0) (c .args .q) (c .pre .2)
+
+stands : (c : tie.Start) → Stand (planOf (c .args .f) []) (c .args .x) (slot (c .args .f .k + 1) (c .args .q) ∷ [])
+stands c =
+    subst (λ y. Stand (planOf (c .args .f) []) y (slot (c .args .f .k + 1) (c .args .q) ∷ [])) (sym (c .pre .3))
+    (data-there (c .args .f) (c .args .s) (c .pre .0 .sending .ready) (c .pre .0 .placed) [] (c .args .q) (c .pre .1) (c .pre .2))
+
+below : (c : tie.Start) → c .args .x < c .args .s .end
+below c = omega (arith, c .pre .0 .placed [] .ends, c .pre .1, c .pre .2, c .pre .3)
+
+-- the lines, with what `lesser` gave
+abbrev start : tie.After-lesser → tie.Start
+start c = c .before .before .before .before .before .before
+
+text : (c : tie.After-lesser) →
+    DataText (start c .args .f) (start c .args .list .now) (start c .pre .0 .sending) (start c .args .q)
+    (27 * (start c .args .q * start c .args .f .p)) (27 * c .lesser .result)
+text c =
+    data-text (start c .args .f) (start c .args .list .now) (start c .pre .0 .sending) (start c .args .q)
+    (27 * (start c .args .q * start c .args .f .p)) (27 * c .lesser .result) (in-data (start c)) refl (ap (λ m. 27 * m) (c .lesser .ensures))
+
+-- the same before that
+small : (s : tie.Start) → (s .args .q * s .args .f .p ≤ 40000) × ((s .args .q + 1) * s .args .f .p ≤ 40008)
+small s =
+    let t = data-text (s .args .f) (s .args .list .now) (s .pre .0 .sending) (s .args .q) _ _ (in-data s) refl refl in
+    (omega (arith, t .low, t .few-all), t .next)
+
+follow-on-at-requires : tie.Need-follow-on-at-requires
+follow-on-at-requires c κs =
+    let s = c .before .before in (s .pre .0 .sending .ready, s .pre .0 .sending .whole, in-data s, stands s)
+
+mul-from : tie.Need-mul-from
+mul-from c = omega (arith, small (c .before .before .before .before))
+
+mul-from-2 : tie.Need-mul-from-2
+mul-from-2 c = omega (arith, small (c .before .before .before .before))
+
+add-lesser : tie.Need-add-lesser
+add-lesser c =
+    let s = c .before .before .before .before in
+    omega (arith, in-data s, data-high (s .args .f) (s .pre .0 .sending .ready .shaped))
+
+mul-lesser : tie.Need-mul-lesser
+mul-lesser c = omega (arith, small (c .before .before .before .before .before))
+
+mul-end : tie.Need-mul-end
+mul-end c = omega (arith, text c .within, start c .pre .0 .sending .whole, text c .few-all)
+
+mul-at : tie.Need-mul-at
+mul-at c = omega (arith, seated (start c), below (start c))
+
+add-to : tie.Need-add-to
+add-to c = omega (arith, seated (start c), below (start c))
+
+part-write-data-end : tie.Need-part-write-data-end
+part-write-data-end c = omega (arith, seated (start c), below (start c), start c .pre .0 .roomy)
+
+head-at-requires : tie.Need-head-at-requires
+head-at-requires c κs =
+    let s = start (c .before) in
+    head-asked (s .args .f) (s .args .list .now) (s .args .s) (length (s .args .image .now)) (s .pre .0) (s .args .x)
+    (omega (arith, seated s, s .pre .3)) (below s)
+
+sub-write-data-2 : tie.Need-sub-write-data-2
+sub-write-data-2 c = text (c .before .before) .ordered
+
+part-write-data-start-2 : tie.Need-part-write-data-start-2
+part-write-data-start-2 c = omega (arith, text (c .before .before) .ordered, text (c .before .before) .within)
+
+part-write-data-end-2 : tie.Need-part-write-data-end-2
+part-write-data-end-2 c = omega (arith, text (c .before .before) .within)
+
+write-data-requires : tie.Need-write-data-requires
+write-data-requires c κs =
+    let call = c .before .before .before in
+    let s = start call in
+    let t = text call in
+    let room : 240 * s .args .x + 240 ≤ length (s .args .image .now) = omega (arith, seated s, below s, s .pre .0 .roomy) in
+    let wide : 240 * s .args .x + 240 - 240 * s .args .x ≡ 240 = omega arith in
+    (length-part (s .args .image .now) (240 * s .args .x) _ (omega (arith, room, wide)) ∙ wide, (t .whole-lines, (t .few, t .printed)))
+
+returns : tie.Need-returns
+returns c =
+    let wrote = c .before .before in
+    let head = wrote .before .before in
+    let call = head .before .before in
+    let s = start call in
+    let t = text call in
+    let room : 240 * s .args .x + 240 ≤ length (s .args .image .now) = omega (arith, seated s, below s, s .pre .0 .roomy) in
+    lent-written (s .args .image .now) (240 * s .args .x) 240 _ _ room (wrote .write-data .kept .0) (wrote .write-data .ensures)
+    ∙ data-written (s .args .f) (s .args .list .now) (s .pre .0 .sending) (s .args .x) (omega (arith, seated s, below s))
+    (s .args .image .now) (s .pre .0 .roomy) _ (head .head-at .ensures) (s .args .q) _ _ (stands s)
+    (call .before .before .before .follow-on-at .ensures) (t .lines-are)
+
+pub write-data-at-spec : {M : Type 1} → statement M
+write-data-at-spec =
+    tie.close
+    (tie.spec
+    follow-on-at-requires
+    mul-from
+    mul-from-2
+    add-lesser
+    mul-lesser
+    (λ c κs. search needs)
+    mul-end
+    mul-at
+    add-to
+    (λ c. search needs)
+    (λ c. search needs)
+    part-write-data-end
+    head-at-requires
+    sub-write-data-2
+    part-write-data-start-2
+    part-write-data-end-2
+    write-data-requires
+    (λ c. search needs)
+    returns)

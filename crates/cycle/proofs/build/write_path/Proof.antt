@@ -1,0 +1,146 @@
+-- `cycle::build::write_path` meets its contract. The loop's invariant: the path's levels before i are written, and x is the
+-- place of level i.
+-- Assumes nothing.
+use mathlib.Core.Path.{_≡_, sym, ap, _∙_, subst}
+use Prim.Native.Nat.{_+_, _-_, _≤_, _<_, max}
+use native.Mathlib.Omega.{arith}
+use lib.ListN.{length}
+use Rattle.buckets.specs.declared.Index.{Index}
+use Rattle.cycle.specs.Held.{planIn, written}
+use Rattle.cycle.specs.declared.Source.the-variants.{List as InList}
+use Rattle.cycle.proofs.SegmentParts.{Seated, path-size, path-layout, path-few}
+use Rattle.cycle.proofs.BucketsWritten.{index-written}
+use Rattle.cycle.proofs.Writings.{seats, placed-in, head-asked, path-held, begun, grown, grown-length}
+use Rattle.cycle.proofs.build.write_path.Statement.{statement}
+use Rattle.cycle.proofs.build.write_path.Tie as tie
+
+abbrev Inv-loop : tie.InvT-loop
+Inv-loop image₀ list f s x₀ i₀ image x i =
+    (s .top ≤ i) × (i ≤ max (s .top) (f .copies + 1)) × (x ≡ s .start + (i - s .top)) × (image ≡ written (planIn f InList list) image₀ (s .start) x)
+
+abbrev μ-loop : tie.MeasureT-loop
+μ-loop image₀ list f s x₀ i₀ image x i = f .copies + 1 - i
+
+abbrev start : tie.At-loop Inv-loop μ-loop → tie.Start Inv-loop μ-loop
+start c = c .before .before .before
+
+-- where the parts stand, and where the path ends
+seated : (c : tie.Start Inv-loop μ-loop) → Seated (c .args .f) (c .args .s)
+seated c = seats (c .args .f) (c .args .list .now) (c .args .s) (length (c .args .image .now)) (c .pre)
+
+path-end : (c : tie.Start Inv-loop μ-loop) → c .args .s .«tree_at» ≡ c .args .s .start + (c .args .f .copies + 1 - c .args .s .top)
+path-end c = path-size (c .args .f) (c .args .s) (c .pre .sending .ready) (c .pre .placed)
+
+long : (c : tie.At-loop Inv-loop μ-loop) → length (c .loop .image) ≡ length (start c .args .image .now)
+long c =
+    grown-length (start c .args .f) (start c .args .list .now) (start c .pre .sending) (start c .args .image .now) (start c .pre .roomy)
+    (start c .args .s .start) (c .loop .image) (c .loop .x) (omega arith)
+    (omega (arith, seated (start c), path-end (start c), c .loop .inv .1, c .loop .inv .2)) (c .loop .inv .3)
+
+loop-holds : tie.Need-loop-holds Inv-loop μ-loop
+loop-holds c =
+    let s = c .before .before in (
+      omega arith,
+      omega arith,
+      omega arith,
+      begun (s .args .f) (s .args .list .now) (s .pre .sending) (s .args .image .now) (s .pre .roomy) (s .args .s .start),
+    )
+
+path-index-requires : tie.Need-path-index-requires Inv-loop μ-loop
+path-index-requires c κs =
+    let loop = c .before .before in
+    let s = start loop in (
+      s .pre .sending .ready,
+      s .pre .sending .whole,
+      placed-in (s .args .f) (s .args .list .now) (s .args .s) (length (s .args .image .now)) (s .pre),
+      path-layout (s .args .f) (s .args .s) (s .pre .sending .ready) (s .pre .placed) (loop .loop .i) (loop .loop .inv .0) (c .if1 .taken),
+      loop .loop .inv .0,
+      c .if1 .taken,
+      loop .loop .inv .2,
+    )
+
+head-at-requires : tie.Need-head-at-requires Inv-loop μ-loop
+head-at-requires c κs =
+    let turn = c .before .before in
+    let loop = turn .before .before in
+    let s = start loop in
+    head-asked (s .args .f) (s .args .list .now) (s .args .s) (length (s .args .image .now)) (s .pre) (loop .loop .x)
+    (omega arith) (omega (arith, seated s, path-end s, turn .if1 .taken, loop .loop .inv))
+
+write-index-at-requires : tie.Need-write-index-at-requires Inv-loop μ-loop
+write-index-at-requires c κs =
+    let call = c .before .before in
+    let turn = call .before in
+    let loop = turn .before .before in
+    let s = start loop in
+    let held = path-held (s .args .f) (s .args .list .now) (s .args .s) (length (s .args .image .now)) (s .pre) (loop .loop .i) (loop .loop .inv .0) (turn .if1 .taken) in
+    let is = call .path-index .ensures in
+    let at = loop .loop .inv .2 in (
+      omega (arith, seated s, path-end s, turn .if1 .taken, loop .loop .inv, long loop, s .pre .roomy),
+      omega (arith, seated s, path-end s, turn .if1 .taken, loop .loop .inv),
+      subst (λ (i : Index). i .pairs ≤ 4) (sym is) (rw (← at) at (held .few-pairs)),
+      subst (λ (i : Index). i .entries ≤ 8) (sym is) (rw (← at) at (held .few-entries)),
+    )
+
+add-x : tie.Need-add-x Inv-loop μ-loop
+add-x c =
+    let turn = c .before .before .before .before .before .before in
+    let loop = turn .before .before in
+    omega (arith, seated (start loop), path-end (start loop), turn .if1 .taken, loop .loop .inv)
+
+add-i : tie.Need-add-i Inv-loop μ-loop
+add-i c =
+    let turn = c .before .before .before .before .before .before in
+    let loop = turn .before .before in
+    let s = start loop in
+    let one = path-layout (s .args .f) (s .args .s) (s .pre .sending .ready) (s .pre .placed) (loop .loop .i) (loop .loop .inv .0) (turn .if1 .taken) in
+    omega (arith, path-few (s .args .f) (s .args .s) (s .pre .sending .ready) (s .pre .placed) one, turn .if1 .taken)
+
+loop-again : tie.Need-loop-again Inv-loop μ-loop
+loop-again c =
+    let wrote = c .before .before in
+    let head = wrote .before in
+    let call = head .before .before in
+    let turn = call .before in
+    let loop = turn .before .before in
+    let s = start loop in
+    let x = loop .loop .x in
+    let at = loop .loop .inv .2 in
+    let held = path-held (s .args .f) (s .args .list .now) (s .args .s) (length (s .args .image .now)) (s .pre) (loop .loop .i) (loop .loop .inv .0) (turn .if1 .taken) in
+    let below : x < s .args .f .size = omega (arith, seated s, path-end s, turn .if1 .taken, loop .loop .inv) in (
+      omega arith,
+      omega (arith, turn .if1 .taken),
+      omega (arith, loop .loop .inv .0, at),
+      grown (s .args .f) (s .args .list .now) (s .pre .sending) (s .args .image .now) (s .pre .roomy) (s .args .s .start)
+          (loop .loop .image) _ x (x + 1) (omega arith) (omega arith) (omega (arith, below)) (loop .loop .inv .3)
+          (wrote .write-index-at .ensures
+          ∙ index-written (s .args .f) (s .args .list .now) (s .pre .sending) x below
+          (loop .loop .image) (omega (arith, long loop, s .pre .roomy)) _ (head .head-at .ensures) _ _ (call .path-index .ensures) (rw (← at) at held)),
+    )
+
+same-length : tie.Need-same-length Inv-loop μ-loop
+same-length c = long (c .before .before)
+
+returns : tie.Need-returns Inv-loop μ-loop
+returns c =
+    let loop = c .before .before in
+    let s = start loop in
+    let end : loop .loop .x ≡ s .args .s .«tree_at» = omega (arith, path-end s, c .if1 .left, loop .loop .inv .0, loop .loop .inv .1, loop .loop .inv .2) in
+    loop .loop .inv .3 ∙ ap (written (planIn (s .args .f) InList (s .args .list .now)) (s .args .image .now) (s .args .s .start)) end
+
+pub write-path-spec : {M : Type 1} → statement M
+write-path-spec =
+    tie.close
+    (tie.spec
+    Inv-loop
+    μ-loop
+    loop-holds
+    path-index-requires
+    head-at-requires
+    write-index-at-requires
+    add-x
+    add-i
+    (λ c. omega arith)
+    loop-again
+    same-length
+    returns)

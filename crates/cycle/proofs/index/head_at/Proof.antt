@@ -1,0 +1,34 @@
+-- `cycle::index::head_at` meets its contract: what the bucket at x has for a head.
+-- Assumes nothing.
+use mathlib.Core.Path.{_≡_, sym, ap, ap₂, _∙_}
+use mathlib.Core.List.{[], _++_}
+use Prim.Native.Nat.{ℕ, suc, _-_}
+use native.Mathlib.Omega.{arith}
+use lib.ListN.{length, drop}
+use Rattle.buckets.specs.declared.Head.{Head}
+use Rattle.cycle.specs.Layouts.{slots}
+use Rattle.cycle.specs.Cycle.{toNextSegment}
+use Rattle.cycle.specs.Held.{planOf}
+use Rattle.cycle.proofs.Positions.{at-position, head-at}
+use Rattle.cycle.proofs.Children.{size-slots}
+use Rattle.cycle.proofs.index.head_at.Statement.{statement}
+use Rattle.cycle.proofs.index.head_at.Tie as tie
+
+sub-t4 : tie.Need-sub-t4
+sub-t4 c = omega arith
+
+sub-t5 : tie.Need-sub-t5
+sub-t5 c = omega arith
+
+returns : tie.Need-returns
+returns c =
+    let start = c .before .before in
+    let x : ℕ = start .args .x in
+    let n : start .args .f .size ≡ length (slots (planOf (start .args .f) [])) = size-slots (start .args .f) (start .pre .0) in
+    let a = at-position (planOf (start .args .f) []) x (omega (arith, start .pre .1, start .pre .2)) .1 in
+    sym
+    (head-at a
+    ∙ ap₂ {C = Head} (λ u v. record { position = x; «to_cycle» = u - x; «to_segment» = v }) (sym n) (start .pre .3))
+
+pub head-at-spec : {M : Type 1} → statement M
+head-at-spec = tie.close (tie.spec sub-t4 sub-t5 returns)

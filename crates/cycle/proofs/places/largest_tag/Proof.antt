@@ -1,0 +1,89 @@
+-- `cycle::places::largest_tag` meets its contract.
+-- Assumes nothing.
+use mathlib.Core.Path.{_≡_, sym, ap, _∙_}
+use Prim.Native.Nat.{_+_, _-_, _*_, _^_, _≤_, min}
+use native.Mathlib.Nat.{mul-le-mul}
+use native.Mathlib.Omega.{arith}
+use lib.ListN.{getD}
+use Rattle.cycle.specs.Held.{tagAt}
+use Rattle.cycle.proofs.Readiness.{Reached, reached}
+use Rattle.cycle.proofs.LargestTags.{lines-some, largest-tag}
+use Rattle.cycle.proofs.places.largest_tag.Statement.{statement}
+use Rattle.cycle.proofs.places.largest_tag.Tie as tie
+
+-- what is known at the start
+known : (c : tie.Start) → Reached (c .args .t2) (c .args .e) (c .args .j)
+known c = reached (c .args .t2) (c .args .e) (c .args .j) (c .pre .0 .shaped) (c .pre .2)
+
+entry : (c : tie.Start) → getD (c .args .t2 .powers) (c .args .e) 0 ≡ c .args .t2 .n ^ c .args .e
+entry c = known c .power (c .args .e) (omega arith)
+
+add-lesser : tie.Need-add-lesser
+add-lesser c = omega (arith, known (c .before) .place)
+
+mul-lesser : tie.Need-mul-lesser
+mul-lesser c = omega (arith, known (c .before) .height)
+
+element-copy-out-lesser : tie.Need-element-copy-out-lesser
+element-copy-out-lesser c = omega (arith, known (c .before) .height)
+
+mul-lesser-2 : tie.Need-mul-lesser-2
+mul-lesser-2 c = let start = c .before .before in rw (entry start) (omega (arith, known start .end))
+
+mul-lesser-3 : tie.Need-mul-lesser-3
+mul-lesser-3 c =
+    let start = c .before .before in
+    let f = start .args .t2 in
+    let m : (start .args .j + 1) * f .n ^ start .args .e * f .p ≤ 360000 * 8 =
+    mul-le-mul {n₂ = 360000} {m₂ = 8} (known start .end) (start .pre .0 .shaped .p-high) in
+    rw (entry start) (omega arith)
+
+lesser-requires : tie.Need-lesser-requires
+lesser-requires c κs = tt
+
+-- what `lesser` gave
+ended :
+    (c : tie.After-lesser) →
+    c .lesser .result
+    ≡ min (c .before .before .before .args .t2 .lines) ((c .before .before .before .args .j + 1) * c .before .before .before .args .t2 .n ^ c .before .before .before .args .e * c .before .before .before .args .t2 .p)
+ended c =
+    let start = c .before .before .before in
+    let f = start .args .t2 in
+    c .lesser .ensures ∙ ap (λ x. min (f .lines) ((start .args .j + 1) * x * f .p)) (entry start)
+
+some : (c : tie.After-lesser) → 1 ≤ c .lesser .result
+some c =
+    let start = c .before .before .before in
+    rw (ended c) (lines-some (start .args .t2) (start .args .e) (start .args .j) (start .pre .0 .shaped) (start .pre .1) (start .pre .2))
+
+sub-tag-of : tie.Need-sub-tag-of
+sub-tag-of c = some c
+
+tag-of-requires : tie.Need-tag-of-requires
+tag-of-requires c κs =
+    let start = c .before .before .before in
+    (start .pre .0, omega (arith, some c, ended c), start .pre .3)
+
+returns : tie.Need-returns
+returns c =
+    let start = c .before .before .before .before in
+    let f = start .args .t2 in
+    c .tag-of .ensures
+    ∙ ap (λ x. tagAt f (start .args .source) (start .args .text .now) (x - 1)) (ended (c .before))
+    ∙ sym
+    (largest-tag f (start .args .e) (start .args .j) (start .pre .0 .shaped) (start .pre .1) (start .pre .2) (start .args .source)
+    (start .args .text .now))
+
+pub largest-tag-spec : {M : Type 1} → statement M
+largest-tag-spec =
+    tie.close
+    (tie.spec
+    add-lesser
+    mul-lesser
+    element-copy-out-lesser
+    mul-lesser-2
+    mul-lesser-3
+    lesser-requires
+    sub-tag-of
+    tag-of-requires
+    returns)

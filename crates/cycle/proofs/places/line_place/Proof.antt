@@ -1,0 +1,79 @@
+-- `cycle::places::line_place` meets its contract.
+-- Assumes nothing.
+use borrow.Author.Needs.{needs}
+use Prim.Native.Nat.{_/_}
+use native.Mathlib.Omega.{arith}
+use Rattle.cycle.specs.Held.{planOf}
+use Rattle.cycle.proofs.DataHeld.{data-ends}
+use Rattle.cycle.proofs.LinesHeld.{line-bucket, line-column}
+use Rattle.cycle.proofs.places.line_place.Statement.{statement}
+use Rattle.cycle.proofs.places.line_place.Tie as tie
+
+enum-told : tie.Need-enum-told
+enum-told c = search needs
+
+mul-result : tie.Need-mul-result
+mul-result c = search needs
+
+enum-told-2 : tie.Need-enum-told-2
+enum-told-2 c = search needs
+
+div-data-place : tie.Need-div-data-place
+div-data-place c = search needs
+
+data-place-requires : tie.Need-data-place-requires
+data-place-requires c κs =
+    let start = c .before .before .before in
+    (start .pre .0, line-bucket (start .args .f) (start .args .i) (start .pre .0 .shaped) (start .pre .1))
+
+mul-result-2 : tie.Need-mul-result-2
+mul-result-2 c =
+    let start = c .before .before .before .before in
+    let place = data-ends (start .args .f) (start .args .i / start .args .f .p) (start .pre .0) (line-bucket (start .args .f) (start .args .i) (start .pre .0 .shaped) (start .pre .1)) in
+    rw (c .data-place .ensures) (omega (arith, start .pre .0 .size-high))
+
+rem-result : tie.Need-rem-result
+rem-result c = search needs
+
+mul-result-3 : tie.Need-mul-result-3
+mul-result-3 c =
+    let start = c .before .before .before .before .before in
+    omega (arith, line-column (start .args .f) (start .args .i) (start .pre .0 .shaped))
+
+add-result : tie.Need-add-result
+add-result c =
+    let start = c .before .before .before .before .before in
+    omega (arith, line-column (start .args .f) (start .args .i) (start .pre .0 .shaped))
+
+add-result-2 : tie.Need-add-result-2
+add-result-2 c =
+    let start = c .before .before .before .before .before in
+    let f = start .args .f in
+    let i = start .args .i in
+    let column = line-column f i (start .pre .0 .shaped) in
+    let place = data-ends f (i / f .p) (start .pre .0) (line-bucket f i (start .pre .0 .shaped) (start .pre .1)) in
+    rw (c .before .data-place .ensures) (omega (arith, start .pre .0 .size-high))
+
+returns : tie.Need-returns
+returns c = rw (c .enum-told .given .1)
+
+returns-2 : tie.Need-returns-2
+unfolding planOf
+returns-2 c = rw (c .before .before .before .enum-told2 .given .1, c .before .data-place .ensures)
+
+pub line-place-spec : {M : Type 1} → statement M
+line-place-spec =
+    tie.close
+    (tie.spec
+    enum-told
+    mul-result
+    enum-told-2
+    div-data-place
+    data-place-requires
+    mul-result-2
+    rem-result
+    mul-result-3
+    add-result
+    add-result-2
+    returns
+    returns-2)

@@ -1,0 +1,71 @@
+-- `cycle::places::one_m_data_place` meets its contract.
+-- Assumes nothing.
+use mathlib.Core.Path.{sym}
+use Prim.Native.Nat.{_+_, _-_, _*_, _/_, _≤_}
+use native.Mathlib.Nat.{mul-le-mul}
+use native.Mathlib.Omega.{arith}
+use Rattle.cycle.proofs.Readiness.{Parts, parts, root-in}
+use Rattle.cycle.proofs.DataHeld.{InPart, data-in-part}
+use Rattle.cycle.proofs.places.one_m_data_place.Statement.{statement}
+use Rattle.cycle.proofs.places.one_m_data_place.Tie as tie
+
+-- what is known at the start
+known : (c : tie.Start) → Parts (c .args .f)
+known c = parts (c .args .f) (c .pre .0 .shaped) (λ e. omega arith) (c .pre .0 .copies-fit)
+
+found : (c : tie.Start) → InPart (c .args .f) (c .args .q) (c .pre .0) (c .pre .2) (((c .args .q + 1) * c .args .f .copies - 1) / c .args .f .d)
+found c = data-in-part (c .args .f) (c .args .q) (c .pre .0) (c .pre .2) (λ e. omega arith)
+
+add-part : tie.Need-add-part
+add-part c = omega (arith, known c .some)
+
+-- the product that the code divides
+product : (c : tie.Start) → (1 ≤ (c .args .q + 1) * c .args .f .copies) × ((c .args .q + 1) * c .args .f .copies ≤ 40000 * 40000)
+product c =
+    let k = known c in
+    let low : 1 * 1 ≤ (c .args .q + 1) * c .args .f .copies = mul-le-mul {n₁ = 1} {m₁ = 1} (omega arith) (k .parted) in
+    (omega arith, mul-le-mul {n₂ = 40000} {m₂ = 40000} (omega (arith, k .some)) (k .few))
+
+mul-part : tie.Need-mul-part
+mul-part c = omega (arith, product (c .before) .1)
+
+sub-part : tie.Need-sub-part
+sub-part c = product (c .before) .0
+
+div-part : tie.Need-div-part
+div-part c = omega arith
+
+add-result : tie.Need-add-result
+add-result c = omega (arith, found (c .before .before) .among, known (c .before .before) .few)
+
+tree-size-requires : tie.Need-tree-size-requires
+tree-size-requires c κs = let start = c .before .before in (start .pre .0 .shaped, known start .low, root-in (start .args .f))
+
+mul-result : tie.Need-mul-result
+mul-result c =
+    let start = c .before .before .before in
+    let p = found start in
+    rw (c .tree-size .ensures) (omega (arith, p .is, p .ends, start .pre .0 .size-high))
+
+add-result-2 : tie.Need-add-result-2
+add-result-2 c =
+    let start = c .before .before .before in
+    let p = found start in
+    rw (c .tree-size .ensures) (omega (arith, p .is, p .ends, start .pre .0 .size-high))
+
+returns : tie.Need-returns
+returns c = rw (c .tree-size .ensures) (sym (found (c .before .before .before) .is))
+
+pub one-m-data-place-spec : {M : Type 1} → statement M
+one-m-data-place-spec =
+    tie.close
+    (tie.spec
+    add-part
+    mul-part
+    sub-part
+    div-part
+    add-result
+    tree-size-requires
+    mul-result
+    add-result-2
+    returns)

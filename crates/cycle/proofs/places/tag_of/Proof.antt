@@ -1,0 +1,28 @@
+-- `cycle::places::tag_of` meets its contract.
+-- Assumes nothing.
+use borrow.Author.Needs.{needs}
+use mathlib.Core.Path.{ap, _∙_}
+use lib.ListN.{length, take, drop}
+use Rattle.columns.specs.PrintedNumbers.{value}
+use Rattle.cycle.specs.Held.{tagAt}
+use Rattle.cycle.proofs.LinesHeld.{line-fits}
+use Rattle.cycle.proofs.places.tag_of.Statement.{statement}
+use Rattle.cycle.proofs.places.tag_of.Tie as tie
+
+line-place-requires : tie.Need-line-place-requires
+line-place-requires c κs = search needs
+
+spelled-tag-requires : tie.Need-spelled-tag-requires
+spelled-tag-requires c κs =
+    let start = c .before .before in
+    rw (c .line-place .ensures)
+    (line-fits (start .args .f) (start .args .source) (start .args .i) (length (start .args .text .now)) (start .pre .0) (start .pre .1) (start .pre .2))
+
+returns : tie.Need-returns
+unfolding tagAt
+returns c =
+    c .spelled-tag .ensures
+    ∙ ap (λ x. value 0 (take 10 (drop x (c .before .before .before .args .text .now)))) (c .before .line-place .ensures)
+
+pub tag-of-spec : {M : Type 1} → statement M
+tag-of-spec = tie.close (tie.spec line-place-requires spelled-tag-requires returns)

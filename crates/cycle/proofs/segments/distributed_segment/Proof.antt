@@ -1,0 +1,174 @@
+-- `cycle::segments::distributed_segment` meets its contract.
+-- Assumes nothing.
+use mathlib.Core.Path.{_≡_, refl, sym, ap, ap₂, _∙_}
+use mathlib.Core.List.{[]}
+use Prim.Native.Nat.{ℕ, _+_, _-_, _*_, _^_, _≤_, _<_, min, max}
+use native.Mathlib.Nat.{suc-mul}
+use native.Mathlib.Numerals.{add-one}
+use native.Mathlib.Omega.{arith}
+use lib.ListN.{length, getD}
+use Rattle.cycle.specs.Layouts.{pathTop}
+use Rattle.cycle.specs.declared.Figures.{Figures}
+use Rattle.cycle.specs.Held.{planOf, treeAt}
+use Rattle.cycle.proofs.Paths.{pathTop-high}
+use Rattle.cycle.proofs.Readiness.{Block, block}
+use Rattle.cycle.proofs.Segmented.{block-in}
+use Rattle.cycle.proofs.PlacedBlocks.{blockAt, block-room, block-first, block-grows, placed-block}
+use Rattle.cycle.proofs.segments.distributed_segment.Statement.{statement}
+use Rattle.cycle.proofs.segments.distributed_segment.Tie as tie
+
+-- what is known at the start
+known : (c : tie.Start) → Block (c .args .t1)
+known c = block (c .args .t1) (c .pre .0 .shaped) (c .pre .1) (c .pre .0 .copies-fit)
+
+-- the places of the segment, as numbers
+record Room (f : Figures) (b : ℕ) : Type 0 where
+  begins : b * f .n ^ (f .k - f .copies) < max 1 (f .d)
+  grows : b * f .n ^ (f .k - f .copies) ≤ min (f .d) ((b + 1) * f .n ^ (f .k - f .copies))
+  wide : (b + 1) * f .n ^ (f .k - f .copies) ≡ b * f .n ^ (f .k - f .copies) + f .n ^ (f .k - f .copies)
+  top : pathTop (f .n) (f .copies) b ≤ f .copies + 1
+  ends :
+      blockAt f b + (f .copies + 1 - pathTop (f .n) (f .copies) b) + length (treeAt (planOf f []) (f .k - f .copies) b)
+      + (min (f .d) ((b + 1) * f .n ^ (f .k - f .copies)) - b * f .n ^ (f .k - f .copies))
+      ≤ 99999
+
+room : (c : tie.Start) → Room (c .args .t1) (c .args .b)
+room c =
+    let f = c .args .t1 in
+    let b = c .args .b in
+    record {
+      begins = block-first f b (c .pre .0) (c .pre .1) (c .pre .2);
+      grows = block-grows f b (c .pre .0) (c .pre .1) (c .pre .2);
+      wide = rw (add-one b) (suc-mul b (f .n ^ (f .k - f .copies)));
+      top = (let h = pathTop-high (f .n) (f .copies) b in omega arith);
+      ends = block-room f b (c .pre .0) (c .pre .1) (c .pre .2);
+    }
+
+distributed-start-requires : tie.Need-distributed-start-requires
+distributed-start-requires c κs = (c .pre .0, c .pre .1, c .pre .2)
+
+sub-e : tie.Need-sub-e
+sub-e c = omega (arith, known (c .before) .fits)
+
+path-top-requires : tie.Need-path-top-requires
+path-top-requires c κs = (c .before .pre .0, c .before .pre .1)
+
+add-tree-at : tie.Need-add-tree-at
+add-tree-at c = omega (arith, known (c .before .before) .few)
+
+sub-tree-at : tie.Need-sub-tree-at
+sub-tree-at c = omega (arith, room (c .before .before) .top, c .path-top .ensures)
+
+add-tree-at-2 : tie.Need-add-tree-at-2
+add-tree-at-2 c =
+    let r = room (c .before .before) in
+    let k = known (c .before .before) in
+    omega (arith, c .before .distributed-start .ensures)
+
+tree-size-requires : tie.Need-tree-size-requires
+tree-size-requires c κs =
+    let start = c .before .before in
+    (start .pre .0 .shaped, omega (arith, known start .fits), block-in (start .args .t1) (start .args .b) (start .pre .0) (start .pre .1) (start .pre .2))
+
+add-data-at : tie.Need-add-data-at
+add-data-at c =
+    let r = room (c .before .before .before) in
+    rw (c .before .before .distributed-start .ensures, c .before .path-top .ensures, c .tree-size .ensures) (omega arith)
+
+mul-first : tie.Need-mul-first
+mul-first c = omega (arith, known (c .before .before .before) .high)
+
+element-copy-out-first : tie.Need-element-copy-out-first
+element-copy-out-first c = omega (arith, known (c .before .before .before) .high)
+
+mul-first-2 : tie.Need-mul-first-2
+mul-first-2 c =
+    let start = c .before .before .before .before in
+    let r = room start in
+    rw (known start .power) (omega (arith, known start .some))
+
+mul-lesser : tie.Need-mul-lesser
+mul-lesser c = omega (arith, known (c .before .before .before .before) .high)
+
+element-copy-out-lesser : tie.Need-element-copy-out-lesser
+element-copy-out-lesser c = omega (arith, known (c .before .before .before .before) .high)
+
+add-lesser : tie.Need-add-lesser
+add-lesser c =
+    let start = c .before .before .before .before .before in
+    let r = room start in
+    let k = known start in
+    rw (k .power) (omega arith)
+
+lesser-requires : tie.Need-lesser-requires
+lesser-requires c κs = tt
+
+-- what `lesser` gave
+ended :
+    (c : tie.After-lesser) →
+    c .lesser .result
+    ≡ min (c .before .before .before .before .before .before .args .t1 .d) ((c .before .before .before .before .before .before .args .b + 1) * c .before .before .before .before .before .before .args .t1 .n ^ (c .before .before .before .before .before .before .args .t1 .k - c .before .before .before .before .before .before .args .t1 .copies))
+ended c =
+    let start = c .before .before .before .before .before .before in
+    let f = start .args .t1 in
+    let b = start .args .b in
+    let p = known start .power in
+    c .lesser .ensures ∙ ap (min (f .d)) (ap₂ (λ x y. b * x + y) p p ∙ sym (room start .wide))
+
+sub-t13 : tie.Need-sub-t13
+sub-t13 c =
+    let start = c .before .before .before .before .before .before in
+    rw (known start .power, ended c) (room start .grows)
+
+add-t14 : tie.Need-add-t14
+add-t14 c =
+    let start = c .before .before .before .before .before .before in
+    let r = room start in
+    rw
+    (c .before .before .before .before .before .distributed-start .ensures,
+    c .before .before .before .before .path-top .ensures,
+    c .before .before .before .tree-size .ensures,
+    known start .power,
+    ended c)
+    (omega arith)
+
+returns : tie.Need-returns
+returns c =
+    let start = c .before .before .before .before .before .before in
+    let f = start .args .t1 in
+    let b = start .args .b in
+    (placed-block f b (start .pre .0) (start .pre .1) (start .pre .2)
+    (c .before .before .before .before .before .distributed-start .result)
+    (c .before .before .before .before .path-top .result)
+    (c .before .before .before .tree-size .result)
+    (b * getD (f .powers) (f .k - f .copies) 0)
+    (c .lesser .result)
+    (c .before .before .before .before .before .distributed-start .ensures)
+    (c .before .before .before .before .path-top .ensures)
+    (c .before .before .before .tree-size .ensures)
+    (ap (λ x. b * x) (known start .power))
+    (ended c),
+    refl)
+
+pub distributed-segment-spec : {M : Type 1} → statement M
+distributed-segment-spec =
+    tie.close
+    (tie.spec
+    distributed-start-requires
+    sub-e
+    path-top-requires
+    add-tree-at
+    sub-tree-at
+    add-tree-at-2
+    tree-size-requires
+    add-data-at
+    mul-first
+    element-copy-out-first
+    mul-first-2
+    mul-lesser
+    element-copy-out-lesser
+    add-lesser
+    lesser-requires
+    sub-t13
+    add-t14
+    returns)

@@ -1,0 +1,75 @@
+-- `cycle::sizes::levels_of` meets its contract. The loop's invariant: the level looked for is the least from k on.
+-- Assumes nothing.
+use mathlib.Core.Path.{_≡_, refl, sym, ap, _∙_}
+use mathlib.Core.Logic.{⊎-elim}
+use Prim.Native.Nat.{ℕ, suc, _+_, _-_, _*_, _^_, _≤_, _<_}
+use native.Mathlib.Nat.{pow-succ', pow-zero, mul-one, mul-comm, mul-le-mul}
+use native.Mathlib.Numerals.{add-one}
+use native.Mathlib.Omega.{arith}
+use lib.Dec.{leb}
+use borrow.Author.Tests.{le-leb, lt-leb}
+use Rattle.columns.specs.Lists.{least}
+use Rattle.cycle.specs.Tree.{levels}
+use Rattle.cycle.proofs.Ranges.{le-or-lt}
+use Rattle.cycle.proofs.Powers.{least-found, least-next, power-reaches}
+use Rattle.cycle.proofs.sizes.levels_of.Statement.{statement}
+use Rattle.cycle.proofs.sizes.levels_of.Tie as tie
+
+abbrev Inv-loop : tie.InvT-loop
+Inv-loop n d k₀ power₀ k power =
+    (1 ≤ k) × (k ≤ 16) × (power ≡ n ^ k) × (levels n d ≡ least (17 - k) k (λ x. leb d (n ^ x)))
+
+abbrev μ-loop : tie.MeasureT-loop
+μ-loop n d k₀ power₀ k power = 16 - k
+
+-- one level more is looked at
+look : (n d k : ℕ) → 2 ≤ n → d ≤ 40000 → n ^ k + 1 ≤ d → (k + 1 ≤ 16) × (least (17 - k) k (λ x. leb d (n ^ x)) ≡ least (17 - (k + 1)) (k + 1) (λ x. leb d (n ^ x)))
+look n d k low few l =
+    ⊎-elim
+    (λ (g : 16 ≤ k). let r = power-reaches n k low g in absurd (omega arith))
+    (λ (g : k < 16).
+    let e : 17 - k ≡ suc (17 - suc k) = omega arith in
+    (omega arith, rw (e, add-one k) (least-next (17 - suc k) k (λ x. leb d (n ^ x)) (lt-leb d (n ^ k) (omega arith)))))
+    (le-or-lt 16 k)
+
+loop-holds : tie.Need-loop-holds Inv-loop μ-loop
+unfolding levels
+loop-holds c =
+    let n = c .args .n in
+    let one : n ^ 1 ≡ n = pow-succ' n 0 ∙ rw pow-zero (mul-one n) in
+    (omega arith, omega arith, sym one, refl)
+
+mul-power : tie.Need-mul-power Inv-loop μ-loop
+mul-power c =
+    let m : c .before .loop .power * c .before .before .args .n ≤ 40000 * 8 = mul-le-mul {n₂ = 40000} {m₂ = 8} (omega arith) (omega arith) in
+    omega arith
+
+turned : (c : tie.In-loop Inv-loop μ-loop) → (c .before .loop .k + 1 ≤ 16) × (least (17 - c .before .loop .k) (c .before .loop .k) (λ x. leb (c .before .before .args .d) (c .before .before .args .n ^ x)) ≡ least (17 - (c .before .loop .k + 1)) (c .before .loop .k + 1) (λ x. leb (c .before .before .args .d) (c .before .before .args .n ^ x)))
+turned c = look (c .before .before .args .n) (c .before .before .args .d) (c .before .loop .k) (omega arith) (omega arith) (omega arith)
+
+add-k : tie.Need-add-k Inv-loop μ-loop
+add-k c = omega arith
+
+loop-less : tie.Need-loop-less Inv-loop μ-loop
+loop-less c = omega (arith, (turned c) .0)
+
+loop-again : tie.Need-loop-again Inv-loop μ-loop
+loop-again c =
+    let n = c .before .before .args .n in
+    let k = c .before .loop .k in
+    let inv = c .before .loop .inv in
+    let g = turned c in
+    let p : n ^ (k + 1) ≡ n ^ k * n = rw (add-one k) (pow-succ' n k ∙ mul-comm n (n ^ k)) in
+    (omega arith, g .0, ap (λ x. x * n) (inv .2) ∙ sym p, inv .3 ∙ g .1)
+
+returns : tie.Need-returns Inv-loop μ-loop
+returns c =
+    let n = c .before .before .args .n in
+    let d = c .before .before .args .d in
+    let k = c .before .loop .k in
+    let inv = c .before .loop .inv in
+    sym (inv .3 ∙ least-found (17 - k) k (λ x. leb d (n ^ x)) (le-leb d (n ^ k) (omega arith)))
+
+pub levels-of-spec : {M : Type 1} → statement M
+levels-of-spec =
+    tie.close (tie.spec Inv-loop μ-loop loop-holds mul-power add-k loop-less loop-again returns)
