@@ -1,7 +1,7 @@
 -- The children of a bucket that the figures of a cycle have, and how long a subtree can be.
 -- Assumes nothing.
-use mathlib.Core.Path.{_≡_, refl, sym, ap, ap₂, subst, _∙_}
-use Prim.Native.Nat.{ℕ, zero, suc, _+_, _-_, _*_, _^_, _≤_, _<_, min, max}
+use mathlib.Core.Path.{_≡_, sym, ap, subst, _∙_}
+use Prim.Native.Nat.{ℕ, zero, suc, _+_, _-_, _*_, _^_, _≤_, _<_, min}
 use native.Mathlib.Nat.{mul-comm, mul-le-mul}
 use native.Mathlib.Omega.{arith}
 use mathlib.Core.List.{List, [], _∷_, _++_, append-nil}
@@ -9,10 +9,10 @@ use mathlib.Core.Bool.{Bool, true, false}
 use lib.ListN.{length, length-append}
 use Rattle.columns.specs.Lists.{joined, span, range, up, pick}
 use Rattle.cycle.specs.Tree.{Plan, width, children}
-use Rattle.cycle.specs.Layouts.{Slot, slot, subtree, slots}
+use Rattle.cycle.specs.Layouts.{Slot, subtree, slots}
 use Rattle.cycle.specs.Cycle.{occurs, distanceTo, cycleSize}
 use Rattle.cycle.specs.declared.Figures.{Figures}
-use Rattle.cycle.specs.Held.{planOf, fullSize, Shaped, InTree, Ready, treeAt, firstPlace}
+use Rattle.cycle.specs.Held.{planOf, fullSize, InTree, Ready, treeAt, firstPlace}
 use Rattle.cycle.proofs.Ranges.{length-range, span-append, joined-append}
 use Rattle.cycle.proofs.TreeLaws.{width-up, width-lt, length-children}
 use Rattle.cycle.proofs.Readiness.{Reached, reached}

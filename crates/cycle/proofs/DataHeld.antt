@@ -91,7 +91,8 @@ module _ (f : Figures) (q : ℕ) (ready : Ready f) (inside : q < f .d) where
       (let h : q + 1 ≤ partFrom f (suc i) = le-div-iff-mul-le {k = m} {x = q + 1} {y = suc i * f .d} (p .parted) .1 (omega arith) in omega arith) in
       let l = whole-laid f i ready other among [] in
       let start : ℕ = i * wholeTree f + partFrom f i in
-      let place = data-first t (keeps t (sound f [] (ready .shaped) (ready .copies-fit))) (start + 0 + wholeTree f) (partFrom f i) (partFrom f (suc i)) q (l .data-stands) first last in
+      let place = data-first t (keeps t (sound f [] (ready .shaped) (ready .copies-fit))) (start + 0 + wholeTree f) (partFrom f i)
+      (partFrom f (suc i)) q (l .data-stands) first last in
       let sum : (i + 1) * wholeTree f ≡ i * wholeTree f + wholeTree f = rw (add-one i) (suc-mul i (wholeTree f)) in
       let room = laid-fits t start [] (treeAt t (f .k) 0) (partFrom f i) (partFrom f (suc i)) l in
       record { among = among; is = place ∙ omega arith; ends = omega (arith, ready .size-is) }

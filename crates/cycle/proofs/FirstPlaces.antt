@@ -1,27 +1,25 @@
 -- Layout 1: the first occurrence of a bucket of a level up to B's is on the path to the first B under it.
 -- Assumes nothing.
-use mathlib.Core.Path.{_≡_, refl, sym, ap, subst, _∙_}
-use mathlib.Core.Logic.{_⊎_, inl, inr, ⊎-elim}
+use mathlib.Core.Path.{_≡_, sym, ap, _∙_}
+use mathlib.Core.Logic.{inr, ⊎-elim}
 use Prim.Native.Nat.{ℕ, zero, suc, _+_, _-_, _*_, _^_, _≤_, _<_, max}
 use native.Mathlib.Nat.{add-zero, add-suc, zero-mul, mul-assoc, eq-zero-or-pos, eq-or-lt-of-le}
 use native.Mathlib.Omega.{arith}
 use mathlib.Core.Bool.{Bool, true, false}
-use mathlib.Core.List.{List, [], _∷_, _++_}
+use mathlib.Core.List.{[]}
 use lib.Dec.{eqb}
 use lib.Pow.{pow-add}
-use lib.ListN.{length}
 use borrow.Author.Tests.{eq-eqb}
-use Rattle.columns.specs.Lists.{pick, any, joined, span}
+use Rattle.columns.specs.Lists.{pick, any}
 use Rattle.cycle.specs.Tree.{Plan, width, above}
-use Rattle.cycle.specs.Layouts.{Slot, slots, lowest, pathTop}
+use Rattle.cycle.specs.Layouts.{slots, lowest, pathTop}
 use Rattle.cycle.specs.Cycle.{occurs}
 use Rattle.cycle.specs.Held.{firstPlace}
 use Rattle.cycle.proofs.Sequence.{Sound}
 use Rattle.cycle.proofs.TreeLaws.{above-first, above-mono, lt-above, lt-width, width-lt, width-root}
-use Rattle.cycle.proofs.Paths.{pathTop-low, pathTop-first}
+use Rattle.cycle.proofs.Paths.{pathTop-first}
 use Rattle.cycle.proofs.Pieces.{occurs-slot}
-use Rattle.cycle.proofs.Blocks.{blockLevel, blockCount, onPath}
-use Rattle.cycle.proofs.Turns.{segmentsFrom}
+use Rattle.cycle.proofs.Blocks.{blockLevel, blockCount}
 use Rattle.cycle.proofs.Positions.{At}
 use Rattle.cycle.proofs.NextOccurrence.{first-hit, toSend}
 use Rattle.cycle.proofs.DataOnce.{some-hit}

@@ -1,19 +1,17 @@
 -- What stands in an index bucket of a segment's tree or path, as the code works it out: its entries and its control pairs.
 -- Assumes nothing.
 use mathlib.Core.Path.{_≡_, refl, sym, ap, ap₂, subst, _∙_}
-use mathlib.Core.Logic.{_⊎_, inl, inr, ⊎-elim}
-use Prim.Native.Nat.{ℕ, zero, suc, _+_, _-_, _*_, _^_, _≤_, _<_, min, max}
-use native.Mathlib.Nat.{pow-zero, mul-one, eq-or-lt-of-le}
+use Prim.Native.Nat.{ℕ, zero, suc, _+_, _-_, _*_, _^_, _≤_, _<_, min}
+use native.Mathlib.Nat.{pow-zero, mul-one}
 use native.Mathlib.Decide.{ℕ-discrete}
 use native.Mathlib.Numerals.{add-one}
 use native.Mathlib.Omega.{arith}
-use mathlib.Core.Bool.{true, false}
 use mathlib.Core.Option.{Option}
-use mathlib.Core.List.{List, [], _∷_, _++_, map}
+use mathlib.Core.List.{List, _∷_, _++_, map}
 use lib.ListN.{length, length-map}
 use borrow.Author.Tests.{eq-eqb, ne-eqb, le-leb, lt-leb}
 use Rattle.columns.specs.Lists.{joined, span, range}
-use Rattle.buckets.specs.Bucket.{Pair, Entry}
+use Rattle.buckets.specs.Bucket.{Pair}
 use Rattle.buckets.specs.Held.{tagOr0}
 use Rattle.cycle.specs.Tree.{Plan, width, children, above, largestTag}
 use Rattle.cycle.specs.Layouts.{Slot, slot, slots, subtree}
@@ -109,15 +107,19 @@ pub tree-pairs-are :
 unfolding pairs hasPairs treePairs slot
 tree-pairs-are t ahead last toCycle e i j p low high least most below =
     elim (ℕ-discrete (t .layout) 1) [
-      yes one ↦ rw (eq-eqb (t .layout) 1 one, lt-leb i (t .copies) (below one), ne-eqb (t .layout) 2 (λ z. omega arith))
-    | no f ↦
-        elim (ℕ-discrete e (t .k)) [
-          yes k ↦
-            rw
-            (ne-eqb (t .layout) 1 f, eq-eqb (t .layout) 2 (omega (arith, f)), eq-eqb i 1 (omega arith), eq-eqb e (t .k) k,
-            range-empty 2 (i + 1) (omega arith))
-        | no g ↦ rw (ne-eqb (t .layout) 1 f, eq-eqb (t .layout) 2 (omega (arith, f)), ne-eqb i 1 (λ z. g (omega arith)), ne-eqb e (t .k) g)
-        ]
+      | yes one ↦ rw (eq-eqb (t .layout) 1 one, lt-leb i (t .copies) (below one), ne-eqb (t .layout) 2 (λ z. omega arith))
+      | no f ↦
+          elim (ℕ-discrete e (t .k)) [
+            | yes k ↦
+                rw (
+                  ne-eqb (t .layout) 1 f,
+                  eq-eqb (t .layout) 2 (omega (arith, f)),
+                  eq-eqb i 1 (omega arith),
+                  eq-eqb e (t .k) k,
+                  range-empty 2 (i + 1) (omega arith),
+                )
+            | no g ↦ rw (ne-eqb (t .layout) 1 f, eq-eqb (t .layout) 2 (omega (arith, f)), ne-eqb i 1 (λ z. g (omega arith)), ne-eqb e (t .k) g)
+          ]
     ]
 
 -- ---- the control pairs of a path bucket

@@ -97,7 +97,8 @@ module _ (t : Plan) (sound : Sound t) (one : t .layout ≡ 1) where
       let e : t .k + 1 - (t .copies + 1) ≡ blockHeight t = omega (arith, fits) in
       let wide : blockSize t ≡ blockWide t = ap (λ x. t .n ^ x) e in
       let begins : b * blockSize t ≤ t .d = block-start t sound one b h in
-      let time : dataCount t before ≡ b * blockWide t = block-time b (omega arith) ∙ (let m : min (t .d) (b * blockSize t) ≡ b * blockSize t = omega arith in m ∙ ap (λ x. b * x) wide) in
+      let whole : min (t .d) (b * blockSize t) ≡ b * blockSize t = omega arith in
+      let time : dataCount t before ≡ b * blockWide t = block-time b (omega arith) ∙ whole ∙ ap (λ x. b * x) wide in
       laid t kept before (path t b) (treeAt t (blockHeight t) b) behind (b * blockWide t) (min (t .d) ((b + 1) * blockWide t))
       (slots-blocks ∙ split-segments f b (blockCount t) h ∙ ap (λ xs. before ++ (xs ++ behind)) (block-holds b))
       (bare-path t b)

@@ -103,8 +103,8 @@ none-sent t l c (q ∷ qs) h =
 pub path-other : (t : Plan) (b l c : ℕ) → (above (t .n) (blockLevel t - l) b ≡ c → ⊥) → (y : ℕ) → occurs l c (onPath t b y) ≡ false
 path-other t b l c f y =
     elim (ℕ-discrete y l) [
-      yes e ↦ other-place l c y (above (t .n) (blockLevel t - y) b) (λ p. f (ap (λ z. above (t .n) (blockLevel t - z) b) (sym e) ∙ p))
-    | no g ↦ other-level l c y (above (t .n) (blockLevel t - y) b) g
+      | yes e ↦ other-place l c y (above (t .n) (blockLevel t - y) b) (λ p. f (ap (λ z. above (t .n) (blockLevel t - z) b) (sym e) ∙ p))
+      | no g ↦ other-level l c y (above (t .n) (blockLevel t - y) b) g
     ]
 
 -- segment b does not hold bucket c of level l: its path begins below, or leads elsewhere

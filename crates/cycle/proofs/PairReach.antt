@@ -1,13 +1,13 @@
 -- Layout 1: the next occurrence that a later control pair reaches, as the code works it out.
 -- Assumes nothing.
-use mathlib.Core.Path.{_≡_, refl, sym, ap, ap₂, subst, _∙_}
-use mathlib.Core.Logic.{_⊎_, inl, inr, ⊎-elim}
-use Prim.Native.Nat.{ℕ, zero, suc, _+_, _-_, _*_, _/_, _%_, _≤_, _<_}
+use mathlib.Core.Path.{_≡_, sym, ap, subst, _∙_}
+use mathlib.Core.Logic.{inl, inr, ⊎-elim}
+use Prim.Native.Nat.{ℕ, suc, _+_, _-_, _*_, _/_, _%_, _≤_, _<_}
 use native.Mathlib.Nat.{div-add-mod', mod-lt}
 use native.Mathlib.Decide.{ℕ-discrete}
 use native.Mathlib.Numerals.{add-one}
 use native.Mathlib.Omega.{arith}
-use mathlib.Core.List.{List, _++_}
+use mathlib.Core.List.{_++_}
 use lib.ListN.{length}
 use borrow.Author.Tests.{eq-eqb, ne-eqb, lt-ltb, le-ltb}
 use Rattle.cycle.specs.Tree.{Plan, width, above}
@@ -71,18 +71,18 @@ module _ (t : Plan) (sound : Sound t) (one : t .layout ≡ 1) (b i m : ℕ) (low
       let again : size + firstPlace t (j - 1) (above (t .n) (blockLevel t - (j - 1)) b) - x ≡ size + firstPlace t (j - 1) (here / t .n) - x =
       ap (λ z. size + firstPlace t (j - 1) z - x) over in
       elim (ℕ-discrete ((here + 1) % t .n) 0) [
-        yes e ↦
-          pair-again t sound one b i m low high count j from to (inl (ap (λ z. z % t .n) (sym (add-one here)) ∙ e))
-          ∙ again
-          ∙ sym (reach-last t size x j here e)
-      | no f ↦
-          ⊎-elim
-          (λ (h : width t j ≤ here + 1).
-          pair-again t sound one b i m low high count j from to (inr (omega arith)) ∙ again ∙ sym (reach-end t size x j here f h))
-          (λ (h : here + 1 < width t j).
-          pair-turn t sound one b i m low high count j from to (omega arith)
-          (same-quotient t here grows (subst (λ z. z % t .n ≡ 0 → ⊥) (add-one here) f) ∙ sym over)
-          ∙ ap (λ z. firstPlace t j z - 1 - x) (sym (add-one here))
-          ∙ sym (reach-turn t size x j here f h))
-          (le-or-lt (width t j) (here + 1))
+        | yes e ↦
+            pair-again t sound one b i m low high count j from to (inl (ap (λ z. z % t .n) (sym (add-one here)) ∙ e))
+            ∙ again
+            ∙ sym (reach-last t size x j here e)
+        | no f ↦
+            ⊎-elim
+            (λ (h : width t j ≤ here + 1).
+            pair-again t sound one b i m low high count j from to (inr (omega arith)) ∙ again ∙ sym (reach-end t size x j here f h))
+            (λ (h : here + 1 < width t j).
+            pair-turn t sound one b i m low high count j from to (omega arith)
+            (same-quotient t here grows (subst (λ z. z % t .n ≡ 0 → ⊥) (add-one here) f) ∙ sym over)
+            ∙ ap (λ z. firstPlace t j z - 1 - x) (sym (add-one here))
+            ∙ sym (reach-turn t size x j here f h))
+            (le-or-lt (width t j) (here + 1))
       ]

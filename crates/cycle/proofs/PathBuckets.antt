@@ -1,11 +1,11 @@
 -- A bucket of a segment's path in layout 1, under the figures of a cycle: what the code holds of it.
 -- Assumes nothing.
-use mathlib.Core.Path.{_≡_, refl, sym, ap, ap₂, subst, _∙_}
+use mathlib.Core.Path.{_≡_, sym, ap, ap₂, _∙_}
 use mathlib.Core.Logic.{⊎-elim}
-use Prim.Native.Nat.{ℕ, zero, suc, _+_, _-_, _*_, _^_, _≤_, _<_, max}
+use Prim.Native.Nat.{ℕ, suc, _+_, _-_, _^_, _≤_, _<_}
 use native.Mathlib.Nat.{eq-zero-or-pos}
 use native.Mathlib.Omega.{arith}
-use mathlib.Core.List.{List, [], _∷_, _++_, map}
+use mathlib.Core.List.{List, [], map}
 use lib.Dec.{eqb, leb}
 use lib.ListN.{length, length-map}
 use borrow.Author.Tests.{eq-eqb, le-leb}
@@ -14,19 +14,19 @@ use Rattle.buckets.specs.declared.Index.{Index}
 use Rattle.buckets.specs.declared.Line.{Line}
 use Rattle.buckets.specs.Bucket.{Pair, Entry}
 use Rattle.buckets.specs.Held.{filled, tagOr0, firstBlank, heldIndex}
-use Rattle.cycle.specs.Tree.{Plan, levels, width, children, above}
+use Rattle.cycle.specs.Tree.{Plan, levels, width, children}
 use Rattle.cycle.specs.Layouts.{Slot, slot, slots, pathTop, path, distributedSegment, wholeSegment}
 use Rattle.cycle.specs.Cycle.{laterPair, pairs, entries}
 use Rattle.cycle.specs.declared.Figures.{Figures}
 use Rattle.cycle.specs.declared.Segment.{Segment}
 use Rattle.cycle.specs.declared.Source.{Source}
-use Rattle.cycle.specs.Held.{planOf, Ready, InTree, Placed, pathOf, segmentSlots, segmentCount, linesHeld, planIn, lastOf, lastSentBefore, cycleBucket, asIndex, childTags, farDistances, placeOver, pairTags, pairDistances, OnPath}
+use Rattle.cycle.specs.Held.{planOf, Ready, Placed, pathOf, segmentSlots, segmentCount, linesHeld, planIn, lastOf, lastSentBefore, cycleBucket, asIndex, childTags, farDistances, placeOver, pairTags, pairDistances, OnPath}
 use Rattle.cycle.proofs.Sequence.{Sound}
 use Rattle.cycle.proofs.Ranges.{length-range}
 use Rattle.cycle.proofs.Powers.{least-found}
 use Rattle.cycle.proofs.Readiness.{sound}
 use Rattle.cycle.proofs.Paths.{pathTop-low}
-use Rattle.cycle.proofs.Blocks.{blockLevel, blockCount, onPath}
+use Rattle.cycle.proofs.Blocks.{blockCount, onPath}
 use Rattle.cycle.proofs.Shapes.{children-shape, slots-shape, distributed-shape, farDistances-shape, pairDistances-shape}
 use Rattle.cycle.proofs.Positions.{at-length, index-at}
 use Rattle.cycle.proofs.Occurrences.{topOf, placeOn}
@@ -41,13 +41,13 @@ unfolding levels
 levels-none n = least-found 16 1 (λ k. leb 0 (n ^ k)) (le-leb 0 (n ^ 1) (omega arith))
 
 module _ (f : Figures) (ready : Ready f) (source : Source) (text : List ℕ) (s : Segment) (placed : Placed (planIn f source text) s) (one : f .layout ≡ 1) (i x : ℕ) (top : s .top ≤ i) (high : i ≤ f .copies) (at : x ≡ s .start + (i - s .top)) where
-  abbrev pub ls : List Line
+  abbrev ls : List Line
   ls = linesHeld f source text
 
-  abbrev pub t : Plan
+  abbrev t : Plan
   t = planOf f ls
 
-  abbrev pub b : ℕ
+  abbrev b : ℕ
   b = s .number
 
   held : Sound t

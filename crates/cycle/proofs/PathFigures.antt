@@ -1,22 +1,22 @@
 -- Layout 1, under the figures of a cycle: the buckets above one of B's level, by the table of powers.
 -- Assumes nothing.
-use mathlib.Core.Path.{_≡_, refl, sym, ap, ap₂, subst, _∙_}
+use mathlib.Core.Path.{_≡_, sym, ap, subst, _∙_}
 use mathlib.Core.Logic.{⊎-elim}
-use Prim.Native.Nat.{ℕ, zero, suc, _+_, _-_, _*_, _/_, _^_, _≤_, _<_, max}
+use Prim.Native.Nat.{ℕ, suc, _+_, _-_, _*_, _/_, _^_, _≤_, _<_}
 use native.Mathlib.Nat.{zero-mul, pow-succ', mul-assoc, mul-le-mul-right, div-mul-le-self, one-le-pow, eq-zero-or-pos}
 use native.Mathlib.Omega.{arith}
 use mathlib.Core.List.{List, []}
 use lib.ListN.{length, getD}
 use lib.Pow.{pow-add}
 use borrow.Author.Tests.{eq-eqb}
-use Rattle.columns.specs.Lists.{up, joined, span, range}
+use Rattle.columns.specs.Lists.{up, joined, span}
 use Rattle.buckets.specs.declared.Line.{Line}
 use Rattle.cycle.specs.Tree.{Plan, width, above}
 use Rattle.cycle.specs.Layouts.{pathTop, distributedSegment}
 use Rattle.cycle.specs.declared.Figures.{Figures}
 use Rattle.cycle.specs.Held.{planOf, Ready, InTree, segmentCount, placeOver, OnPath}
 use Rattle.cycle.proofs.TreeLaws.{above-div, above-le, width-up, width-lt}
-use Rattle.cycle.proofs.Blocks.{blockLevel, blockCount}
+use Rattle.cycle.proofs.Blocks.{blockCount}
 use Rattle.cycle.proofs.Occurrences.{placeOn}
 use Rattle.cycle.proofs.Readiness.{path-facts, levels-are}
 

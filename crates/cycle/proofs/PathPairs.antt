@@ -1,12 +1,12 @@
 -- Layout 1: the next occurrences that a path bucket's entries and later control pairs reach.
 -- Assumes nothing.
-use mathlib.Core.Path.{_≡_, refl, sym, ap, ap₂, subst, _∙_}
+use mathlib.Core.Path.{_≡_, refl, sym, ap, _∙_}
 use mathlib.Core.Logic.{_⊎_, inl, inr, ⊎-elim}
-use Prim.Native.Nat.{ℕ, zero, suc, _+_, _-_, _*_, _/_, _%_, _^_, _≤_, _<_, max}
+use Prim.Native.Nat.{ℕ, suc, _+_, _-_, _*_, _/_, _%_, _^_, _≤_, _<_, max}
 use native.Mathlib.Nat.{mul-le-mul-right, lt-of-mul-lt-mul-right, lt-div-mul-add, div-mul-le-self, div-add-mod', mul-assoc}
 use native.Mathlib.Decide.{ℕ-discrete}
 use native.Mathlib.Omega.{arith}
-use mathlib.Core.Bool.{Bool, true, false}
+use mathlib.Core.Bool.{true, false}
 use mathlib.Core.List.{List, [], _∷_, _++_, map, append-assoc}
 use lib.Pow.{pow-add}
 use lib.ListN.{length, length-append}
@@ -18,14 +18,14 @@ use Rattle.cycle.specs.Cycle.{occurs, distanceTo, toNext}
 use Rattle.cycle.specs.Held.{firstPlace, aheadOf}
 use Rattle.cycle.proofs.Sequence.{Sound}
 use Rattle.cycle.proofs.Ranges.{le-or-lt, span-append, joined-append}
-use Rattle.cycle.proofs.TreeLaws.{above-add, above-suc, above-le, above-lt, lt-above, above-first, above-mono, lt-width, width-lt}
+use Rattle.cycle.proofs.TreeLaws.{above-suc, above-le, above-lt, lt-above, above-first, above-mono, lt-width, width-lt}
 use Rattle.cycle.proofs.Blocks.{blockLevel, blockCount, onPath}
 use Rattle.cycle.proofs.Turns.{segmentsFrom}
 use Rattle.cycle.proofs.Pieces.{occurs-slot}
 use Rattle.cycle.proofs.Positions.{At, at-length}
 use Rattle.cycle.proofs.NextOccurrence.{none-append, distance-hit, sentYet, toSend, next-ahead, next-again}
 use Rattle.cycle.proofs.TreeEntries.{other-level, none-cons}
-use Rattle.cycle.proofs.Occurrences.{wayFrom, underBlock, topOf, path-other, Silent, none-way, none-segments, Met, met, slots-at, placeOn, at-level, none-before-level}
+use Rattle.cycle.proofs.Occurrences.{wayFrom, topOf, path-other, Silent, none-way, none-segments, Met, met, slots-at, placeOn, at-level, none-before-level}
 use Rattle.cycle.proofs.FirstPlaces.{pathTop-stays, pathTop-parts, firstUnder, first-inside, first-turn, first-there, first-place}
 
 pub not-level : (l c : ℕ) (x : Slot) → (x .level ≡ l → ⊥) → occurs l c x ≡ false
@@ -177,13 +177,13 @@ module _ (t : Plan) (sound : Sound t) (one : t .layout ≡ 1) where
         (λ y u v. other-level (j - 1) parent y (above (t .n) (blockLevel t - y) b) (λ e. omega arith))
         (λ b′ u v.
         elim (ℕ-discrete (above (t .n) (blockLevel t - (j - 1)) b′) parent) [
-          yes e ↦
-            inl
-            (stays-under b b′ j (omega arith) (omega arith) u
-            (last-child j place (above (t .n) (blockLevel t - j) b′) last
-            (sym (parent-above b′ j (omega arith) (omega arith)) ∙ e ∙ parent-above b j (omega arith) (omega arith))
-            (above-inside b′ j (omega arith) (omega arith) v)))
-        | no f ↦ inr f
+          | yes e ↦
+              inl
+              (stays-under b b′ j (omega arith) (omega arith) u
+              (last-child j place (above (t .n) (blockLevel t - j) b′) last
+              (sym (parent-above b′ j (omega arith) (omega arith)) ∙ e ∙ parent-above b j (omega arith) (omega arith))
+              (above-inside b′ j (omega arith) (omega arith) v)))
+          | no f ↦ inr f
         ]))
 
     -- a further child: the level j - 1 bucket is sent again right before that one is sent first

@@ -71,18 +71,23 @@ module _ (n : ℕ) (pos : 0 < n) where
     where
       s : ℕ
       s = r - suc i
+
       p : ℕ
       p = above n s b
+
       height : r - i ≡ suc s
       height = omega arith
+
       parent : above n (r - i) b ≡ p / n
       parent = ap (λ x. above n x b) height ∙ above-suc n s b
+
       some-p : 0 < p
       some-p =
           ⊎-elim
           (λ (z : p ≡ 0). let none : p * n ^ s ≡ 0 = ap (λ x. x * n ^ s) z ∙ zero-mul (n ^ s) in absurd (omega (arith, e)))
           (λ (l : 0 < p). l)
           (eq-zero-or-pos p)
+
       before : above n s (b - 1) ≡ p - 1
       before =
           let m : 0 < n ^ s = one-le-pow s n pos in
@@ -92,8 +97,10 @@ module _ (n : ℕ) (pos : 0 < n) where
           let low = le-above n s pos (p - 1) (b - 1) (omega arith) in
           let high = lt-above n s pos p (b - 1) (omega arith) in
           omega arith
+
       parent-before : above n (r - i) (b - 1) ≡ (p - 1) / n
       parent-before = ap (λ x. above n x (b - 1)) height ∙ above-suc n s (b - 1) ∙ ap (λ x. x / n) before
+
       by-test :
           (above n (r - i) b * n ^ (r - i) ≡ b → lowest n r b i ≡ topOf n i (above n (r - i) b)) → (p % n ≡ 0) ⊎ (0 < p % n) →
           lowest n r b (suc i) ≡ topOf n (suc i) p
@@ -157,19 +164,26 @@ module _ (n : ℕ) (pos : 0 < n) where
     where
       whole : b / n * n + b % n ≡ b
       whole = div-add-mod' b n
+
       small : b % n < n
       small = mod-lt b pos
+
       high : topOf n r (b / n) ≤ r + 1
       high = top-high n pos r (b / n)
+
       next : up (suc b) n ≡ suc (b / n)
       next = up-is (suc b) n (b / n) pos (omega (arith, whole)) (omega (arith, whole, small))
+
       by-test :
           (0 < b / n → climbs n r (suc (b / n)) ≡ climbs n r (b / n) + (r + 1 - topOf n r (b / n))) → (b % n ≡ 0) ⊎ (0 < b % n) →
           climbs n (suc r) (suc b) ≡ climbs n (suc r) b + (suc r + 1 - topOf n (suc r) b)
       by-test rec (inl z) =
           let q : ℕ = b / n in
           let some-q : 0 < q =
-          ⊎-elim (λ (y : q ≡ 0). let none : q * n ≡ 0 = ap (λ x. x * n) y ∙ zero-mul n in absurd (omega (arith, whole))) (λ (l : 0 < q). l) (eq-zero-or-pos q) in
+          ⊎-elim
+          (λ (y : q ≡ 0). let none : q * n ≡ 0 = ap (λ x. x * n) y ∙ zero-mul n in absurd (omega (arith, whole)))
+          (λ (l : 0 < q). l)
+          (eq-zero-or-pos q) in
           let split : q ≡ suc (q - 1) = omega arith in
           let apart : q * n ≡ (q - 1) * n + n = ap (λ x. x * n) split ∙ suc-mul (q - 1) n in
           let same : up b n ≡ q = up-is b n (q - 1) pos (omega (arith, whole)) (omega (arith, whole)) ∙ sym split in

@@ -18,7 +18,6 @@ use Rattle.cycle.proofs.Ranges.{length-range}
 use Rattle.cycle.proofs.SegmentSizes.{length-sent}
 use Rattle.cycle.proofs.Laid.{Laid}
 
-
 -- what stands in the cycle ends within it
 pub stand-fits : (t : Plan) (x : ℕ) (xs : List Slot) → Stand t x xs → x + length xs ≤ cycleSize t
 unfolding cycleSize

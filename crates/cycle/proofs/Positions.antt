@@ -1,20 +1,18 @@
 -- The bucket at a position of the cycle: which one of the tree it is, what is sent before and behind it, and what stands in it.
 -- Assumes nothing.
-use mathlib.Core.Path.{_≡_, refl, sym, ap, ap₂, subst, _∙_}
-use Prim.Native.Nat.{ℕ, zero, suc, _+_, _-_, _≤_, _<_}
-use native.Mathlib.Nat.{add-zero, add-suc, suc-add, zero-add}
+use mathlib.Core.Path.{_≡_, refl, sym, ap, ap₂, _∙_}
+use Prim.Native.Nat.{ℕ, suc, _+_, _-_, _≤_, _<_}
+use native.Mathlib.Nat.{add-zero, add-suc, suc-add}
 use native.Mathlib.Omega.{arith}
-use mathlib.Core.Bool.{true, false}
 use mathlib.Core.Option.{Option, none}
 use mathlib.Core.List.{List, [], _∷_, _++_, map, append-assoc}
-use lib.ListN.{length, take, drop, getD, length-append, length-map}
-use lib.Seq.{take-at, drop-at, getD-at, split-at, length-take-le}
-use Rattle.columns.specs.Lists.{pick}
-use Rattle.buckets.specs.Bucket.{Body, indexBody, dataBody, Bucket, followOn}
+use lib.ListN.{length, take, drop, getD, length-append}
+use lib.Seq.{take-at, drop-at, split-at, length-take-le}
+use Rattle.buckets.specs.Bucket.{indexBody, dataBody}
 use Rattle.buckets.specs.Held.{headOf}
 use Rattle.cycle.specs.Tree.{Plan, lastTag, linesOf}
 use Rattle.cycle.specs.Layouts.{Slot, slot, slots}
-use Rattle.cycle.specs.Cycle.{isData, hasPairs, firstPair, laterPair, pairs, entry, entries, followOnFrom, toNextSegment, bodyOf, bucketOf, lastSent, bucketsFrom, buckets, cycleSize}
+use Rattle.cycle.specs.Cycle.{isData, hasPairs, laterPair, pairs, entries, followOnFrom, toNextSegment, bodyOf, bucketOf, lastSent, bucketsFrom, buckets, cycleSize}
 use Rattle.cycle.specs.Held.{bare, Stand, lastSentIn, lastSentBefore, noBucket, cycleBucket}
 use Rattle.cycle.proofs.Pieces.{index-slot, data-slot}
 
@@ -134,8 +132,8 @@ module _ {t : Plan} {x i j : ℕ} {xs : List Slot} (a : At t x i j xs) where
       i ≤ t .k →
       cycleBucket t x .body
       ≡ indexBody
-        (pairs t ((a .next ++ a .behind) ++ slots t) (lastSentBefore t x) (length (slots t) - x) (slot i j))
-        (entries t ((a .next ++ a .behind) ++ slots t) (slot i j))
+      (pairs t ((a .next ++ a .behind) ++ slots t) (lastSentBefore t x) (length (slots t) - x) (slot i j))
+      (entries t ((a .next ++ a .behind) ++ slots t) (slot i j))
   unfolding bodyOf slot
   index-at h = body-at ∙ rw (index-slot t (slot i j) h)
 
@@ -148,6 +146,6 @@ module _ {t : Plan} {x i j : ℕ} {xs : List Slot} (a : At t x i j xs) where
   pub head-at :
       headOf (cycleBucket t x)
       ≡ record
-        { position = x; «to_cycle» = length (slots t) - x; «to_segment» = toNextSegment (drop (suc x) (slots t) ++ slots t) }
+      { position = x; «to_cycle» = length (slots t) - x; «to_segment» = toNextSegment (drop (suc x) (slots t) ++ slots t) }
   unfolding headOf bucketOf
   head-at = rw (bucket-at, at-rest)

@@ -1,13 +1,12 @@
 -- Under the figures of a cycle: the lines of its data buckets, the tag of the last line sent, and follow-ons.
 -- Assumes nothing.
 use mathlib.Core.Path.{_≡_, refl, sym, ap, ap₂, subst, _∙_}
-use Prim.Native.Nat.{ℕ, zero, suc, _+_, _-_, _*_, _≤_, _<_, min, max}
+use Prim.Native.Nat.{ℕ, zero, suc, _+_, _-_, _*_, _<_, min}
 use native.Mathlib.Numerals.{add-one}
 use native.Mathlib.Omega.{arith}
 use mathlib.Core.List.{List, [], _∷_}
 use lib.Dec.{eqb}
-use Rattle.columns.specs.Lists.{pick, up}
-use Rattle.buckets.specs.declared.Line.{Line}
+use Rattle.columns.specs.Lists.{pick}
 use Rattle.buckets.specs.Bucket.{followOn}
 use Rattle.buckets.specs.Held.{tagOr0}
 use Rattle.cycle.specs.Tree.{Plan, firstTag, lastTag}
@@ -71,7 +70,7 @@ module _ (f : Figures) (ready : Ready f) (source : Source) (text : List ℕ) whe
         q + 1 < f .d →
         followOn (cycleBucket (planIn f source text) x .body)
         ≡ pick (eqb (tagAt f source text ((q + 1) * f .p)) (tagAt f source text ((q + 1) * f .p - 1)))
-          (firstPlace (planOf f []) (f .k + 1) (q + 1) - x) 0
+        (firstPlace (planOf f []) (f .k + 1) (q + 1) - x) 0
     unfolding planIn planOf
     follow-next h =
         let next : suc q < f .d = omega arith in

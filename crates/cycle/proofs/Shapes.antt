@@ -2,12 +2,12 @@
 -- Assumes nothing.
 use mathlib.Core.Path.{_≡_, refl, ap, ap₂}
 use Prim.Native.Nat.{ℕ, zero, suc, _+_, _-_, _*_, _/_, _%_, max}
-use mathlib.Core.List.{List, [], _∷_, _++_, map}
+use mathlib.Core.List.{List, _∷_, _++_, map}
 use lib.Dec.{eqb, ltb}
 use lib.ListN.{length}
 use Rattle.columns.specs.Lists.{pick, joined, range}
 use Rattle.buckets.specs.declared.Line.{Line}
-use Rattle.cycle.specs.Tree.{Plan, width, children, above, under, dataUnder}
+use Rattle.cycle.specs.Tree.{width, children, above, under, dataUnder}
 use Rattle.cycle.specs.Layouts.{Slot, slot, segment, subtree, treeBelow, sent, path, distributedSegment, distributed, wholeSegment, oneM, slots}
 use Rattle.cycle.specs.Held.{planOf, treeAt, firstPlace, aheadOf, Stand, farDistances, nearDistances, placeOver, pairReach, pairDistances}
 use Rattle.cycle.specs.Cycle.{occurs, distanceTo}

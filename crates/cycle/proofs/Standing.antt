@@ -17,7 +17,6 @@ use Rattle.cycle.specs.Cycle.{distanceTo, toNextSegment}
 use Rattle.cycle.specs.Held.{bare, Stand, treeAt}
 use Rattle.cycle.proofs.Ranges.{map-append}
 
-
 -- ---- lists
 
 module _ {A B : Type 0} (f : A → B) where

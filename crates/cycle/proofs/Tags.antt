@@ -1,17 +1,16 @@
 -- The first and the last tag of a data bucket, as tags of lines of the text.
 -- Assumes nothing.
-use mathlib.Core.Path.{_≡_, refl, sym, ap, ap₂, _∙_}
+use mathlib.Core.Path.{_≡_, refl, sym, ap, _∙_}
 use Prim.Native.Nat.{ℕ, zero, suc, _+_, _-_, _*_, _≤_, _<_, min}
 use native.Mathlib.Nat.{add-zero, add-suc, suc-add, suc-mul}
 use native.Mathlib.Numerals.{add-one}
 use native.Mathlib.Omega.{arith}
 use mathlib.Core.List.{List, [], _∷_, map}
-use lib.ListN.{length, take, drop, getD}
-use lib.Seq.{take-nil, drop-nil}
-use Rattle.columns.specs.Lists.{lastOr, span, range}
+use lib.ListN.{take, drop}
+use Rattle.columns.specs.Lists.{lastOr, span}
 use Rattle.buckets.specs.declared.Line.{Line}
 use Rattle.buckets.specs.ListLine.{spelled}
-use Rattle.cycle.specs.Tree.{Plan, linesOf, tagsOf, firstTag, lastTag}
+use Rattle.cycle.specs.Tree.{linesOf, tagsOf, firstTag, lastTag}
 use Rattle.cycle.specs.declared.Figures.{Figures}
 use Rattle.cycle.specs.declared.Source.{Source}
 use Rattle.cycle.specs.Held.{planOf, linesHeld, tagAt, planIn, lineAt}

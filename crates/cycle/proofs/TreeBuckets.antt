@@ -2,7 +2,7 @@
 -- Assumes nothing.
 use mathlib.Core.Path.{_≡_, refl, sym, ap, ap₂, subst, _∙_}
 use mathlib.Core.Logic.{⊎-elim}
-use Prim.Native.Nat.{ℕ, zero, suc, _+_, _-_, _*_, _^_, _≤_, _<_}
+use Prim.Native.Nat.{ℕ, zero, suc, _+_, _-_, _^_, _≤_, _<_}
 use native.Mathlib.Nat.{one-le-pow}
 use native.Mathlib.Omega.{arith}
 use mathlib.Core.Bool.{true, true≢false}
@@ -10,9 +10,8 @@ use mathlib.Core.List.{List, [], _∷_, _++_, map}
 use lib.ListN.{length}
 use borrow.Author.Tests.{eq-eqb}
 use Rattle.columns.specs.Lists.{any, joined, up}
-use Rattle.buckets.specs.declared.Index.{Index}
 use Rattle.buckets.specs.declared.Line.{Line}
-use Rattle.buckets.specs.Bucket.{Pair, Entry, indexBody}
+use Rattle.buckets.specs.Bucket.{Pair, Entry}
 use Rattle.buckets.specs.Held.{filled, heldIndex}
 use Rattle.cycle.specs.Tree.{Plan, children}
 use Rattle.cycle.specs.Layouts.{Slot, slot, slots, subtree}
@@ -21,14 +20,14 @@ use Rattle.cycle.specs.declared.Figures.{Figures}
 use Rattle.cycle.specs.declared.Segment.{Segment}
 use Rattle.cycle.specs.declared.Source.{Source}
 use Rattle.cycle.specs.Held.{planOf, Ready, InTree, Stand, Placed, treeAt, linesHeld, planIn, lastOf, lastSentBefore, cycleBucket, asIndex, childTags, farDistances, nearDistances, treePairs, entered}
-use Rattle.cycle.proofs.Sequence.{Sound, Keeps}
+use Rattle.cycle.proofs.Sequence.{Sound}
 use Rattle.cycle.proofs.Keeping.{keeps}
 use Rattle.cycle.proofs.Ranges.{le-or-lt}
 use Rattle.cycle.proofs.Readiness.{sound}
 use Rattle.cycle.proofs.Shapes.{children-shape, treeAt-shape, slots-shape, stand-shape, farDistances-shape, nearDistances-shape}
 use Rattle.cycle.proofs.Positions.{At, stand-at, at-length, index-at}
 use Rattle.cycle.proofs.NextOccurrence.{toSend}
-use Rattle.cycle.proofs.TreeEntries.{subtrees, tree-low, at-among}
+use Rattle.cycle.proofs.TreeEntries.{tree-low, at-among}
 use Rattle.cycle.proofs.TreeLaws.{up-least}
 use Rattle.cycle.proofs.Children.{size-slots, children-count}
 use Rattle.cycle.proofs.IndexBuckets.{entry-count, entry-tags, far-data, near-index, tree-pairs-are}
@@ -46,13 +45,13 @@ nil-of [] h = refl
 nil-of (x ∷ xs) h = absurd (omega arith)
 
 module _ (f : Figures) (ready : Ready f) (source : Source) (text : List ℕ) (s : Segment) (placed : Placed (planIn f source text) s) (e j x : ℕ) (low : 1 ≤ e) (inside : InTree f e j) (after : s .«tree_at» ≤ x) (fits : x + length (treeAt (planOf f []) e j) ≤ s .«data_at») (stands : Stand (planOf f []) x (treeAt (planOf f []) e j)) where
-  abbrev pub ls : List Line
+  abbrev ls : List Line
   ls = linesHeld f source text
 
-  abbrev pub t : Plan
+  abbrev t : Plan
   t = planOf f ls
 
-  abbrev pub i : ℕ
+  abbrev i : ℕ
   i = f .k + 1 - e
 
   pos : 0 < f .n
@@ -75,17 +74,17 @@ module _ (f : Figures) (ready : Ready f) (source : Source) (text : List ℕ) (s 
       let more : e ≡ suc (e - 1) = omega arith in
       subst (Stand t x) (treeAt-shape f [] ls e j ∙ ap (λ z. subtree t z i j) more) (stand-shape f [] ls stands)
 
-  pub here : At t x i j (joined (λ c. subtree t (e - 1) (suc i) c) (children t i j))
-  here = stand-at tree-stands
+  pub treeAtHere : At t x i j (joined (λ c. subtree t (e - 1) (suc i) c) (children t i j))
+  treeAtHere = stand-at tree-stands
 
   abbrev pub ahead : List Slot
-  ahead = toSend here ++ slots t
+  ahead = toSend treeAtHere ++ slots t
 
   size : f .size ≡ length (slots t)
   size = size-slots f ready ∙ ap length (slots-shape f [] ls)
 
   pub tree-here : x < f .size
-  tree-here = omega (arith, size, at-length here)
+  tree-here = omega (arith, size, at-length treeAtHere)
 
   before-data : x < s .«data_at»
   unfolding treeAt
@@ -104,7 +103,7 @@ module _ (f : Figures) (ready : Ready f) (source : Source) (text : List ℕ) (s 
       let h : ℕ = s .height in
       let tall : h ≡ f .k - f .copies = place .height-is ∙ rw (eq-eqb (f .layout) 1 one) in
       let among : any (occurs i j) (subtree t h (f .k + 1 - h) (s .root)) ≡ true =
-      at-among here (place .tree-stands) after (omega (arith, before-data, place .tree-length)) in
+      at-among treeAtHere (place .tree-stands) after (omega (arith, before-data, place .tree-length)) in
       ⊎-elim
       (λ (l : f .k + 1 - h ≤ i). omega (arith, held .path-fits one))
       (λ (l : i < f .k + 1 - h). absurd (true≢false (sym among ∙ tree-low t i j h (f .k + 1 - h) (s .root) l)))
@@ -118,7 +117,7 @@ module _ (f : Figures) (ready : Ready f) (source : Source) (text : List ℕ) (s 
       ≡ heldIndex (treePairs (planOf f []) e (lastOf (planIn f source text) (s .first)) (f .size - x)) treeEntries
   unfolding planIn planOf treePairs
   tree-index-is =
-      ap asIndex (index-at here (omega arith))
+      ap asIndex (index-at treeAtHere (omega arith))
       ∙ ap₂ (λ l n. heldIndex (pairs t ahead l (n - x) (slot i j)) treeEntries) last-is (sym size)
       ∙ ap (λ ps. heldIndex ps treeEntries)
       (tree-pairs-are t ahead (lastOf t (s .first)) (f .size - x) e i j refl low high (ready .shaped .layout-low) (ready .shaped .layout-high) copies-above)
@@ -133,7 +132,7 @@ module _ (f : Figures) (ready : Ready f) (source : Source) (text : List ℕ) (s 
   pub tree-far : e ≡ 1 → map (λ y. y .distance) treeEntries ≡ farDistances (planOf f []) (f .size) x e j
   unfolding planOf
   tree-far one =
-      far-data t pos (keeps t held) here e one refl
+      far-data t pos (keeps t held) treeAtHere e one refl
       ∙ ap (λ n. farDistances t n x e j) (sym size)
       ∙ farDistances-shape f ls [] (f .size) x e j
 
@@ -141,7 +140,7 @@ module _ (f : Figures) (ready : Ready f) (source : Source) (text : List ℕ) (s 
   unfolding planOf
   tree-near more =
       let all : suc (e - 1) ≡ e = omega arith in
-      near-below t pos (e - 1) here (omega arith) (omega arith) (omega (arith, high))
+      near-below t pos (e - 1) treeAtHere (omega arith) (omega arith) (omega (arith, high))
       ∙ ap (λ z. nearDistances t z j) all
       ∙ nearDistances-shape f ls [] e j
 

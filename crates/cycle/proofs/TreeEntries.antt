@@ -11,7 +11,7 @@ use lib.Dec.{eqb}
 use lib.ListN.{length, getD, List·getD-append, length-map}
 use lib.Seq.{getD-at, getD-append-add}
 use borrow.Author.Tests.{ne-eqb, eq-eqb}
-use Rattle.columns.specs.Lists.{pick, any, joined, span, range}
+use Rattle.columns.specs.Lists.{pick, any, joined, range}
 use Rattle.cycle.specs.Tree.{Plan, width, children}
 use Rattle.cycle.specs.Layouts.{Slot, slot, slots, subtree}
 use Rattle.cycle.specs.Cycle.{occurs, distanceTo, toNext}

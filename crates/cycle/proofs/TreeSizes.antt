@@ -155,7 +155,9 @@ module _ (n d : ℕ) (pos : 0 < n) where
   lastRows-are e j zero h = refl
   lastRows-are e j (suc c) h =
       let m : e - c ≡ suc (e - suc c) = omega arith in
-      let power : j * n ^ (e - suc c) * n ≡ j * n ^ (e - c) = mul-assoc j (n ^ (e - suc c)) n ∙ ap (λ x. j * x) (mul-comm (n ^ (e - suc c)) n ∙ sym (pow-succ' n (e - suc c)) ∙ ap (λ x. n ^ x) (sym m)) in
+      let next : n ^ (e - suc c) * n ≡ n ^ (e - c) =
+      mul-comm (n ^ (e - suc c)) n ∙ sym (pow-succ' n (e - suc c)) ∙ ap (λ x. n ^ x) (sym m) in
+      let power : j * n ^ (e - suc c) * n ≡ j * n ^ (e - c) = mul-assoc j (n ^ (e - suc c)) n ∙ ap (λ x. j * x) next in
       let r = lastRows-are e j c (omega arith) in
       rows-last c (j * n ^ (e - suc c))
       ∙ rw (power, r, grouped-up n d pos (suc c)) (omega arith)

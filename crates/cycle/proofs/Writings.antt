@@ -2,7 +2,10 @@
 -- Assumes nothing.
 use mathlib.Core.Path.{_≡_, sym, ap, _∙_, subst}
 use Prim.Native.Nat.{ℕ, suc, _+_, _-_, _*_, _≤_, _<_}
+use native.Mathlib.Nat.{mul-le-mul}
 use native.Mathlib.Omega.{arith}
+use mir.Syntax.{w64}
+use mir.Val.{Fits}
 use mathlib.Core.List.{List, [], _++_}
 use lib.ListN.{length, drop}
 use Rattle.cycle.specs.Tree.{Plan, above, children}
@@ -21,6 +24,14 @@ use Rattle.cycle.proofs.ChildTrees.{tree-parts, tree-lowest, earlier, e
 use Rattle.cycle.proofs.Sending.{long-in}
 use Rattle.cycle.proofs.BucketsWritten.{HeldAt, index-held-at, tree-held-at}
 use Rattle.cycle.proofs.Written.{written-none, written-on, length-written}
+
+-- ---- a child's number
+
+pub first-fits : (a b : ℕ) → a ≤ 40000 → b ≤ 8 → Fits w64 (a * b)
+first-fits a b h g = let most : a * b ≤ 320000 = mul-le-mul {n₂ = 40000} {m₂ = 8} h g in omega arith
+
+pub child-fits : (a b i : ℕ) → a ≤ 40000 → b ≤ 8 → i < 8 → Fits w64 (a * b + i)
+child-fits a b i h g l = let most : a * b ≤ 320000 = mul-le-mul {n₂ = 40000} {m₂ = 8} h g in omega arith
 
 -- a bucket of the cycle is one of the tree's
 place-inside :
@@ -106,9 +117,6 @@ module _ (f : Figures) (list : List ℕ) (s : Segment) (r : ℕ) (w : Writing f 
     pub place-small : j ≤ 40000
     place-small = Readiness.reached f e j (w .sending .ready .shaped) (p .inside) .place
 
-    pub first-small : j * f .n ≤ 320000
-    first-small = Children.first-small f (w .sending .ready) e j (p .low) (p .inside)
-
     pub tree-some : 1 ≤ length (treeAt (planOf f []) e j)
     tree-some = rw (tree-parts f e j (p .low) tree-high) (omega arith)
 
@@ -120,6 +128,9 @@ module _ (f : Figures) (list : List ℕ) (s : Segment) (r : ℕ) (w : Writing f 
 
     pub tree-alone : e ≡ 1 → length (treeAt (planOf f []) e j) ≡ 1
     tree-alone one = rw one (tree-lowest f j (omega (arith, tree-high)))
+
+    pub child-few : (i : ℕ) → i < length (children (planOf f []) (f .k + 1 - e) j) → i < 8
+    child-few i h = Children.few f (w .sending .ready) e j (p .low) (p .inside) i h
 
     pub child-place :
         (i next : ℕ) → (e ≡ 1 → ⊥) → i < length (children (planOf f []) (f .k + 1 - e) j) →
@@ -139,9 +150,6 @@ module _ (f : Figures) (list : List ℕ) (s : Segment) (r : ℕ) (w : Writing f 
     module _ (d : List ℕ) (room : length d ≡ r) where
       enough : 240 * f .size ≤ length d
       enough = omega (arith, w .roomy)
-
-      pub first-child : d ≡ written (planIn f InList list) d (x + 1) (x + 1)
-      first-child = sym (written-none (planIn f InList list) (f .size) (long-in f list (w .sending)) d enough (x + 1))
 
       pub next-child :
           (image : List ℕ) (next next′ i : ℕ) → (e ≡ 1 → ⊥) → i < length (children (planOf f []) (f .k + 1 - e) j) →
@@ -182,14 +190,11 @@ module _ (f : Figures) (list : List ℕ) (s : Segment) (r : ℕ) (w : Writing f 
           image ≡ written (planIn f InList list) d (x + 1) next →
           (next ≡ x + length (treeAt (planOf f []) e j)) × (image ≡ written (planIn f InList list) entry x (x + length (treeAt (planOf f []) e j)))
       last-child entry image next i long first all is here =
-          let t : Plan = planIn f InList list in
           let count : 1 + length (earlier f e j i) ≡ length (treeAt (planOf f []) e j) =
           ap (λ m. 1 + length (earlier f e j m)) all ∙ earlier-all f e j (p .low) tree-high in
           let end : next ≡ x + length (treeAt (planOf f []) e j) = omega arith in (
             end,
-            here
-                ∙ ap (λ m. written t m (x + 1) next) first
-                ∙ written-on t (f .size) (long-in f list (w .sending)) entry (omega (arith, w .roomy)) x (x + 1) next (omega arith) (omega arith)
-                (omega (arith, p .before-data, seats))
-                ∙ ap (λ y. written t entry x y) end,
+            grown f list (w .sending) entry (omega (arith, w .roomy)) x d image (x + 1) next (omega arith) (omega arith)
+                (omega (arith, p .before-data, seats)) first here
+                ∙ ap (written (planIn f InList list) entry x) end,
           )

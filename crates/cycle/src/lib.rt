@@ -1,9 +1,9 @@
 // Tree, layouts and cycle: document 01, "The tree"; building and reading back.
 pub mod build;
-pub mod index;
-pub mod places;
-pub mod segments;
-pub mod sizes;
+mod index;
+mod places;
+mod segments;
+mod sizes;
 
 // What building answers: the cycle's number of buckets, or a refusal's number and place.
 pub enum Built {

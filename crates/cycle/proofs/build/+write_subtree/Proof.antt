@@ -3,7 +3,7 @@
 -- Assumes nothing.
 use mathlib.Core.Path.{_≡_, refl, ap, _∙_}
 use mathlib.Core.List.{[]}
-use Prim.Native.Nat.{ℕ, _+_, _-_, _*_, _≤_, _<_}
+use Prim.Native.Nat.{ℕ, _+_, _-_, _≤_, _<_}
 use native.Mathlib.Omega.{arith}
 use lib.ListN.{length}
 use borrow.Fn.Kinds.{In}
@@ -12,7 +12,7 @@ use Rattle.cycle.specs.Tree.{children}
 use Rattle.cycle.specs.Held.{planOf, planIn, treeAt, written}
 use Rattle.cycle.specs.declared.Source.the-variants.{List as InList}
 use Rattle.cycle.proofs.ChildTrees.{earlier, earlier-none}
-use Rattle.cycle.proofs.Writings.{seats, writing-kept, place-small, first-small, tree-before, tree-alone, child-place, child-room, first-child, next-child, last-room, last-child}
+use Rattle.cycle.proofs.Writings.{seats, writing-kept, first-fits, child-fits, place-small, child-few, tree-before, tree-alone, child-place, child-room, begun, next-child, last-room, last-child}
 use Rattle.cycle.proofs.build.write_subtree.Reads as write-subtree
 use Rattle.cycle.proofs.build.write_subtree.Kinds as write-subtree-kinds
 use Rattle.cycle.proofs.build.+write_subtree.Lts-write_subtree as write-subtree-lts
@@ -81,7 +81,7 @@ pub +write-subtree-spec : {M : Type 1} → statement M
     let p = st .pre .1 .1 in
     let a = st .args in
     let r = length (a .image .now) in
-    omega (arith, first-small (a .f) (a .list .now) (a .s) r w (a .e) (a .j) (a .x) p))
+    first-fits _ _ (place-small (a .f) (a .list .now) (a .s) r w (a .e) (a .j) (a .x) p) (omega (arith, w .sending .ready .shaped)))
     -- loop-holds
     (λ c. let st = c .before .before .before .before .before .before .before .before in
     let w = st .pre .1 .0 in
@@ -89,7 +89,7 @@ pub +write-subtree-spec : {M : Type 1} → statement M
     let a = st .args in
     let r = length (a .image .now) in
     let call = c .before .before .before .before .write-tree-bucket in
-    (omega arith, omega (arith, earlier-none (a .f) (a .e) (a .j)), first-child (a .f) (a .list .now) (a .s) r w (a .e) (a .j) (a .x) p (call .last .0) (call .kept .0)))
+    (omega arith, omega (arith, earlier-none (a .f) (a .e) (a .j)), begun (a .f) (a .list .now) (w .sending) (call .last .0) (omega (arith, w .roomy, call .kept .0)) (a .x + 1)))
     -- add-write-subtree
     (λ c. let loop = c .before .before in
     let st = loop .before .before .before .before .before .before .before .before .before in
@@ -98,8 +98,8 @@ pub +write-subtree-spec : {M : Type 1} → statement M
     let a = st .args in
     let r = length (a .image .now) in
     let call = loop .before .before .before .before .before .write-tree-bucket in
-    let place = child-place (a .f) (a .list .now) (a .s) r w (a .e) (a .j) (a .x) p (loop .loop .i) (loop .loop .next) (loop .before .before .if1 .left) (omega (arith, c .before .loop-test .taken, call .ensures .0)) (loop .loop .inv .1) in
-    omega (arith, place-small (a .f) (a .list .now) (a .s) r w (a .e - 1) (a .j * a .f .n + loop .loop .i) (loop .loop .next) place))
+    let few = child-few (a .f) (a .list .now) (a .s) r w (a .e) (a .j) (a .x) p (loop .loop .i) (omega (arith, c .before .loop-test .taken, call .ensures .0)) in
+    child-fits _ _ _ (place-small (a .f) (a .list .now) (a .s) r w (a .e) (a .j) (a .x) p) (omega (arith, w .sending .ready .shaped)) few)
     -- write-subtree-requires
     (λ c κs. let loop = c .before .before in
     let st = loop .before .before .before .before .before .before .before .before .before in

@@ -1,6 +1,5 @@
 -- `cycle::index::ahead` meets its contract.
 -- Assumes nothing.
-use borrow.Author.Needs.{needs}
 use borrow.Author.Tests.{lt-ltb, le-ltb}
 use native.Mathlib.Omega.{arith}
 use Rattle.cycle.specs.Held.{aheadOf}

@@ -6,7 +6,7 @@ use Prim.Native.Nat.{ℕ, suc, _+_, _-_, _*_, _^_, _<_, max}
 use native.Mathlib.Nat.{pow-zero, mul-one}
 use native.Mathlib.Omega.{arith}
 use Rattle.cycle.specs.Held.{planOf, InTree, firstPlace}
-use Rattle.cycle.proofs.Readiness.{reached, levels-are}
+use Rattle.cycle.proofs.Readiness.{levels-are}
 use Rattle.cycle.proofs.index.child_place.Statement.{statement}
 use Rattle.cycle.proofs.index.child_place.Tie as tie
 
@@ -38,12 +38,13 @@ first-place-requires c κs =
     let e : ℕ = s .args .e in
     let k : ℕ = s .args .f .k in
     let more = s .pre .5 (omega (arith, c .before .if1 .left, s .pre .2)) in
-    let height : e - 1 ≡ k + 1 - (k + 2 - e) = omega (arith, s .pre .2, s .pre .3) in
-    (s .pre .0,
-    more .0,
-    omega (arith, s .pre .3),
-    omega (arith, more .1, s .pre .3),
-    subst (λ h. InTree (s .args .f) h (s .args .c)) height (s .pre .4))
+    let height : e - 1 ≡ k + 1 - (k + 2 - e) = omega (arith, s .pre .2, s .pre .3) in (
+      s .pre .0,
+      more .0,
+      omega (arith, s .pre .3),
+      omega (arith, more .1, s .pre .3),
+      subst (λ h. InTree (s .args .f) h (s .args .c)) height (s .pre .4),
+    )
 
 returns-2 : tie.Need-returns-2
 returns-2 c =

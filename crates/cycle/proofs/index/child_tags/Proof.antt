@@ -1,7 +1,7 @@
 -- `cycle::index::child_tags` meets its contract. The loop's invariant: the tags of the children passed are filled in.
 -- Assumes nothing.
 use mathlib.Core.Path.{_≡_, refl, sym, ap, _∙_}
-use mathlib.Core.List.{List, [], map}
+use mathlib.Core.List.{[], map}
 use Prim.Native.Nat.{ℕ, suc, _+_, _-_, _*_, _≤_}
 use native.Mathlib.Omega.{arith}
 use lib.ListN.{length}
@@ -37,9 +37,11 @@ loop-holds c = (omega arith, refl)
 add-largest-tag : tie.Need-add-largest-tag Inv-loop μ-loop
 add-largest-tag c =
     let s = c .before .before .before .before in
-    omega
-    (arith, first-small (s .args .f) (s .pre .0) (s .args .e) (s .args .j) (s .pre .3) (s .pre .4),
-    few (s .args .f) (s .pre .0) (s .args .e) (s .args .j) (s .pre .3) (s .pre .4) (c .before .loop .i) (omega (arith, s .pre .5)))
+    omega (
+      arith,
+      first-small (s .args .f) (s .pre .0) (s .args .e) (s .args .j) (s .pre .3) (s .pre .4),
+      few (s .args .f) (s .pre .0) (s .args .e) (s .args .j) (s .pre .3) (s .pre .4) (c .before .loop .i) (omega (arith, s .pre .5)),
+    )
 
 largest-tag-requires : tie.Need-largest-tag-requires Inv-loop μ-loop
 largest-tag-requires c κs =
@@ -77,11 +79,12 @@ loop-again c =
     let i : ℕ = l .i in
     let a : ℕ = s .args .j * f .n in
     let level : f .k + 1 - (s .args .e - 1) ≡ suc (f .k + 1 - s .args .e) =
-    omega (arith, high f (s .pre .0) (s .args .e) (s .args .j) (s .pre .3) (s .pre .4)) in
-    (omega arith,
-    fill-turn 8 (largestTag t (suc (f .k + 1 - s .args .e))) a i (c .largest-tag .result) (l .tags) (l .inv .1)
-    (c .largest-tag .ensures ∙ ap (λ z. largestTag t z (a + i)) level)
-    (few f (s .pre .0) (s .args .e) (s .args .j) (s .pre .3) (s .pre .4) i (omega (arith, s .pre .5))))
+    omega (arith, high f (s .pre .0) (s .args .e) (s .args .j) (s .pre .3) (s .pre .4)) in (
+      omega arith,
+      fill-turn 8 (largestTag t (suc (f .k + 1 - s .args .e))) a i (c .largest-tag .result) (l .tags) (l .inv .1)
+          (c .largest-tag .ensures ∙ ap (λ z. largestTag t z (a + i)) level)
+          (few f (s .pre .0) (s .args .e) (s .args .j) (s .pre .3) (s .pre .4) i (omega (arith, s .pre .5))),
+    )
 
 returns : tie.Need-returns Inv-loop μ-loop
 unfolding childTags planIn planOf

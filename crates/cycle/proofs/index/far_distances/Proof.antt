@@ -1,7 +1,7 @@
 -- `cycle::index::far_distances` meets its contract. The loop's invariant: the distances to the children passed are filled in.
 -- Assumes nothing.
 use mathlib.Core.Path.{_≡_, refl, sym, ap, _∙_}
-use mathlib.Core.List.{List, [], map}
+use mathlib.Core.List.{[], map}
 use Prim.Native.Nat.{ℕ, suc, _+_, _-_, _*_, _≤_}
 use native.Mathlib.Omega.{arith}
 use lib.ListN.{length}
@@ -34,9 +34,11 @@ loop-holds c = (omega arith, refl)
 add-child-place : tie.Need-add-child-place Inv-loop μ-loop
 add-child-place c =
     let s = c .before .before .before in
-    omega
-    (arith, first-small (s .args .f) (s .pre .0) (s .args .e) (s .args .j) (s .pre .2) (s .pre .3),
-    few (s .args .f) (s .pre .0) (s .args .e) (s .args .j) (s .pre .2) (s .pre .3) (c .before .loop .i) (omega (arith, s .pre .5)))
+    omega (
+      arith,
+      first-small (s .args .f) (s .pre .0) (s .args .e) (s .args .j) (s .pre .2) (s .pre .3),
+      few (s .args .f) (s .pre .0) (s .args .e) (s .args .j) (s .pre .2) (s .pre .3) (c .before .loop .i) (omega (arith, s .pre .5)),
+    )
 
 child-place-requires : tie.Need-child-place-requires Inv-loop μ-loop
 child-place-requires c κs =
@@ -52,12 +54,16 @@ child-place-requires c κs =
 ahead-requires : tie.Need-ahead-requires Inv-loop μ-loop
 ahead-requires c κs =
     let s = c .before .before .before .before in
-    let f = s .args .f in
-    (s .pre .6,
-    omega
-    (arith, c .child-place .ensures, size-slots f (s .pre .0),
-    first-high (planOf f []) (suc (f .k + 1 - s .args .e)) (s .args .j * f .n + c .before .before .loop .i)),
-    s .pre .0 .size-high)
+    let f = s .args .f in (
+      s .pre .6,
+      omega (
+        arith,
+        c .child-place .ensures,
+        size-slots f (s .pre .0),
+        first-high (planOf f []) (suc (f .k + 1 - s .args .e)) (s .args .j * f .n + c .before .before .loop .i),
+      ),
+      s .pre .0 .size-high,
+    )
 
 mul-distances : tie.Need-mul-distances Inv-loop μ-loop
 mul-distances c =
@@ -85,11 +91,12 @@ loop-again c =
     let x : ℕ = s .args .x in
     let i : ℕ = l .i in
     let a : ℕ = s .args .j * f .n in
-    let g : ℕ → ℕ = λ z. aheadOf (f .size) x (firstPlace (planOf f []) (suc (f .k + 1 - s .args .e)) z) in
-    (omega arith,
-    fill-turn 8 g a i (c .ahead .result) (l .distances) (l .inv .1)
-    (c .ahead .ensures ∙ ap (aheadOf (f .size) x) (c .before .child-place .ensures))
-    (few f (s .pre .0) (s .args .e) (s .args .j) (s .pre .2) (s .pre .3) i (omega (arith, s .pre .5))))
+    let g : ℕ → ℕ = λ z. aheadOf (f .size) x (firstPlace (planOf f []) (suc (f .k + 1 - s .args .e)) z) in (
+      omega arith,
+      fill-turn 8 g a i (c .ahead .result) (l .distances) (l .inv .1)
+          (c .ahead .ensures ∙ ap (aheadOf (f .size) x) (c .before .child-place .ensures))
+          (few f (s .pre .0) (s .args .e) (s .args .j) (s .pre .2) (s .pre .3) i (omega (arith, s .pre .5))),
+    )
 
 returns : tie.Need-returns Inv-loop μ-loop
 unfolding farDistances planOf

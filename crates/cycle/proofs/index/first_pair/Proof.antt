@@ -1,8 +1,7 @@
 -- `cycle::index::first_pair` meets its contract.
 -- Assumes nothing.
-use mathlib.Core.Path.{_≡_, refl}
 use mathlib.Core.List.{[], _∷_}
-use Prim.Native.Nat.{ℕ, _-_}
+use Prim.Native.Nat.{_-_}
 use native.Mathlib.Omega.{arith}
 use Rattle.buckets.specs.Held.{filled, heldIndex}
 use Rattle.cycle.specs.Cycle.{firstPair}

@@ -2,10 +2,9 @@
 -- Assumes nothing.
 use mathlib.Core.Path.{_≡_, sym, ap, _∙_}
 use mathlib.Core.List.{[]}
-use Prim.Native.Nat.{ℕ, _+_, _-_, _*_, _≤_, _<_}
+use Prim.Native.Nat.{ℕ, _+_, _-_, _*_, _≤_}
 use native.Mathlib.Nat.{mul-le-mul}
 use native.Mathlib.Omega.{arith}
-use lib.Dec.{eqb}
 use borrow.Author.Tests.{ne-eqb, eq-eqb}
 use Rattle.columns.specs.Lists.{pick}
 use Rattle.cycle.specs.Held.{planOf, firstPlace, tagAt}
@@ -36,17 +35,19 @@ sub-tag-of c =
 
 tag-of-requires : tie.Need-tag-of-requires
 tag-of-requires c κs =
-    let s = c .before .before .before .before in
-    (s .pre .0,
-    omega (arith, full-lines (s .args .f) (s .pre .0 .shaped) (s .args .q + 1) (omega (arith, s .pre .2, c .before .if1 .left))),
-    s .pre .1)
+    let s = c .before .before .before .before in (
+      s .pre .0,
+      omega (arith, full-lines (s .args .f) (s .pre .0 .shaped) (s .args .q + 1) (omega (arith, s .pre .2, c .before .if1 .left))),
+      s .pre .1,
+    )
 
 tag-of-requires-2 : tie.Need-tag-of-requires-2
 tag-of-requires-2 c κs =
-    let s = c .before .before .before .before .before in
-    (s .pre .0,
-    full-lines (s .args .f) (s .pre .0 .shaped) (s .args .q + 1) (omega (arith, s .pre .2, c .before .before .if1 .left)),
-    s .pre .1)
+    let s = c .before .before .before .before .before in (
+      s .pre .0,
+      full-lines (s .args .f) (s .pre .0 .shaped) (s .args .q + 1) (omega (arith, s .pre .2, c .before .before .if1 .left)),
+      s .pre .1,
+    )
 
 data-place-requires : tie.Need-data-place-requires
 data-place-requires c κs =
@@ -56,10 +57,12 @@ data-place-requires c κs =
 sub-result : tie.Need-sub-result
 sub-result c =
     let s = c .before .before .before .before .before .before .before .before in
-    omega
-    (arith, c .data-place .ensures,
-    follow-far (s .args .f) (s .pre .0) (s .args .source) (s .args .text .now) (s .args .q) (s .args .x) (s .pre .3)
-    (omega (arith, s .pre .2, c .before .before .before .before .before .if1 .left)))
+    omega (
+      arith,
+      c .data-place .ensures,
+      follow-far (s .args .f) (s .pre .0) (s .args .source) (s .args .text .now) (s .args .q) (s .args .x) (s .pre .3)
+          (omega (arith, s .pre .2, c .before .before .before .before .before .if1 .left)),
+    )
 
 returns-2 : tie.Need-returns-2
 returns-2 c =

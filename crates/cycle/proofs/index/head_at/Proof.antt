@@ -1,13 +1,12 @@
 -- `cycle::index::head_at` meets its contract: what the bucket at x has for a head.
 -- Assumes nothing.
-use mathlib.Core.Path.{_≡_, sym, ap, ap₂, _∙_}
-use mathlib.Core.List.{[], _++_}
-use Prim.Native.Nat.{ℕ, suc, _-_}
+use mathlib.Core.Path.{_≡_, sym, ap₂, _∙_}
+use mathlib.Core.List.{[]}
+use Prim.Native.Nat.{ℕ, _-_}
 use native.Mathlib.Omega.{arith}
-use lib.ListN.{length, drop}
+use lib.ListN.{length}
 use Rattle.buckets.specs.declared.Head.{Head}
 use Rattle.cycle.specs.Layouts.{slots}
-use Rattle.cycle.specs.Cycle.{toNextSegment}
 use Rattle.cycle.specs.Held.{planOf}
 use Rattle.cycle.proofs.Positions.{at-position, head-at}
 use Rattle.cycle.proofs.Children.{size-slots}

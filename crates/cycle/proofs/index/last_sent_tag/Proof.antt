@@ -1,7 +1,7 @@
 -- `cycle::index::last_sent_tag` meets its contract.
 -- Assumes nothing.
-use mathlib.Core.Path.{_≡_, sym, ap, _∙_}
-use Prim.Native.Nat.{ℕ, _+_, _-_, _*_, _≤_}
+use mathlib.Core.Path.{sym, ap, _∙_}
+use Prim.Native.Nat.{_*_, _≤_}
 use native.Mathlib.Nat.{mul-le-mul}
 use native.Mathlib.Omega.{arith}
 use Rattle.buckets.specs.Held.{tagOr0}
@@ -29,10 +29,11 @@ sub-tag-of c =
 
 tag-of-requires : tie.Need-tag-of-requires
 tag-of-requires c κs =
-    let s = c .before .before .before in
-    (s .pre .0,
-    omega (arith, full-lines (s .args .f) (s .pre .0 .shaped) (s .args .sent) (omega (arith, c .before .if1 .left))),
-    s .pre .1)
+    let s = c .before .before .before in (
+      s .pre .0,
+      omega (arith, full-lines (s .args .f) (s .pre .0 .shaped) (s .args .sent) (omega (arith, c .before .if1 .left))),
+      s .pre .1,
+    )
 
 returns-2 : tie.Need-returns-2
 returns-2 c =

@@ -2,7 +2,7 @@
 -- d is the one to the next.
 -- Assumes nothing.
 use mathlib.Core.Path.{_≡_, refl, sym, ap, _∙_}
-use mathlib.Core.List.{List, [], map}
+use mathlib.Core.List.{[], map}
 use Prim.Native.Nat.{ℕ, _+_, _-_, _*_, _≤_}
 use native.Mathlib.Omega.{arith}
 use lib.ListN.{length}
@@ -50,9 +50,11 @@ array-write-distances c =
 add-tree-size : tie.Need-add-tree-size Inv-loop μ-loop
 add-tree-size c =
     let s = c .before .before .before in
-    omega
-    (arith, first-small (s .args .f) (s .pre .0) (s .args .e) (s .args .j) (omega arith) (s .pre .2),
-    few (s .args .f) (s .pre .0) (s .args .e) (s .args .j) (omega arith) (s .pre .2) (c .before .loop .i) (omega (arith, s .pre .3)))
+    omega (
+      arith,
+      first-small (s .args .f) (s .pre .0) (s .args .e) (s .args .j) (omega arith) (s .pre .2),
+      few (s .args .f) (s .pre .0) (s .args .e) (s .args .j) (omega arith) (s .pre .2) (c .before .loop .i) (omega (arith, s .pre .3)),
+    )
 
 tree-size-requires : tie.Need-tree-size-requires Inv-loop μ-loop
 tree-size-requires c κs =
@@ -66,10 +68,12 @@ add-d : tie.Need-add-d Inv-loop μ-loop
 add-d c =
     let s = c .before .before .before .before in
     let i : ℕ = c .before .before .loop .i in
-    omega
-    (arith, c .tree-size .ensures,
-    tree-small (s .args .f) (s .pre .0) (s .args .e) (s .args .j) (omega arith) (s .pre .2) (s .args .e - 1) (s .args .j * s .args .f .n + i) (omega arith),
-    few (s .args .f) (s .pre .0) (s .args .e) (s .args .j) (omega arith) (s .pre .2) i (omega (arith, s .pre .3)))
+    omega (
+      arith,
+      c .tree-size .ensures,
+      tree-small (s .args .f) (s .pre .0) (s .args .e) (s .args .j) (omega arith) (s .pre .2) (s .args .e - 1) (s .args .j * s .args .f .n + i) (omega arith),
+      few (s .args .f) (s .pre .0) (s .args .e) (s .args .j) (omega arith) (s .pre .2) i (omega (arith, s .pre .3)),
+    )
 
 add-i : tie.Need-add-i Inv-loop μ-loop
 add-i c =
@@ -85,15 +89,18 @@ loop-again c =
     let l = c .before .before .loop in
     let i : ℕ = l .i in
     let a : ℕ = s .args .j * s .args .f .n in
-    let h : ℕ = s .args .e - 1 in
-    (omega arith,
-    fill-turn 8 (nearFrom (planOf (s .args .f) []) h a) a i (l .d) (l .distances) (l .inv .1)
-    (l .inv .2 ∙ near-here (planOf (s .args .f) []) h a i)
-    (few (s .args .f) (s .pre .0) (s .args .e) (s .args .j) (omega arith) (s .pre .2) i (omega (arith, s .pre .3))),
-    rw (l .inv .2, c .tree-size .ensures) (near-next (planOf (s .args .f) []) h a i),
-    omega
-    (arith, c .tree-size .ensures,
-    tree-small (s .args .f) (s .pre .0) (s .args .e) (s .args .j) (omega arith) (s .pre .2) h (a + i) (omega arith)))
+    let h : ℕ = s .args .e - 1 in (
+      omega arith,
+      fill-turn 8 (nearFrom (planOf (s .args .f) []) h a) a i (l .d) (l .distances) (l .inv .1)
+          (l .inv .2 ∙ near-here (planOf (s .args .f) []) h a i)
+          (few (s .args .f) (s .pre .0) (s .args .e) (s .args .j) (omega arith) (s .pre .2) i (omega (arith, s .pre .3))),
+      rw (l .inv .2, c .tree-size .ensures) (near-next (planOf (s .args .f) []) h a i),
+      omega (
+        arith,
+        c .tree-size .ensures,
+        tree-small (s .args .f) (s .pre .0) (s .args .e) (s .args .j) (omega arith) (s .pre .2) h (a + i) (omega arith),
+      ),
+    )
 
 returns : tie.Need-returns Inv-loop μ-loop
 unfolding nearDistances planOf

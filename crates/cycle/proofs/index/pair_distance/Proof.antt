@@ -2,7 +2,7 @@
 -- Assumes nothing.
 use mathlib.Core.Path.{_≡_, sym, ap, _∙_}
 use mathlib.Core.List.{[]}
-use Prim.Native.Nat.{ℕ, _+_, _-_, _*_, _/_, _^_, _≤_, _<_}
+use Prim.Native.Nat.{ℕ, _+_, _-_, _/_, _≤_, _<_}
 use native.Mathlib.Omega.{arith}
 use Rattle.columns.specs.Lists.{up}
 use Rattle.cycle.specs.Tree.{width}
@@ -45,12 +45,13 @@ div-first-place c = omega (arith, c .before .pre .0 .shaped .n-low)
 
 first-place-requires : tie.Need-first-place-requires
 first-place-requires c κs =
-    let s = c .before in
-    (s .pre .0,
-    s .pre .2,
-    omega (arith, s .pre .3),
-    omega (arith, s .pre .4),
-    parent-inside (s .args .t1) (s .pre .0) (s .pre .2) (s .args .level) (s .args .place) (s .pre .3) (omega (arith, s .pre .4)) (s .pre .5))
+    let s = c .before in (
+      s .pre .0,
+      s .pre .2,
+      omega (arith, s .pre .3),
+      omega (arith, s .pre .4),
+      parent-inside (s .args .t1) (s .pre .0) (s .pre .2) (s .args .level) (s .args .place) (s .pre .3) (omega (arith, s .pre .4)) (s .pre .5),
+    )
 
 add-result : tie.Need-add-result
 add-result c =
@@ -92,21 +93,24 @@ wide c =
 
 first-place-requires-2 : tie.Need-first-place-requires-2
 first-place-requires-2 c κs =
-    let s = c .before .before .before .before in
-    (s .pre .0,
-    s .pre .2,
-    omega (arith, s .pre .3),
-    omega (arith, s .pre .4),
-    width-inside (s .args .t1) (s .pre .0) (s .pre .2) (s .args .level) (omega (arith, s .pre .3)) (omega (arith, s .pre .4)) (s .args .place + 1)
-    (omega (arith, wide (c .before), c .if2 .taken)))
+    let s = c .before .before .before .before in (
+      s .pre .0,
+      s .pre .2,
+      omega (arith, s .pre .3),
+      omega (arith, s .pre .4),
+      width-inside (s .args .t1) (s .pre .0) (s .pre .2) (s .args .level) (omega (arith, s .pre .3)) (omega (arith, s .pre .4)) (s .args .place + 1)
+          (omega (arith, wide (c .before), c .if2 .taken)),
+    )
 
 -- the place of the next bucket is ahead
 ahead : (c : tie.After-first-place2) → c .before .before .before .before .before .args .x < c .first-place2 .result
 ahead c =
     let s = c .before .before .before .before .before in
-    omega
-    (arith, c .first-place2 .ensures,
-    s .pre .7 (omega (arith, wide (c .before .before), c .before .if2 .taken)) (c .before .before .before .before .if1 .left))
+    omega (
+      arith,
+      c .first-place2 .ensures,
+      s .pre .7 (omega (arith, wide (c .before .before), c .before .if2 .taken)) (c .before .before .before .before .if1 .left),
+    )
 
 sub-result-2 : tie.Need-sub-result-2
 sub-result-2 c = omega (arith, ahead c)
@@ -131,12 +135,13 @@ div-first-place-2 c = omega (arith, c .before .before .before .before .pre .0 .s
 
 first-place-requires-3 : tie.Need-first-place-requires-3
 first-place-requires-3 c κs =
-    let s = c .before .before .before .before in
-    (s .pre .0,
-    s .pre .2,
-    omega (arith, s .pre .3),
-    omega (arith, s .pre .4),
-    parent-inside (s .args .t1) (s .pre .0) (s .pre .2) (s .args .level) (s .args .place) (s .pre .3) (omega (arith, s .pre .4)) (s .pre .5))
+    let s = c .before .before .before .before in (
+      s .pre .0,
+      s .pre .2,
+      omega (arith, s .pre .3),
+      omega (arith, s .pre .4),
+      parent-inside (s .args .t1) (s .pre .0) (s .pre .2) (s .args .level) (s .args .place) (s .pre .3) (omega (arith, s .pre .4)) (s .pre .5),
+    )
 
 add-result-2 : tie.Need-add-result-2
 add-result-2 c =

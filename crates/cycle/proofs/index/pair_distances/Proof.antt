@@ -1,14 +1,14 @@
 -- `cycle::index::pair_distances` meets its contract. The loop's invariant: the distances of the pairs below `level` are filled in.
 -- Assumes nothing.
-use mathlib.Core.Path.{_≡_, refl, sym, ap, ap₂, subst, _∙_}
-use mathlib.Core.List.{List, [], _∷_, map}
-use Prim.Native.Nat.{ℕ, suc, _+_, _-_, _*_, _%_, _≤_, _<_}
+use mathlib.Core.Path.{_≡_, refl, ap, _∙_}
+use mathlib.Core.List.{[], _∷_, map}
+use Prim.Native.Nat.{ℕ, suc, _+_, _-_, _%_, _≤_, _<_}
 use native.Mathlib.Omega.{arith}
 use Rattle.columns.specs.Lists.{range}
 use Rattle.buckets.specs.Held.{filled}
 use Rattle.cycle.specs.Tree.{width}
 use Rattle.cycle.specs.declared.Figures.{Figures}
-use Rattle.cycle.specs.Held.{planOf, Ready, InTree, OnPath, firstPlace, placeOver, pairReach, pairDistances}
+use Rattle.cycle.specs.Held.{planOf, Ready, OnPath, firstPlace, placeOver, pairReach, pairDistances}
 use Rattle.cycle.proofs.Filled.{fill-turn-behind}
 use Rattle.cycle.proofs.Paths.{pathTop-low}
 use Rattle.cycle.proofs.Readiness.{sound}
@@ -44,10 +44,11 @@ sub-t11 c = omega arith
 
 loop-holds : tie.Need-loop-holds Inv-loop μ-loop
 unfolding filled planOf
-loop-holds c =
-    (omega arith,
-    omega (arith, c .pre .3 .top, pathTop-low (c .args .t1 .n) (c .args .t1 .copies) (c .args .b)),
-    refl)
+loop-holds c = (
+  omega arith,
+  omega (arith, c .pre .3 .top, pathTop-low (c .args .t1 .n) (c .args .t1 .copies) (c .args .b)),
+  refl,
+)
 
 add-h : tie.Need-add-h Inv-loop μ-loop
 add-h c = omega (arith, bounds (c .before .before) .0)
@@ -89,15 +90,16 @@ pair-distance-requires c κs =
     let level : ℕ = c .before .before .loop .level in
     let low : 1 ≤ level = omega arith in
     let end : level ≤ f .copies + 1 = omega (arith, high s) in
-    let over = place-over f (s .pre .0) (one s) level low end [] b in
-    (s .pre .0,
-    s .pre .1,
-    one s,
-    omega arith,
-    omega (arith, high s),
-    rw over (over-inside f (s .pre .0) (one s) level low end [] b (block-inside f (s .pre .0) (one s) b (path-inside (s .pre .3)))),
-    s .pre .2,
-    rw over (reaches f (s .pre .0) (one s) b (s .args .i) (s .args .x) level (s .pre .3) (omega arith) (omega arith)))
+    let over = place-over f (s .pre .0) (one s) level low end [] b in (
+      s .pre .0,
+      s .pre .1,
+      one s,
+      omega arith,
+      omega (arith, high s),
+      rw over (over-inside f (s .pre .0) (one s) level low end [] b (block-inside f (s .pre .0) (one s) b (path-inside (s .pre .3)))),
+      s .pre .2,
+      rw over (reaches f (s .pre .0) (one s) b (s .args .i) (s .args .x) level (s .pre .3) (omega arith) (omega arith)),
+    )
 
 mul-distances : tie.Need-mul-distances Inv-loop μ-loop
 mul-distances c = omega (arith, bounds (c .before .before .before .before) .0, high (c .before .before .before .before))
@@ -117,13 +119,14 @@ loop-again c =
     let l = c .before .before .before .loop in
     let f = s .args .t1 in
     let t = planOf f [] in
-    let level : ℕ = l .level in
-    (omega arith,
-    omega arith,
-    fill-turn-behind 4 (λ j. pairReach t (f .size) (s .args .x) j (placeOver t (s .args .b) j)) (f .size - s .args .x) level (c .pair-distance .result) (l .distances) (l .inv .2)
-    (c .pair-distance .ensures
-    ∙ ap (pairReach t (f .size) (s .args .x) level) (place-over f (s .pre .0) (one s) level (omega arith) (omega (arith, high s)) [] (s .args .b)))
-    (omega arith) (omega (arith, bounds s .0, high s)))
+    let level : ℕ = l .level in (
+      omega arith,
+      omega arith,
+      fill-turn-behind 4 (λ j. pairReach t (f .size) (s .args .x) j (placeOver t (s .args .b) j)) (f .size - s .args .x) level (c .pair-distance .result) (l .distances) (l .inv .2)
+          (c .pair-distance .ensures
+          ∙ ap (pairReach t (f .size) (s .args .x) level) (place-over f (s .pre .0) (one s) level (omega arith) (omega (arith, high s)) [] (s .args .b)))
+          (omega arith) (omega (arith, bounds s .0, high s)),
+    )
 
 returns : tie.Need-returns Inv-loop μ-loop
 unfolding pairDistances

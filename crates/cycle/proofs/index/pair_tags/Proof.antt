@@ -1,13 +1,13 @@
 -- `cycle::index::pair_tags` meets its contract. The loop's invariant: the tags of the pairs below `level` are filled in.
 -- Assumes nothing.
 use mathlib.Core.Path.{_≡_, refl, sym, ap, ap₂, subst, _∙_}
-use mathlib.Core.List.{List, [], _∷_, map}
-use Prim.Native.Nat.{ℕ, _+_, _-_, _*_, _≤_}
+use mathlib.Core.List.{[], _∷_, map}
+use Prim.Native.Nat.{ℕ, _+_, _-_, _≤_}
 use native.Mathlib.Omega.{arith}
 use Rattle.columns.specs.Lists.{range}
 use Rattle.buckets.specs.Held.{filled}
 use Rattle.cycle.specs.Tree.{largestTag}
-use Rattle.cycle.specs.Held.{planOf, planIn, linesHeld, InTree, placeOver, pairTags}
+use Rattle.cycle.specs.Held.{planIn, linesHeld, InTree, placeOver, pairTags}
 use Rattle.cycle.proofs.Filled.{fill-turn-behind}
 use Rattle.cycle.proofs.PathFigures.{few-copies, power-some, place-over, over-inside}
 use Rattle.cycle.proofs.index.pair_tags.Statement.{statement}
@@ -61,12 +61,13 @@ largest-tag-requires c κs =
     let f = s .args .t2 in
     let level : ℕ = c .before .before .loop .level in
     let low : 1 ≤ level = omega arith in
-    let high : level ≤ f .copies + 1 = omega (arith, s .pre .5) in
-    (s .pre .0,
-    s .pre .2,
-    subst (InTree f (f .k + 1 - level)) (sym (place-over f (s .pre .0) (s .pre .3) level low high [] (s .args .b)))
-    (over-inside f (s .pre .0) (s .pre .3) level low high [] (s .args .b) (s .pre .6)),
-    s .pre .1)
+    let high : level ≤ f .copies + 1 = omega (arith, s .pre .5) in (
+      s .pre .0,
+      s .pre .2,
+      subst (InTree f (f .k + 1 - level)) (sym (place-over f (s .pre .0) (s .pre .3) level low high [] (s .args .b)))
+          (over-inside f (s .pre .0) (s .pre .3) level low high [] (s .args .b) (s .pre .6)),
+      s .pre .1,
+    )
 
 mul-tags : tie.Need-mul-tags Inv-loop μ-loop
 mul-tags c = omega (arith, bounds (c .before .before .before .before .before) .0, c .before .before .before .before .before .pre .5)
@@ -88,14 +89,15 @@ loop-again c =
     let f = s .args .t2 in
     let t = planIn f (s .args .source) (s .args .text .now) in
     let level : ℕ = l .level in
-    let same : f .k + 1 - (f .k + 1 - level) ≡ level = omega (arith, s .pre .5, bounds s .1) in
-    (omega arith,
-    omega arith,
-    fill-turn-behind 4 (λ j. largestTag t j (placeOver t (s .args .b) j)) (s .args .first) level (c .largest-tag .result) (l .tags) (l .inv .2)
-    (c .largest-tag .ensures
-    ∙ ap₂ (largestTag t) same
-    (place-over f (s .pre .0) (s .pre .3) level (omega arith) (omega (arith, s .pre .5)) (linesHeld f (s .args .source) (s .args .text .now)) (s .args .b)))
-    (omega arith) (omega (arith, bounds s .0, s .pre .5)))
+    let same : f .k + 1 - (f .k + 1 - level) ≡ level = omega (arith, s .pre .5, bounds s .1) in (
+      omega arith,
+      omega arith,
+      fill-turn-behind 4 (λ j. largestTag t j (placeOver t (s .args .b) j)) (s .args .first) level (c .largest-tag .result) (l .tags) (l .inv .2)
+          (c .largest-tag .ensures
+          ∙ ap₂ (largestTag t) same
+          (place-over f (s .pre .0) (s .pre .3) level (omega arith) (omega (arith, s .pre .5)) (linesHeld f (s .args .source) (s .args .text .now)) (s .args .b)))
+          (omega arith) (omega (arith, bounds s .0, s .pre .5)),
+    )
 
 returns : tie.Need-returns Inv-loop μ-loop
 unfolding pairTags

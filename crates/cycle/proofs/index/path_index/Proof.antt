@@ -1,6 +1,6 @@
 -- `cycle::index::path_index` meets its contract.
 -- Assumes nothing.
-use mathlib.Core.Path.{_≡_, sym, ap, subst, _∙_}
+use mathlib.Core.Path.{_≡_, sym, subst}
 use mathlib.Core.List.{[]}
 use Prim.Native.Nat.{ℕ, _+_, _-_, _/_, _≤_, _<_, max}
 use native.Mathlib.Omega.{arith}
@@ -93,14 +93,15 @@ child-tags-requires c κs =
 far-distances-requires : tie.Need-far-distances-requires
 unfolding place
 far-distances-requires c κs =
-    let s = c .before .before .before .before .before .before .before .before in
-    (s .pre .0,
-    some s,
-    omega (arith, s .pre .5, bounds s .1),
-    inside s,
-    (λ more. (s .pre .3, omega (arith, s .pre .5, bounds s .1))),
-    c .before .before .before .before .child-count .ensures,
-    before s)
+    let s = c .before .before .before .before .before .before .before .before in (
+      s .pre .0,
+      some s,
+      omega (arith, s .pre .5, bounds s .1),
+      inside s,
+      (λ more. (s .pre .3, omega (arith, s .pre .5, bounds s .1))),
+      c .before .before .before .before .child-count .ensures,
+      before s,
+    )
 
 returns : tie.Need-returns
 unfolding place

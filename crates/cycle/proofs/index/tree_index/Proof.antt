@@ -1,8 +1,8 @@
 -- `cycle::index::tree_index` meets its contract.
 -- Assumes nothing.
-use mathlib.Core.Path.{_≡_, sym, ap, ap₂, _∙_}
-use mathlib.Core.List.{[], map}
-use Prim.Native.Nat.{ℕ, _+_, _-_, _≤_, _<_, max}
+use mathlib.Core.Path.{sym, ap, _∙_}
+use mathlib.Core.List.{[]}
+use Prim.Native.Nat.{_-_, _<_, max}
 use native.Mathlib.Omega.{arith}
 use Rattle.buckets.specs.Held.{filled, heldIndex}
 use Rattle.cycle.specs.Held.{planOf, planIn, lastOf, treePairs, entered}
@@ -38,14 +38,15 @@ child-tags-requires c κs =
 
 far-distances-requires : tie.Need-far-distances-requires
 far-distances-requires c κs =
-    let s = c .before .before .before .before .before .before .before in
-    (s .pre .0,
-    omega (arith, c .before .before .before .if1 .left),
-    s .pre .3,
-    s .pre .4,
-    (λ more. absurd (omega (arith, c .if2 .taken))),
-    c .before .before .child-count .ensures,
-    here s)
+    let s = c .before .before .before .before .before .before .before in (
+      s .pre .0,
+      omega (arith, c .before .before .before .if1 .left),
+      s .pre .3,
+      s .pre .4,
+      (λ more. absurd (omega (arith, c .if2 .taken))),
+      c .before .before .child-count .ensures,
+      here s,
+    )
 
 with-entries-requires : tie.Need-with-entries-requires
 with-entries-requires c κs = tt

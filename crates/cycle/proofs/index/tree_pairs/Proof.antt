@@ -1,10 +1,7 @@
 -- `cycle::index::tree_pairs` meets its contract.
 -- Assumes nothing.
-use mathlib.Core.Path.{_≡_, sym, ap, _∙_}
-use mathlib.Core.List.{[]}
-use native.Mathlib.Omega.{arith}
+use mathlib.Core.Path.{sym, _∙_}
 use borrow.Author.Tests.{ne-eqb, eq-eqb}
-use Rattle.buckets.specs.Held.{heldIndex}
 use Rattle.cycle.specs.Held.{planOf, treePairs}
 use Rattle.cycle.proofs.index.tree_pairs.Statement.{statement}
 use Rattle.cycle.proofs.index.tree_pairs.Tie as tie

@@ -27,7 +27,11 @@ record Sum (f : Figures) (q b : ℕ) : Type 0 where
       firstPlace (planOf f []) (f .k + 1) q
       ≡ q + b * getD (f .fulls) (f .k - f .copies) 0 + length (treeAt (planOf f []) (f .k - f .copies) b) + climbs (f .n) (f .copies) (b + 1)
 
-summed : (c : tie.Start) → Sum (c .args .t1) (c .args .q) (c .args .q / getD (c .args .t1 .powers) (c .args .t1 .k - c .args .t1 .copies) 0)
+-- the segment's number, as the code works it out
+abbrev number : tie.Start → ℕ
+number c = c .args .q / getD (c .args .t1 .powers) (c .args .t1 .k - c .args .t1 .copies) 0
+
+summed : (c : tie.Start) → Sum (c .args .t1) (c .args .q) (number c)
 summed c =
     let f = c .args .t1 in
     let k = known c in
@@ -84,17 +88,20 @@ paths-before-requires c κs =
     let s = summed start in
     (start .pre .0 .shaped, start .pre .1, start .pre .0 .copies-fit, omega arith)
 
+abbrev begun : tie.After-paths-before → tie.Start
+begun c = c .before .before .before .before
+
 -- what `paths_before` gave
 climbed :
     (c : tie.After-paths-before) →
     c .paths-before .result
-    ≡ climbs (c .before .before .before .before .args .t1 .n) (c .before .before .before .before .args .t1 .copies) (c .before .before .before .before .args .q / getD (c .before .before .before .before .args .t1 .powers) (c .before .before .before .before .args .t1 .k - c .before .before .before .before .args .t1 .copies) 0 + 1)
+    ≡ climbs (begun c .args .t1 .n) (begun c .args .t1 .copies) (number (begun c) + 1)
 unfolding planOf
 climbed c =
     let start = c .before .before .before .before in
     let f = start .args .t1 in
     c .paths-before .ensures
-    ∙ length-paths (planOf f []) (known start .pos) (start .args .q / getD (f .powers) (f .k - f .copies) 0 + 1)
+    ∙ length-paths (planOf f []) (known start .pos) (number start + 1)
 
 add-result-3 : tie.Need-add-result-3
 add-result-3 c =

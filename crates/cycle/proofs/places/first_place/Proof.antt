@@ -1,7 +1,7 @@
 -- `cycle::places::first_place` meets its contract.
 -- Assumes nothing.
 use mathlib.Core.Path.{_≡_, sym, ap, ap₂, _∙_}
-use Prim.Native.Nat.{_+_, _-_, _*_, _^_}
+use Prim.Native.Nat.{ℕ, _+_, _-_, _*_, _^_}
 use native.Mathlib.Omega.{arith}
 use Rattle.cycle.specs.Layouts.{pathTop}
 use Rattle.cycle.proofs.PlacedBlocks.{blockAt}
@@ -9,8 +9,12 @@ use Rattle.cycle.proofs.FirstHeld.{First, first-held}
 use Rattle.cycle.proofs.places.first_place.Statement.{statement}
 use Rattle.cycle.proofs.places.first_place.Tie as tie
 
+-- the number of the first segment under the bucket
+abbrev number : tie.Start → ℕ
+number c = c .args .j * c .args .t1 .n ^ (c .args .t1 .copies + 1 - c .args .level)
+
 -- what is known at the start
-known : (c : tie.Start) → First (c .args .t1) (c .args .level) (c .args .j) (c .args .j * c .args .t1 .n ^ (c .args .t1 .copies + 1 - c .args .level))
+known : (c : tie.Start) → First (c .args .t1) (c .args .level) (c .args .j) (number c)
 known c = first-held (c .args .t1) (c .args .level) (c .args .j) (c .pre .0) (c .pre .1) (c .pre .2) (c .pre .3) (c .pre .4)
 
 add-h : tie.Need-add-h
@@ -35,11 +39,14 @@ distributed-start-requires c κs =
 path-top-requires : tie.Need-path-top-requires
 path-top-requires c κs = (c .before .before .pre .0, c .before .before .pre .1)
 
+abbrev begun : tie.After-path-top → tie.Start
+begun c = c .before .before .before
+
 -- what `path_top` and `distributed_start` gave
 top-is :
     (c : tie.After-path-top) →
     c .path-top .result
-    ≡ pathTop (c .before .before .before .args .t1 .n) (c .before .before .before .args .t1 .copies) (c .before .before .before .args .j * c .before .before .before .args .t1 .n ^ (c .before .before .before .args .t1 .copies + 1 - c .before .before .before .args .level))
+    ≡ pathTop (begun c .args .t1 .n) (begun c .args .t1 .copies) (number (begun c))
 top-is c =
     let f = c .before .before .before .args .t1 in
     c .path-top .ensures ∙ ap (λ x. pathTop (f .n) (f .copies) (c .before .before .before .args .j * x)) (known (c .before .before .before) .entry)
@@ -47,7 +54,7 @@ top-is c =
 start-is :
     (c : tie.After-path-top) →
     c .before .distributed-start .result
-    ≡ blockAt (c .before .before .before .args .t1) (c .before .before .before .args .j * c .before .before .before .args .t1 .n ^ (c .before .before .before .args .t1 .copies + 1 - c .before .before .before .args .level))
+    ≡ blockAt (begun c .args .t1) (number (begun c))
 start-is c =
     let f = c .before .before .before .args .t1 in
     c .before .distributed-start .ensures ∙ ap (λ x. blockAt f (c .before .before .before .args .j * x)) (known (c .before .before .before) .entry)

@@ -1,7 +1,7 @@
 -- `cycle::places::largest_tag` meets its contract.
 -- Assumes nothing.
 use mathlib.Core.Path.{_≡_, sym, ap, _∙_}
-use Prim.Native.Nat.{_+_, _-_, _*_, _^_, _≤_, min}
+use Prim.Native.Nat.{ℕ, _+_, _-_, _*_, _^_, _≤_, min}
 use native.Mathlib.Nat.{mul-le-mul}
 use native.Mathlib.Omega.{arith}
 use lib.ListN.{getD}
@@ -41,11 +41,15 @@ mul-lesser-3 c =
 lesser-requires : tie.Need-lesser-requires
 lesser-requires c κs = tt
 
+-- how many lines stand up to the bucket's end
+abbrev behind : tie.Start → ℕ
+behind c = min (c .args .t2 .lines) ((c .args .j + 1) * c .args .t2 .n ^ c .args .e * c .args .t2 .p)
+
 -- what `lesser` gave
 ended :
     (c : tie.After-lesser) →
     c .lesser .result
-    ≡ min (c .before .before .before .args .t2 .lines) ((c .before .before .before .args .j + 1) * c .before .before .before .args .t2 .n ^ c .before .before .before .args .e * c .before .before .before .args .t2 .p)
+    ≡ behind (c .before .before .before)
 ended c =
     let start = c .before .before .before in
     let f = start .args .t2 in

@@ -1,9 +1,10 @@
 -- `cycle::places::line_place` meets its contract.
 -- Assumes nothing.
 use borrow.Author.Needs.{needs}
-use Prim.Native.Nat.{_/_}
+use mathlib.Core.List.{[]}
+use Prim.Native.Nat.{_+_, _/_, _<_}
 use native.Mathlib.Omega.{arith}
-use Rattle.cycle.specs.Held.{planOf}
+use Rattle.cycle.specs.Held.{planOf, firstPlace}
 use Rattle.cycle.proofs.DataHeld.{data-ends}
 use Rattle.cycle.proofs.LinesHeld.{line-bucket, line-column}
 use Rattle.cycle.proofs.places.line_place.Statement.{statement}
@@ -26,10 +27,17 @@ data-place-requires c κs =
     let start = c .before .before .before in
     (start .pre .0, line-bucket (start .args .f) (start .args .i) (start .pre .0 .shaped) (start .pre .1))
 
+-- the position of the line's data bucket is within the cycle
+bucket-place : (c : tie.Start) → firstPlace (planOf (c .args .f) []) (c .args .f .k + 1) (c .args .i / c .args .f .p) < c .args .f .size
+bucket-place c =
+    let f = c .args .f in
+    let i = c .args .i in
+    data-ends f (i / f .p) (c .pre .0) (line-bucket f i (c .pre .0 .shaped) (c .pre .1))
+
 mul-result-2 : tie.Need-mul-result-2
 mul-result-2 c =
     let start = c .before .before .before .before in
-    let place = data-ends (start .args .f) (start .args .i / start .args .f .p) (start .pre .0) (line-bucket (start .args .f) (start .args .i) (start .pre .0 .shaped) (start .pre .1)) in
+    let place = bucket-place start in
     rw (c .data-place .ensures) (omega (arith, start .pre .0 .size-high))
 
 rem-result : tie.Need-rem-result
@@ -51,7 +59,7 @@ add-result-2 c =
     let f = start .args .f in
     let i = start .args .i in
     let column = line-column f i (start .pre .0 .shaped) in
-    let place = data-ends f (i / f .p) (start .pre .0) (line-bucket f i (start .pre .0 .shaped) (start .pre .1)) in
+    let place = bucket-place start in
     rw (c .before .data-place .ensures) (omega (arith, start .pre .0 .size-high))
 
 returns : tie.Need-returns

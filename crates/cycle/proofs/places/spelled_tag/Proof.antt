@@ -58,8 +58,10 @@ wide-requires c κs = tt
 
 add-x : tie.Need-add-x Inv-loop μ-loop
 add-x c =
-    let b = small (c .before .before .before .before .loop .i) (c .before .before .before .before .loop .x) (omega arith) (omega arith) in
-    omega (arith, c .before .before .shared-slice-known2 .given (c .before .before .before .before .before .before .args .at + c .before .before .before .before .loop .i), c .wide .ensures)
+    let at = c .before .before .before .before .before .before .args .at in
+    let l = c .before .before .before .before .loop in
+    let b = small (l .i) (l .x) (omega arith) (omega arith) in
+    omega (arith, c .before .before .shared-slice-known2 .given (at + l .i), c .wide .ensures)
 
 add-i : tie.Need-add-i Inv-loop μ-loop
 add-i c = omega arith
@@ -74,10 +76,11 @@ loop-again c =
     let i = c .before .before .before .loop .i in
     let x = c .before .before .before .loop .x in
     let inv = c .before .before .before .loop .inv in
-    let is : c .if1 .x ≡ x * 10 + (getD text (at + i) 0 - 48) = ⊎-elim (λ w. omega (arith, w .1 .ensures)) (λ w. omega arith) (c .if1 .came) in
-    (omega arith,
-    column-small (getD text (at + i) 0) i x (c .if1 .x) (omega (arith, c .before .shared-slice-known2 .given (at + i))) is (inv .1),
-    inv .2 ∙ column-read text at i x (c .if1 .x) (omega arith) (omega arith) is)
+    let is : c .if1 .x ≡ x * 10 + (getD text (at + i) 0 - 48) = ⊎-elim (λ w. omega (arith, w .1 .ensures)) (λ w. omega arith) (c .if1 .came) in (
+      omega arith,
+      column-small (getD text (at + i) 0) i x (c .if1 .x) (omega (arith, c .before .shared-slice-known2 .given (at + i))) is (inv .1),
+      inv .2 ∙ column-read text at i x (c .if1 .x) (omega arith) (omega arith) is,
+    )
 
 returns : tie.Need-returns Inv-loop μ-loop
 returns c =

@@ -103,11 +103,17 @@ add-lesser c =
 lesser-requires : tie.Need-lesser-requires
 lesser-requires c κs = tt
 
+-- the end of a block's data, and the start seen from there
+abbrev blockEnd : Figures → ℕ → ℕ
+blockEnd f b = min (f .d) ((b + 1) * f .n ^ (f .k - f .copies))
+
+abbrev begun : tie.After-lesser → tie.Start
+begun c = c .before .before .before .before .before .before
+
 -- what `lesser` gave
 ended :
     (c : tie.After-lesser) →
-    c .lesser .result
-    ≡ min (c .before .before .before .before .before .before .args .t1 .d) ((c .before .before .before .before .before .before .args .b + 1) * c .before .before .before .before .before .before .args .t1 .n ^ (c .before .before .before .before .before .before .args .t1 .k - c .before .before .before .before .before .before .args .t1 .copies))
+    c .lesser .result ≡ blockEnd (begun c .args .t1) (begun c .args .b)
 ended c =
     let start = c .before .before .before .before .before .before in
     let f = start .args .t1 in
@@ -124,31 +130,33 @@ add-t14 : tie.Need-add-t14
 add-t14 c =
     let start = c .before .before .before .before .before .before in
     let r = room start in
-    rw
-    (c .before .before .before .before .before .distributed-start .ensures,
-    c .before .before .before .before .path-top .ensures,
-    c .before .before .before .tree-size .ensures,
-    known start .power,
-    ended c)
+    rw (
+      c .before .before .before .before .before .distributed-start .ensures,
+      c .before .before .before .before .path-top .ensures,
+      c .before .before .before .tree-size .ensures,
+      known start .power,
+      ended c,
+    )
     (omega arith)
 
 returns : tie.Need-returns
 returns c =
     let start = c .before .before .before .before .before .before in
     let f = start .args .t1 in
-    let b = start .args .b in
-    (placed-block f b (start .pre .0) (start .pre .1) (start .pre .2)
-    (c .before .before .before .before .before .distributed-start .result)
-    (c .before .before .before .before .path-top .result)
-    (c .before .before .before .tree-size .result)
-    (b * getD (f .powers) (f .k - f .copies) 0)
-    (c .lesser .result)
-    (c .before .before .before .before .before .distributed-start .ensures)
-    (c .before .before .before .before .path-top .ensures)
-    (c .before .before .before .tree-size .ensures)
-    (ap (λ x. b * x) (known start .power))
-    (ended c),
-    refl)
+    let b = start .args .b in (
+      placed-block f b (start .pre .0) (start .pre .1) (start .pre .2)
+          (c .before .before .before .before .before .distributed-start .result)
+          (c .before .before .before .before .path-top .result)
+          (c .before .before .before .tree-size .result)
+          (b * getD (f .powers) (f .k - f .copies) 0)
+          (c .lesser .result)
+          (c .before .before .before .before .before .distributed-start .ensures)
+          (c .before .before .before .before .path-top .ensures)
+          (c .before .before .before .tree-size .ensures)
+          (ap (λ x. b * x) (known start .power))
+          (ended c),
+      refl,
+    )
 
 pub distributed-segment-spec : {M : Type 1} → statement M
 distributed-segment-spec =

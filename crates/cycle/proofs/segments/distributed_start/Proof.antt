@@ -1,7 +1,7 @@
 -- `cycle::segments::distributed_start` meets its contract.
 -- Assumes nothing.
 use mathlib.Core.Path.{_≡_, sym, _∙_}
-use mathlib.Core.List.{[]}
+use mathlib.Core.List.{List, []}
 use Prim.Native.Nat.{ℕ, _+_, _-_, _*_, _^_, _≤_}
 use native.Mathlib.Nat.{mul-le-mul}
 use native.Mathlib.Omega.{arith}
@@ -20,7 +20,9 @@ known : (c : tie.Start) → Block (c .args .t1)
 known c = block (c .args .t1) (c .pre .0 .shaped) (c .pre .1) (c .pre .0 .copies-fit)
 
 inside : (c : tie.Start) → Reached (c .args .t1) (c .args .t1 .k - c .args .t1 .copies) (c .args .b)
-inside c = reached (c .args .t1) (c .args .t1 .k - c .args .t1 .copies) (c .args .b) (c .pre .0 .shaped) (block-in (c .args .t1) (c .args .b) (c .pre .0) (c .pre .1) (c .pre .2))
+inside c =
+    let f = c .args .t1 in
+    reached f (f .k - f .copies) (c .args .b) (c .pre .0 .shaped) (block-in f (c .args .b) (c .pre .0) (c .pre .1) (c .pre .2))
 
 sub-e : tie.Need-sub-e
 sub-e c = omega (arith, known c .fits)
@@ -41,11 +43,19 @@ add-result : tie.Need-add-result
 add-result c = let b = known (c .before .before) in omega arith
 
 -- the full segments before
-whole : (f : Figures) (b x y : ℕ) → Block f → b ≤ 40000 → x ≡ f .n ^ (f .k - f .copies) → y ≡ fullSize (f .n) (f .k - f .copies) → b * (x + y) ≤ 40000 * 640000
+whole :
+    (f : Figures) (b x y : ℕ) → Block f → b ≤ 40000 → x ≡ f .n ^ (f .k - f .copies) → y ≡ fullSize (f .n) (f .k - f .copies) →
+    b * (x + y) ≤ 40000 * 640000
 whole f b x y k h e g = mul-le-mul {n₂ = 40000} {m₂ = 640000} h (omega (arith, k .power-high, k .full-high))
 
-small : (c : tie.Start) → c .args .b * (getD (c .args .t1 .powers) (c .args .t1 .k - c .args .t1 .copies) 0 + getD (c .args .t1 .fulls) (c .args .t1 .k - c .args .t1 .copies) 0) ≤ 40000 * 640000
-small c = let k = known c in whole (c .args .t1) (c .args .b) (getD (c .args .t1 .powers) (c .args .t1 .k - c .args .t1 .copies) 0) (getD (c .args .t1 .fulls) (c .args .t1 .k - c .args .t1 .copies) 0) k (inside c .place) (k .power) (k .full)
+abbrev entry : Figures → List ℕ → ℕ
+entry f table = getD table (f .k - f .copies) 0
+
+small : (c : tie.Start) → c .args .b * (entry (c .args .t1) (c .args .t1 .powers) + entry (c .args .t1) (c .args .t1 .fulls)) ≤ 40000 * 640000
+small c =
+    let k = known c in
+    let f = c .args .t1 in
+    whole f (c .args .b) (entry f (f .powers)) (entry f (f .fulls)) k (inside c .place) (k .power) (k .full)
 
 mul-result-3 : tie.Need-mul-result-3
 mul-result-3 c = omega (arith, small (c .before .before))

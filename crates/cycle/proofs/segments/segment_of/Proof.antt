@@ -19,10 +19,11 @@ returns c = search needs
 whole-segment-requires : tie.Need-whole-segment-requires
 unfolding planOf
 whole-segment-requires c κs =
-    let f = c .before .before .args .f in
-    (c .before .before .pre .0,
-    omega arith,
-    subst (λ x. c .before .before .args .number < x) (count-wholes (planOf f []) (λ e. omega arith)) (c .before .before .pre .1))
+    let f = c .before .before .args .f in (
+      c .before .before .pre .0,
+      omega arith,
+      subst (λ x. c .before .before .args .number < x) (count-wholes (planOf f []) (λ e. omega arith)) (c .before .before .pre .1),
+    )
 
 returns-2 : tie.Need-returns-2
 returns-2 c = search needs

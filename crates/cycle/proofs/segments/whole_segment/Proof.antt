@@ -91,10 +91,11 @@ returns : tie.Need-returns
 returns c =
     let start = c .before .before .before .before .before .before in
     let f = start .args .f in
-    let i = start .args .i in
-    (placed-whole f i (start .pre .0) (λ e. omega arith) (start .pre .2) (c .before .before .before .before .before .tree-size .result)
-    ((i + 1) * f .d / f .copies) (c .before .before .before .before .before .tree-size .ensures) (room start .next),
-    refl)
+    let i = start .args .i in (
+      placed-whole f i (start .pre .0) (λ e. omega arith) (start .pre .2) (c .before .before .before .before .before .tree-size .result)
+          ((i + 1) * f .d / f .copies) (c .before .before .before .before .before .tree-size .ensures) (room start .next),
+      refl,
+    )
 
 pub whole-segment-spec : {M : Type 1} → statement M
 whole-segment-spec =

@@ -1,6 +1,6 @@
 -- `cycle::sizes::distributed_size` meets its contract.
 -- Assumes nothing.
-use mathlib.Core.Path.{_≡_, sym, ap, _∙_}
+use mathlib.Core.Path.{_≡_, sym, ap, subst, _∙_}
 use mathlib.Core.List.{[]}
 use Prim.Native.Nat.{ℕ, suc, _-_, _*_, _^_, _≤_}
 use native.Mathlib.Nat.{mul-le-mul}
@@ -40,15 +40,19 @@ element-copy-out-up c = omega (arith, known (c .before) .high)
 up-requires : tie.Need-up-requires
 up-requires c κs = let b = known (c .before .before) in (omega arith, omega arith)
 
+abbrev figures : tie.After-up → Figures
+figures c = c .before .before .before .args .t1
+
 -- what `up` gave: how many segments
 counted :
     (c : tie.After-up) →
-    LastPart (c .before .before .before .args .t1 .d) (c .before .before .before .args .t1 .n ^ (c .before .before .before .args .t1 .k - c .before .before .before .args .t1 .copies)) (c .up .result)
+    LastPart (figures c .d) (figures c .n ^ (figures c .k - figures c .copies)) (c .up .result)
 counted c =
     let f = c .before .before .before .args .t1 in
     let b = known (c .before .before .before) in
     let e : c .up .result ≡ up (f .d) (f .n ^ (f .k - f .copies)) = c .up .ensures ∙ ap (up (f .d)) (b .power) in
-    rw e (last-part (f .d) (f .n ^ (f .k - f .copies)) (omega arith) (b .power-low))
+    subst (LastPart (f .d) (f .n ^ (f .k - f .copies))) (sym e)
+    (last-part (f .d) (f .n ^ (f .k - f .copies)) (omega arith) (b .power-low))
 
 sub-last : tie.Need-sub-last
 sub-last c = counted c .some

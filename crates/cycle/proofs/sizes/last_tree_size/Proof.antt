@@ -79,8 +79,12 @@ mul-sum c = omega (arith, now-row (c .before .before) .height)
 element-copy-out-sum : tie.Need-element-copy-out-sum Inv-loop μ-loop
 element-copy-out-sum c = omega (arith, now-row (c .before .before) .height)
 
+abbrev figures : tie.After-up Inv-loop μ-loop → Figures
+figures c = c .before .before .before .before .before .args .t1
+
 -- what `up` gave
-rounded : (c : tie.After-up Inv-loop μ-loop) → c .up .result ≡ up (c .before .before .before .before .before .args .t1 .d) (c .before .before .before .before .before .args .t1 .n ^ c .before .before .before .loop .h)
+rounded :
+    (c : tie.After-up Inv-loop μ-loop) → c .up .result ≡ up (figures c .d) (figures c .n ^ c .before .before .before .loop .h)
 rounded c =
     let f = c .before .before .before .before .before .args .t1 in
     c .up .ensures ∙ ap (up (f .d)) (now-row (c .before .before) .power)
@@ -118,11 +122,12 @@ loop-again c =
     let j = c .before .before .before .before .before .before .args .j in
     let l = c .before .before .before .before .loop in
     let r = now-row (c .before .before .before) in
-    let x = rounded (c .before) in
-    (omega arith,
-    omega arith,
-    row-added (f .n) (f .d) e j (l .h) (c .before .up .result) (getD (f .powers) (e - l .h) 0) (l .sum) (l .inv .0) (l .inv .2) x (r .above),
-    omega arith)
+    let x = rounded (c .before) in (
+      omega arith,
+      omega arith,
+      row-added (f .n) (f .d) e j (l .h) (c .before .up .result) (getD (f .powers) (e - l .h) 0) (l .sum) (l .inv .0) (l .inv .2) x (r .above),
+      omega arith,
+    )
 
 returns-2 : tie.Need-returns-2 Inv-loop μ-loop
 unfolding planOf InTree

@@ -15,15 +15,19 @@ use Rattle.cycle.proofs.Powers.{least-found, least-next, power-reaches}
 use Rattle.cycle.proofs.sizes.levels_of.Statement.{statement}
 use Rattle.cycle.proofs.sizes.levels_of.Tie as tie
 
+-- the least level from k on
+abbrev rest : ℕ → ℕ → ℕ → ℕ
+rest n d k = least (17 - k) k (λ x. leb d (n ^ x))
+
 abbrev Inv-loop : tie.InvT-loop
 Inv-loop n d k₀ power₀ k power =
-    (1 ≤ k) × (k ≤ 16) × (power ≡ n ^ k) × (levels n d ≡ least (17 - k) k (λ x. leb d (n ^ x)))
+    (1 ≤ k) × (k ≤ 16) × (power ≡ n ^ k) × (levels n d ≡ rest n d k)
 
 abbrev μ-loop : tie.MeasureT-loop
 μ-loop n d k₀ power₀ k power = 16 - k
 
 -- one level more is looked at
-look : (n d k : ℕ) → 2 ≤ n → d ≤ 40000 → n ^ k + 1 ≤ d → (k + 1 ≤ 16) × (least (17 - k) k (λ x. leb d (n ^ x)) ≡ least (17 - (k + 1)) (k + 1) (λ x. leb d (n ^ x)))
+look : (n d k : ℕ) → 2 ≤ n → d ≤ 40000 → n ^ k + 1 ≤ d → (k + 1 ≤ 16) × (rest n d k ≡ rest n d (k + 1))
 look n d k low few l =
     ⊎-elim
     (λ (g : 16 ≤ k). let r = power-reaches n k low g in absurd (omega arith))
@@ -44,7 +48,12 @@ mul-power c =
     let m : c .before .loop .power * c .before .before .args .n ≤ 40000 * 8 = mul-le-mul {n₂ = 40000} {m₂ = 8} (omega arith) (omega arith) in
     omega arith
 
-turned : (c : tie.In-loop Inv-loop μ-loop) → (c .before .loop .k + 1 ≤ 16) × (least (17 - c .before .loop .k) (c .before .loop .k) (λ x. leb (c .before .before .args .d) (c .before .before .args .n ^ x)) ≡ least (17 - (c .before .loop .k + 1)) (c .before .loop .k + 1) (λ x. leb (c .before .before .args .d) (c .before .before .args .n ^ x)))
+abbrev restAt : tie.In-loop Inv-loop μ-loop → ℕ → ℕ
+restAt c k = rest (c .before .before .args .n) (c .before .before .args .d) k
+
+turned :
+    (c : tie.In-loop Inv-loop μ-loop) →
+    (c .before .loop .k + 1 ≤ 16) × (restAt c (c .before .loop .k) ≡ restAt c (c .before .loop .k + 1))
 turned c = look (c .before .before .args .n) (c .before .before .args .d) (c .before .loop .k) (omega arith) (omega arith) (omega arith)
 
 add-k : tie.Need-add-k Inv-loop μ-loop

@@ -36,9 +36,11 @@ climb-added n r b h sum x l inv e =
     ∙ rw (e, add-one h)
 
 loop-holds : tie.Need-loop-holds Inv-loop μ-loop
-loop-holds c = (omega arith,
-    (let e : c .args .t1 .copies - 0 ≡ c .args .t1 .copies = omega arith in rw (e, zero-add)),
-    omega arith)
+loop-holds c = (
+  omega arith,
+  (let e : c .args .t1 .copies - 0 ≡ c .args .t1 .copies = omega arith in rw (e, zero-add)),
+  omega arith,
+)
 
 -- copies is at most 4
 few : (c : tie.Start Inv-loop μ-loop) → c .args .t1 .copies ≤ 4
@@ -66,8 +68,13 @@ up-requires c κs =
     let high = power-table (f .n) h (omega arith) (omega (arith, few (c .before .before .before))) in
     (omega arith, omega arith)
 
+abbrev begun : tie.After-up Inv-loop μ-loop → tie.Start Inv-loop μ-loop
+begun c = c .before .before .before .before
+
 -- what `up` gave
-rounded : (c : tie.After-up Inv-loop μ-loop) → c .up .result ≡ grouped (c .before .before .before .before .args .t1 .n) (c .before .before .before .before .args .b) (c .before .before .before .loop .h)
+rounded :
+    (c : tie.After-up Inv-loop μ-loop) →
+    c .up .result ≡ grouped (begun c .args .t1 .n) (begun c .args .b) (c .before .before .before .loop .h)
 rounded c =
     let f = c .before .before .before .before .args .t1 in
     let b = c .before .before .before .before .args .b in
@@ -99,10 +106,11 @@ loop-again : tie.Need-loop-again Inv-loop μ-loop
 loop-again c =
     let start = c .before .before .before .before in
     let f = start .args .t1 in
-    let l = c .before .before .before .loop in
-    (omega arith,
-    climb-added (f .n) (f .copies) (start .args .b) (l .h) (l .sum) (c .up .result) (omega arith) (l .inv .1) (rounded c),
-    omega (arith, small c))
+    let l = c .before .before .before .loop in (
+      omega arith,
+      climb-added (f .n) (f .copies) (start .args .b) (l .h) (l .sum) (c .up .result) (omega arith) (l .inv .1) (rounded c),
+      omega (arith, small c),
+    )
 
 returns : tie.Need-returns Inv-loop μ-loop
 unfolding planOf

@@ -43,7 +43,9 @@ returns c =
     let j = start .args .j in
     let here = r .power e (omega arith) in
     r .full e (omega arith)
-    ∙ sym (tree-full (planOf (start .args .t1) []) (omega (arith, start .pre .0 .n-low)) e j (start .pre .2 .0) (rw (← add-one j) (rw here at (c .before .if1 .taken))))
+    ∙ sym
+    (tree-full (planOf (start .args .t1) []) (omega (arith, start .pre .0 .n-low)) e j (start .pre .2 .0)
+    (rw (← add-one j) (rw here at (c .before .if1 .taken))))
 
 last-tree-size-requires : tie.Need-last-tree-size-requires
 last-tree-size-requires c κs =
