@@ -18,7 +18,7 @@ use Rattle.buckets.specs.declared.Line.{Line}
 use Rattle.buckets.specs.ListLine.{readLine, spelled, cutLines, listLines, taken, misprintFrom, fallFrom}
 use Rattle.buckets.proofs.Lists.{length-cutLines, length-listLines, cut-at, line-at}
 use Rattle.cycle.specs.Held.{placeOr}
-use Rattle.cycle.proofs.Sending.{spelled-front}
+use Rattle.cycle.proofs.ImageLines.{spelled-front}
 
 pub count-lines : (list : List ℕ) (lines : ℕ) → length list ≡ 27 * lines → length list / 27 ≡ lines
 count-lines list lines e = rw (e, mul-comm 27 lines) (mul-div-cancel lines (lit< tt))
@@ -57,7 +57,7 @@ module _ (list : List ℕ) (lines : ℕ) (whole : length list ≡ 27 * lines) (i
         let none-there : Line = spelled [] in
         let there : i < length list / 27 = omega (arith, count-lines list lines whole) in
         drop-cons (listLines list) i none-there (omega (arith, length-listLines list))
-        ∙ rw (line-at list none-there i there, spelled-front (drop (i * 27) list), mul-comm i 27, add-one i)
+        ∙ rw (line-at list none-there i there, spelled-front 27 (drop (i * 27) list) (omega arith), mul-comm i 27, add-one i)
 
     pub tag-rises :
         i < lines → (x : ℕ) → x ≡ value 0 (take 10 (drop (27 * i) list)) → m ≤ x →

@@ -1,16 +1,15 @@
 -- A list that can be sent: its plan, the size of its image, each of its buckets, and the text of some of its lines.
 -- Assumes nothing.
-use mathlib.Core.Path.{_≡_, refl, sym, ap, _∙_, subst}
-use Prim.Native.Nat.{ℕ, zero, suc, _+_, _-_, _*_, _/_, _%_, _≤_, _<_}
+use mathlib.Core.Path.{_≡_, sym, ap, _∙_, subst}
+use Prim.Native.Nat.{ℕ, suc, _+_, _-_, _*_, _/_, _%_, _≤_, _<_}
 use native.Mathlib.Nat.{mul-comm, mul-mod-left, mul-div-cancel}
 use native.Mathlib.Omega.{arith}
 use mathlib.Core.Bool.{true}
-use mathlib.Core.List.{List, [], _∷_, _++_, map}
+use mathlib.Core.List.{List, [], _++_, map}
 use lib.Dec.{lit<}
 use lib.ListN.{length, take, drop, length-drop, length-map}
-use lib.Seq.{take-take, ext-getD}
+use lib.Seq.{ext-getD}
 use Rattle.columns.specs.Lists.{joined, every, range}
-use Rattle.columns.specs.PrintedNumbers.{value}
 use Rattle.columns.proofs.Joined.{map-at, drop-joined, take-joined}
 use Rattle.buckets.specs.declared.Line.{Line}
 use Rattle.buckets.specs.ListLine.{fits, printLine, spelled, listLines}
@@ -24,6 +23,7 @@ use Rattle.cycle.specs.Cycle.{cycleSize, image, toNextSegment}
 use Rattle.cycle.specs.declared.Figures.{Figures}
 use Rattle.cycle.specs.declared.Source.the-variants.{List as InList}
 use Rattle.cycle.specs.Held.{planOf, Sending, linesHeld, planIn, cycleBucket, imagePart}
+use Rattle.cycle.proofs.ImageLines.{spelled-front}
 use Rattle.cycle.proofs.Ranges.{length-range, getD-range}
 use Rattle.cycle.proofs.Shapes.{slots-shape}
 use Rattle.cycle.proofs.Accepted.{Accepted}
@@ -33,22 +33,6 @@ use Rattle.cycle.proofs.BuiltGood.{built-good}
 use Rattle.cycle.proofs.BuiltImage.{length-image, image-bucket}
 
 -- ---- the lines as they stand in the list
-
-part-of-front : (j w m : ℕ) (s : List ℕ) → j + w ≤ m → take w (drop j (take m s)) ≡ take w (drop j s)
-part-of-front zero w m s h = take-take w m s (omega arith)
-part-of-front (suc j) w zero s h = absurd (omega arith)
-part-of-front (suc j) w (suc m) [] h = refl
-part-of-front (suc j) w (suc m) (x ∷ s) h = part-of-front j w m s (omega arith)
-
-pub spelled-front : (s : List ℕ) → spelled (take 27 s) ≡ spelled s
-unfolding spelled
-spelled-front s =
-    λ i. record {
-      tag = value 0 (part-of-front 0 10 27 s (omega arith) i);
-      tare = value 0 (part-of-front 10 6 27 s (omega arith) i);
-      code = value 0 (part-of-front 16 4 27 s (omega arith) i);
-      weighing = value 0 (part-of-front 20 6 27 s (omega arith) i);
-    }
 
 pub size-shape : (f : Figures) (ls ms : List Line) → cycleSize (planOf f ls) ≡ cycleSize (planOf f ms)
 unfolding cycleSize
@@ -87,7 +71,7 @@ module _ (f : Figures) (list : List ℕ) (s : Sending f list) where
       map-at text (range 0 (f .lines)) i 0 none-there (omega (arith, long))
       ∙ ap text (getD-range 0 0 (f .lines) i (omega arith))
       ∙ ap (λ k. spelled (drop (27 * k) list)) (zero-plus i)
-      ∙ sym (line-at list none-there i there ∙ spelled-front (drop (i * 27) list) ∙ ap (λ k. spelled (drop k list)) e))
+      ∙ sym (line-at list none-there i there ∙ spelled-front 27 (drop (i * 27) list) (omega arith) ∙ ap (λ k. spelled (drop k list)) e))
     where
       zero-plus : (i : ℕ) → 0 + i ≡ i
       zero-plus i = omega arith

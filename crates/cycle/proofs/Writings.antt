@@ -1,6 +1,6 @@
 -- What the functions that write a segment have at hand: bounds, what they ask of their callees, and the turns of their loops.
 -- Assumes nothing.
-use mathlib.Core.Path.{_≡_, sym, ap, _∙_, subst}
+use mathlib.Core.Path.{_≡_, sym, ap, _∙_}
 use Prim.Native.Nat.{ℕ, suc, _+_, _-_, _*_, _≤_, _<_}
 use native.Mathlib.Nat.{mul-le-mul}
 use native.Mathlib.Omega.{arith}
@@ -9,18 +9,16 @@ use mir.Val.{Fits}
 use mathlib.Core.List.{List, [], _++_}
 use lib.ListN.{length, drop}
 use Rattle.cycle.specs.Tree.{Plan, above, children}
-use Rattle.cycle.specs.Layouts.{Slot, slots}
+use Rattle.cycle.specs.Layouts.{slots}
 use Rattle.cycle.specs.Cycle.{toNextSegment}
 use Rattle.cycle.specs.declared.Figures.{Figures}
 use Rattle.cycle.specs.declared.Segment.{Segment}
 use Rattle.cycle.specs.declared.Source.the-variants.{List as InList}
-use Rattle.cycle.specs.Held.{planOf, Ready, InTree, Stand, Placed, treeAt, Sending, linesHeld, planIn, written, Writing, TreePlace}
-use Rattle.cycle.proofs.Readiness
+use Rattle.cycle.specs.Held.{planOf, Ready, Placed, treeAt, Sending, linesHeld, planIn, written, Writing, TreePlace}
+use Rattle.cycle.proofs.TreePlaces
 use Rattle.cycle.proofs.Children
-use Rattle.cycle.proofs.Inside.{Inside, slot-inside}
-use Rattle.cycle.proofs.Positions.{At, stand-at}
 use Rattle.cycle.proofs.SegmentParts.{Seated, seated, path-there, path-layout, path-high}
-use Rattle.cycle.proofs.ChildTrees.{tree-parts, tree-lowest, earlier, earlier-more, earlier-all, child}
+use Rattle.cycle.proofs.ChildTrees.{earlier, earlier-more, earlier-all}
 use Rattle.cycle.proofs.Sending.{long-in}
 use Rattle.cycle.proofs.BucketsWritten.{HeldAt, index-held-at, tree-held-at}
 use Rattle.cycle.proofs.Written.{written-none, written-on, length-written}
@@ -32,15 +30,6 @@ first-fits a b h g = let most : a * b ≤ 320000 = mul-le-mul {n₂ = 40000} {m�
 
 pub child-fits : (a b i : ℕ) → a ≤ 40000 → b ≤ 8 → i < 8 → Fits w64 (a * b + i)
 child-fits a b i h g l = let most : a * b ≤ 320000 = mul-le-mul {n₂ = 40000} {m₂ = 8} h g in omega arith
-
--- a bucket of the cycle is one of the tree's
-place-inside :
-    (f : Figures) → Ready f → {x i j : ℕ} {xs : List Slot} → At (planOf f []) x i j xs → Inside (planOf f []) i j
-place-inside f ready a =
-    let sound = Readiness.sound f [] (ready .shaped) (ready .copies-fit) in
-    let one : Inside (planOf f []) (a .it .level) (a .it .place) =
-    slot-inside (planOf f []) sound (a .before) (a .it) (a .next ++ a .behind) (a .splits) in
-    rw (a .level-is, a .place-is) at one
 
 -- ---- a run of buckets, written from a on over d
 
@@ -75,28 +64,15 @@ module _ (f : Figures) (list : List ℕ) (s : Segment) (r : ℕ) (w : Writing f 
   pub head-asked :
       (x : ℕ) → s .start ≤ x → x < s .end →
       Ready f × (x < s .end) × (s .end ≤ f .size) × (toNextSegment (drop (suc x) (slots (planOf f [])) ++ slots (planOf f [])) ≡ s .end - x)
-  head-asked x low high = (w .sending .ready, high, seats .within, w .placed [] .next-starts x low high)
+  head-asked x low high = TreePlaces.head-asked f s (w .sending .ready) (w .placed) x low high
 
   -- ---- the segment's own tree, and its data
 
   pub own-tree : TreePlace f s (s .height) (s .root) (s .«tree_at»)
-  unfolding planOf InTree
-  own-tree =
-      let p = w .placed [] in
-      let at = stand-at {i = f .k + 1 - s .height} {j = s .root} (subst (Stand (planOf f []) (s .«tree_at»)) (tree-parts f (s .height) (s .root) (p .low) (p .high)) (p .tree-stands)) in
-      let there = place-inside f (w .sending .ready) at in
-      let deep : f .k + 1 - (f .k + 1 - s .height) ≡ s .height = omega (arith, p .low, p .high) in
-      record {
-        low = p .low;
-        inside = (p .high, rw deep at (there .covers));
-        behind-path = omega arith;
-        before-data = omega (arith, p .tree-length);
-        stands = p .tree-stands;
-      }
+  own-tree = TreePlaces.own-tree f s (w .sending .ready) (w .placed)
 
   pub data-in : (q : ℕ) → q < s .last → q < f .d
-  unfolding planOf
-  data-in q h = omega (arith, w .placed [] .last-in)
+  data-in q h = TreePlaces.data-in f s (w .sending .ready) (w .placed) q h
 
   -- ---- the path
 
@@ -111,23 +87,19 @@ module _ (f : Figures) (list : List ℕ) (s : Segment) (r : ℕ) (w : Writing f 
 
   module _ (e j x : ℕ) (p : TreePlace f s e j x) where
     pub tree-high : e ≤ f .k
-    unfolding InTree
-    tree-high = p .inside .0
+    tree-high = TreePlaces.tree-high f s (w .sending .ready) (w .placed) e j x p
 
     pub place-small : j ≤ 40000
-    place-small = Readiness.reached f e j (w .sending .ready .shaped) (p .inside) .place
-
-    pub tree-some : 1 ≤ length (treeAt (planOf f []) e j)
-    tree-some = rw (tree-parts f e j (p .low) tree-high) (omega arith)
+    place-small = TreePlaces.place-small f s (w .sending .ready) (w .placed) e j x p
 
     pub tree-before : x < s .«data_at»
-    tree-before = omega (arith, tree-some, p .before-data)
+    tree-before = TreePlaces.tree-before f s (w .sending .ready) (w .placed) e j x p
 
     pub tree-held : HeldAt (planIn f InList list) x (length (children (planOf f []) (f .k + 1 - e) j))
     tree-held = tree-held-at f list (w .sending) x e j (p .low) tree-high (p .stands)
 
     pub tree-alone : e ≡ 1 → length (treeAt (planOf f []) e j) ≡ 1
-    tree-alone one = rw one (tree-lowest f j (omega (arith, tree-high)))
+    tree-alone one = TreePlaces.tree-alone f s (w .sending .ready) (w .placed) e j x p one
 
     pub child-few : (i : ℕ) → i < length (children (planOf f []) (f .k + 1 - e) j) → i < 8
     child-few i h = Children.few f (w .sending .ready) e j (p .low) (p .inside) i h
@@ -135,15 +107,7 @@ module _ (f : Figures) (list : List ℕ) (s : Segment) (r : ℕ) (w : Writing f 
     pub child-place :
         (i next : ℕ) → (e ≡ 1 → ⊥) → i < length (children (planOf f []) (f .k + 1 - e) j) →
         next ≡ x + 1 + length (earlier f e j i) → TreePlace f s (e - 1) (j * f .n + i) next
-    child-place i next more h is =
-        let c = child f e j (p .low) tree-high x i (w .sending .ready) (p .inside) (p .stands) h in
-        record {
-          low = omega (arith, p .low, more);
-          inside = c .inside;
-          behind-path = omega (arith, p .behind-path);
-          before-data = omega (arith, c .fits, p .before-data);
-          stands = subst (λ y. Stand (planOf f []) y (treeAt (planOf f []) (e - 1) (j * f .n + i))) (sym is) (c .stands);
-        }
+    child-place i next more h is = TreePlaces.child-place f s (w .sending .ready) (w .placed) e j x p i next more h is
 
     -- ---- the loop over the children: d is the image where it begins
 

@@ -5,3 +5,4 @@ pub mod Cycle
 pub mod Building
 pub mod ReadingBack
 pub mod Held
+pub mod Comparing

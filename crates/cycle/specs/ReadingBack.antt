@@ -1,13 +1,14 @@
 -- Document 01, "Refused inputs": reading back, with the conditions 1, 11, 13 and 7 in that order.
 -- Assumes nothing.
-use Prim.Native.Nat.{ℕ, zero, suc, _+_, _-_, _*_, _/_, _%_, _≤_, _<_}
+use Prim.Native.Nat.{ℕ, _/_, _%_, _≤_, _<_}
 use mathlib.Core.Path.{_≡_}
-use mathlib.Core.Bool.{Bool, true, false, _&&_, not}
+use mathlib.Core.Bool.{Bool, true, false, _&&_}
 use mathlib.Core.List.{List, [], _∷_}
 use lib.Dec.{leb, eqb}
 use lib.ListN.{length}
+use Rattle.columns.specs.Lists.{onto}
 use Rattle.cycle.specs.Tree.{Settings}
-use Rattle.cycle.specs.Building.{Outcome, build, settingsFit}
+use Rattle.cycle.specs.Building.{build, settingsFit}
 use Rattle.cycle.specs.declared.Built.the-variants.{Cycle}
 use Rattle.cycle.specs.declared.Restored.{Restored}
 use Rattle.cycle.specs.declared.Restored.the-variants.{Lines, Refused}
@@ -40,3 +41,9 @@ pub data ReadBack (s : Settings) (image : List ℕ) (room : ℕ) : Restored → 
   restored :
       settingsFit s ≡ true → wholeBuckets (length image) ≡ true → (list : List ℕ) → Builds s list image →
       length list ≤ room → ReadBack s image room (Lines (length list / 27)) list
+
+-- reading back with answer r, where the lent buffer goes from `before` to `behind`: a list is written at its front
+pub record ReadsBack (s : Settings) (image before behind : List ℕ) (r : Restored) : Type 0 where
+  pub list : List ℕ
+  pub outcome : ReadBack s image (length before) r list
+  pub written : behind ≡ onto list before

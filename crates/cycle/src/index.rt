@@ -78,7 +78,7 @@ fn first_pair(text: &[u8], f: Figures, source: Source, sent: u64, x: u64) -> Ind
 }
 
 // How many children bucket j of height e has.
-fn child_count(f: Figures, e: usize, j: u64) -> usize
+pub fn child_count(f: Figures, e: usize, j: u64) -> usize
     requires { ⌜ Ready f × (1 ≤ e) × InTree f e j ⌝ }
     ensures { λ r. ⌜ r ≡ length (children (planOf f []) (f .k + 1 - e) j) ⌝ }
 {

@@ -2,6 +2,7 @@
 pub mod build;
 mod index;
 mod places;
+pub mod restore;
 mod segments;
 mod sizes;
 

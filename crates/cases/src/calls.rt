@@ -1,0 +1,92 @@
+// The four kinds of request, each with its call.
+use super::answers::say;
+use super::answers::stop;
+use super::hearing::hear;
+use super::lent::fill;
+use super::lent::hash;
+use super::requests::Numbers;
+use cycle::Built;
+use cycle::Restored;
+use listener::Looked;
+
+// B: building.
+fn build(numbers: &Numbers, body: &[u8], lent: &mut [u8]) -> bool {
+    let built = cycle::build::build(body, numbers[0], numbers[1], numbers[2], numbers[3], lent);
+    let after = hash(lent);
+    match built {
+        Built::Cycle(count) => say(&[0, 0, count, after]),
+        Built::Refused(number, place) => say(&[number, place, 0, after]),
+    }
+}
+
+// R: reading back.
+fn read_back(numbers: &Numbers, body: &[u8], lent: &mut [u8]) -> bool {
+    let restored = cycle::restore::read_back(
+        body,
+        numbers[0],
+        numbers[1],
+        numbers[2],
+        numbers[3],
+        lent,
+    );
+    let after = hash(lent);
+    match restored {
+        Restored::Lines(count) => say(&[0, 0, count, after]),
+        Restored::Refused(number, place) => say(&[number, place, 0, after]),
+    }
+}
+
+// L: a lookup.
+fn lookup(numbers: &Numbers, body: &[u8], lent: &mut [u8]) -> bool {
+    let looked = listener::lookup::lookup(body, numbers[0], numbers[1], lent);
+    let after = hash(lent);
+    match looked {
+        Looked::Found {
+            heard,
+            elapsed,
+            lines,
+        } => say(&[0, 0, 1, heard, elapsed, lines, after]),
+        Looked::Absent { heard, elapsed } => say(&[0, 0, 2, heard, elapsed, 0, after]),
+        Looked::Refused(number, place) => say(&[number, place, 0, 0, 0, 0, after]),
+    }
+}
+
+// H: one listener, given the body's buckets.
+fn hearing(numbers: &Numbers, body: &[u8]) -> bool {
+    let size = numbers[1] as usize;
+    if size == 0 {
+        return stop(b"error: a bucket of 0 bytes\n");
+    }
+    hear(numbers[0], size, body)
+}
+
+// The length of the lent buffer.
+fn room(letter: u8, numbers: &Numbers) -> u64 {
+    match letter {
+        b'B' | b'R' => numbers[4],
+        b'L' => numbers[2],
+        _ => 0,
+    }
+}
+
+// Makes the call that the letter stands for.
+fn call(letter: u8, numbers: &Numbers, body: &[u8], lent: &mut [u8]) -> bool {
+    match letter {
+        b'B' => build(numbers, body, lent),
+        b'R' => read_back(numbers, body, lent),
+        b'L' => lookup(numbers, body, lent),
+        b'H' => hearing(numbers, body),
+        _ => stop(b"error: a letter is none of B, R, L, H\n"),
+    }
+}
+
+// Makes a request's call, with a lent buffer of its length, and says the answer. Whether the stream goes on.
+pub fn answer(letter: u8, numbers: &Numbers, body: &[u8], lent: &mut [u8]) -> bool {
+    let end = room(letter, numbers) as usize;
+    if lent.len() < end {
+        return stop(b"error: a lent buffer is over the limit\n");
+    }
+    let part = &mut lent[..end];
+    fill(part);
+    call(letter, numbers, body, part)
+}

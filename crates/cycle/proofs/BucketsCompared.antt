@@ -1,0 +1,235 @@
+-- A bucket of an image, as read, against the bucket of the cycle that stands there: index buckets and data buckets.
+-- Assumes nothing.
+use mathlib.Core.Path.{_≡_, refl, sym, ap, ap₂, _∙_, subst}
+use Prim.Native.Nat.{ℕ, _+_, _-_, _*_, _/_, _%_, _≤_, _<_, min}
+use native.Mathlib.Omega.{arith}
+use mathlib.Core.Bool.{Bool, true, false}
+use mathlib.Core.Option.{Option, none, some}
+use mathlib.Core.List.{List, [], _∷_, _++_, map}
+use borrow.Author.Tests.{eq-eqb}
+use lib.Arith.{digits-div, digits-mod}
+use lib.ListN.{length, drop, getD, length-drop, length-take}
+use lib.Seq.{ext-getD, getD-take, getD-drop}
+use Rattle.columns.specs.Lists.{pick, every, range}
+use Rattle.buckets.specs.declared.Line.{Line}
+use Rattle.buckets.specs.declared.Head.{Head}
+use Rattle.buckets.specs.declared.Index.{Index}
+use Rattle.buckets.specs.declared.Kind.the-variants.{Index as KindIndex, Data as KindData, Misprinted as KindMisprinted}
+use Rattle.buckets.specs.declared.Reading.{Reading}
+use Rattle.buckets.specs.ListLine.{spelled}
+use Rattle.buckets.specs.Bucket.{Pair, Entry, Body, indexBody, dataBody, Bucket, readBucket, good, followOn, laterPrinted, printedTag}
+use Rattle.buckets.specs.Held.{headOf, heldIndex, indexOf, heldBody, asReading, bucketWith}
+use Rattle.buckets.proofs.Good.{GoodIndex, bucket-good}
+use Rattle.buckets.proofs.Buckets.{print-of-read-bucket}
+use Rattle.cycle.specs.Tree.{Plan, linesOf, lastTag}
+use Rattle.cycle.specs.Layouts.{Slot, slot, slots}
+use Rattle.cycle.specs.Cycle.{isData, firstPair, laterPair, hasPairs, pairs, entries, followOnFrom}
+use Rattle.cycle.specs.declared.Figures.{Figures}
+use Rattle.cycle.specs.declared.Source.the-variants.{Image as InImage}
+use Rattle.cycle.specs.Held.{planOf, Ready, Stand, firstPlace, lastSentBefore, linesHeld, planIn, cycleBucket, asIndex}
+use Rattle.cycle.specs.Comparing.{Decides, bucketBytes, MatchesAt, indexReading}
+use Rattle.cycle.proofs.Sequence.{Keeps, dataCount}
+use Rattle.cycle.proofs.Keeping.{keeps}
+use Rattle.cycle.proofs.Shapes.{stand-shape}
+use Rattle.cycle.proofs.Positions.{stand-at, index-at, data-at}
+use Rattle.cycle.proofs.WholeIndex.{index-held, bucket-whole}
+use Rattle.cycle.proofs.Readiness.{sound}
+use Rattle.cycle.proofs.Sending.{head-shape}
+use Rattle.cycle.proofs.Deciding.{decides-by}
+use Rattle.cycle.proofs.ImageLines.{data-first, lineBytes, printed-spells, length-held, held-line}
+
+-- ---- index buckets
+
+-- only a first control pair may be blank
+later-all : (t : Plan) (ahead : List Slot) (x : Slot) (js : List ℕ) → every (λ (q : Pair). printedTag (q .tag)) (map (laterPair t ahead x) js) ≡ true
+unfolding laterPair
+later-all t ahead x [] = refl
+later-all t ahead x (j ∷ js) = later-all t ahead x js
+
+pub pairs-later : (t : Plan) (ahead : List Slot) (last : Option ℕ) (c : ℕ) (x : Slot) → laterPrinted (pairs t ahead last c x) ≡ true
+unfolding pairs
+pairs-later t ahead last c x = by (hasPairs t x)
+  where
+    by : (b : Bool) → laterPrinted (pick b (firstPair last c ∷ map (laterPair t ahead x) (range 2 (x .level + 1))) []) ≡ true
+    by true = later-all t ahead x (range 2 (x .level + 1))
+    by false = refl
+
+-- an index bucket is told by its head and its index
+pub index-told :
+    (o : Option Bucket) (b : Bucket) (ps : List Pair) (es : List Entry) → ((c : Bucket) → o ≡ some c → good c ≡ true) →
+    b .body ≡ indexBody ps es → laterPrinted ps ≡ true → asReading o ≡ indexReading (headOf b) (asIndex (b .body)) → o ≡ some b
+unfolding indexReading
+index-told none b ps es fine e h r = absurd (let k : KindMisprinted ≡ KindIndex = ap (λ (x : Reading). x .kind) r in let z : _≡_ {A = ℕ} 0 1 = cc in omega arith)
+index-told (some c) b ps es fine e h r = ap some (of (c .body) refl)
+  where
+    of : (x : Body) → c .body ≡ x → c ≡ b
+    of (dataBody f ls) g =
+        absurd
+        (let k : KindData ≡ KindIndex = ap (λ (x : Reading). x .kind) (sym (ap (heldBody (headOf c)) g) ∙ r) in
+        let z : _≡_ {A = ℕ} 0 1 = cc in omega arith)
+    of (indexBody qs fs) g =
+        let same : heldBody (headOf c) (indexBody qs fs) ≡ indexReading (headOf b) (asIndex (b .body)) = sym (ap (heldBody (headOf c)) g) ∙ r in
+        let told : GoodIndex (c .position + c .toCycle) qs fs = rw g at (bucket-good c (fine c refl) .good-rest) in
+        let index : heldIndex qs fs ≡ heldIndex ps es = ap (λ (x : Reading). x .index) same ∙ ap asIndex e in
+        let body : c .body ≡ b .body =
+        g ∙ (sym (index-held qs fs (told .later-printed)) ∙ (ap indexOf index ∙ (index-held ps es h ∙ sym e))) in
+        let head : headOf c ≡ headOf b = ap (λ (x : Reading). x .head) same in
+        sym (bucket-whole c) ∙ (ap₂ bucketWith head body ∙ bucket-whole b)
+
+pub index-reads : (b : Bucket) (ps : List Pair) (es : List Entry) → b .body ≡ indexBody ps es → asReading (some b) ≡ indexReading (headOf b) (asIndex (b .body))
+unfolding indexReading
+index-reads b ps es e = ap (heldBody (headOf b)) e ∙ ap (λ x. indexReading (headOf b) (asIndex x)) (sym e)
+
+module _ (f : Figures) (bytes : List ℕ) (ready : Ready f) where
+  pub stand-held : {x : ℕ} {xs : List Slot} → Stand (planOf f []) x xs → Stand (planIn f InImage bytes) x xs
+  unfolding planIn
+  stand-held st = stand-shape f [] (linesHeld f InImage bytes) st
+
+  pub head-held : (x : ℕ) → x < f .size → headOf (cycleBucket (planOf f []) x) ≡ headOf (cycleBucket (planIn f InImage bytes) x)
+  unfolding planIn
+  head-held x h = head-shape f [] (linesHeld f InImage bytes) x (omega (arith, ready .size-is))
+
+  pub index-decided :
+      (x i j : ℕ) {xs : List Slot} → Stand (planOf f []) x (slot i j ∷ xs) → i ≤ f .k → x < f .size →
+      (head : Head) (index : Index) (r : Bool) → head ≡ headOf (cycleBucket (planOf f []) x) →
+      index ≡ asIndex (cycleBucket (planIn f InImage bytes) x .body) →
+      Decides (asReading (readBucket (bucketBytes bytes x)) ≡ indexReading head index) r → Decides (MatchesAt (planIn f InImage bytes) bytes x) r
+  unfolding planIn planOf
+  index-decided x i j st low below head index r head-is index-is d =
+      let t : Plan = planIn f InImage bytes in
+      let a = stand-at {i = i} {j = j} (stand-held st) in
+      let rest : List Slot = a .next ++ a .behind in
+      let ps : List Pair = pairs t (rest ++ slots t) (lastSentBefore t x) (length (slots t) - x) (slot i j) in
+      let es : List Entry = entries t (rest ++ slots t) (slot i j) in
+      let body : cycleBucket t x .body ≡ indexBody ps es = index-at a low in
+      let wanted : indexReading head index ≡ indexReading (headOf (cycleBucket t x)) (asIndex (cycleBucket t x .body)) =
+      ap₂ indexReading (head-is ∙ head-held x below) index-is in
+      let o : Option Bucket = readBucket (bucketBytes bytes x) in
+      decides-by
+      (λ e.
+      record {
+        reads =
+            index-told o (cycleBucket t x) ps es (λ c m. print-of-read-bucket (bucketBytes bytes x) m .1) body
+            (pairs-later t (rest ++ slots t) (lastSentBefore t x) (length (slots t) - x) (slot i j)) (e ∙ wanted);
+      })
+      (λ e. ap asReading (e .reads) ∙ (index-reads (cycleBucket t x) ps es body ∙ sym wanted))
+      d
+
+-- ---- data buckets
+
+-- what is looked at of a data bucket that was read
+pub record DataFacts (g : Reading) (head : Head) (count follow : ℕ) : Type 0 where
+  pub kind-is : g .kind ≡ KindData
+  pub head-is : g .head ≡ head
+  pub count-is : g .lines ≡ count
+  pub follow-is : g .«follow_on» ≡ follow
+
+-- that is all there is to it, if its lines are those wanted as soon as there are as many
+pub data-told :
+    (o : Option Bucket) (b : Bucket) (f : ℕ) (ls : List Line) →
+    ((c : Bucket) (h : ℕ) (ms : List Line) → o ≡ some c → c .body ≡ dataBody h ms → length ms ≡ length ls → ms ≡ ls) →
+    b .body ≡ dataBody f ls → DataFacts (asReading o) (headOf b) (length ls) f → o ≡ some b
+data-told none b f ls known e d = absurd (let k : KindMisprinted ≡ KindData = d .kind-is in let z : _≡_ {A = ℕ} 0 1 = cc in omega arith)
+data-told (some c) b f ls known e d = ap some (of (c .body) refl)
+  where
+    of : (x : Body) → c .body ≡ x → c ≡ b
+    of (indexBody ps es) g =
+        absurd
+        (let k : KindIndex ≡ KindData = ap (λ x. heldBody (headOf c) x .kind) (sym g) ∙ d .kind-is in
+        let z : _≡_ {A = ℕ} 0 1 = cc in omega arith)
+    of (dataBody h ms) g =
+        let count : length ms ≡ length ls = ap (λ x. heldBody (headOf c) x .lines) (sym g) ∙ d .count-is in
+        let follow : h ≡ f = ap (λ x. heldBody (headOf c) x .«follow_on») (sym g) ∙ d .follow-is in
+        let head : headOf c ≡ headOf b = ap (λ x. heldBody (headOf c) x .head) (sym g) ∙ d .head-is in
+        let body : c .body ≡ b .body = g ∙ (ap₂ dataBody follow (known c h ms refl g count) ∙ sym e) in
+        sym (bucket-whole c) ∙ (ap₂ bucketWith head body ∙ bucket-whole b)
+
+pub data-reads : (b : Bucket) (f : ℕ) (ls : List Line) → b .body ≡ dataBody f ls → DataFacts (asReading (some b)) (headOf b) (length ls) f
+data-reads b f ls e =
+    record {
+      kind-is = ap (λ x. heldBody (headOf b) x .kind) e;
+      head-is = ap (λ x. heldBody (headOf b) x .head) e;
+      count-is = ap (λ x. heldBody (headOf b) x .lines) e;
+      follow-is = ap (λ x. heldBody (headOf b) x .«follow_on») e;
+    }
+
+module _ (f : Figures) (bytes : List ℕ) (ready : Ready f) (x q : ℕ) (st : Stand (planOf f []) x (slot (f .k + 1) q ∷ [])) where
+  -- data bucket q stands at x and nowhere else
+  pub data-here : firstPlace (planOf f []) (f .k + 1) q ≡ x
+  unfolding planOf isData
+  data-here =
+      let t : Plan = planOf f [] in
+      let a = stand-at {i = f .k + 1} {j = q} st in
+      let ks : Keeps t = keeps t (sound f [] (ready .shaped) (ready .copies-fit)) in
+      let is-data : isData t (a .it) ≡ true = eq-eqb (a .it .level) (f .k + 1) (a .level-is) in
+      let count : dataCount t (a .before) ≡ q = sym (ks .in-order (a .before) (a .it) (a .next ++ a .behind) (a .splits) is-data) ∙ a .place-is in
+      data-first t ks (a .before) (a .it) (a .next ++ a .behind) q (a .splits) is-data count ∙ a .here
+
+  pub length-held-of : length (linesOf (planIn f InImage bytes) q) ≡ min (f .p) (f .lines - q * f .p)
+  unfolding linesOf planIn planOf
+  length-held-of =
+      length-take (f .p) (drop (q * f .p) (linesHeld f InImage bytes))
+      ∙ ap (min (f .p)) (length-drop (q * f .p) (linesHeld f InImage bytes) ∙ ap (λ c. c - q * f .p) (length-held f bytes))
+
+  -- its lines are spelled by the bytes there
+  pub held-of :
+      (z : Line) (m : ℕ) → m < min (f .p) (f .lines - q * f .p) →
+      getD (linesOf (planIn f InImage bytes) q) m z ≡ spelled (lineBytes (bucketBytes bytes x) m)
+  unfolding linesOf planIn planOf
+  held-of z m h =
+      let ls : List Line = linesHeld f InImage bytes in
+      let i : ℕ = q * f .p + m in
+      let bucket : i / f .p ≡ q = digits-div q {m = f .p} {r = m} (omega arith) in
+      let line : i % f .p ≡ m = digits-mod q {m = f .p} {r = m} (omega arith) in
+      getD-take (f .p) (drop (q * f .p) ls) m z (omega arith)
+      ∙ getD-drop (q * f .p) ls m z
+      ∙ held-line f bytes z i (omega arith) (ready .shaped .p-low) (ready .shaped .p-high)
+      ∙ ap₂ (λ u v. spelled (lineBytes (bucketBytes bytes (firstPlace (planOf f []) (f .k + 1) u)) v)) bucket line
+      ∙ ap (λ y. spelled (lineBytes (bucketBytes bytes y) m)) data-here
+
+  pub lines-known :
+      (c : Bucket) (h : ℕ) (ms : List Line) → readBucket (bucketBytes bytes x) ≡ some c → c .body ≡ dataBody h ms →
+      length ms ≡ length (linesOf (planIn f InImage bytes) q) → ms ≡ linesOf (planIn f InImage bytes) q
+  lines-known c h ms e g l =
+      let z : Line = spelled [] in
+      let told = print-of-read-bucket (bucketBytes bytes x) e in
+      ext-getD z ms (linesOf (planIn f InImage bytes) q) l
+      (λ m b.
+      sym (printed-spells c h ms z m (told .1) g b)
+      ∙ ap (λ s. spelled (lineBytes s m)) (sym (told .0))
+      ∙ sym (held-of z m (omega (arith, l, length-held-of))))
+
+  pub data-decided :
+      x < f .size → (head : Head) (count follow : ℕ) (r : Bool) → head ≡ headOf (cycleBucket (planOf f []) x) →
+      count ≡ min (f .p) (f .lines - q * f .p) → follow ≡ followOn (cycleBucket (planIn f InImage bytes) x .body) →
+      Decides (DataFacts (asReading (readBucket (bucketBytes bytes x))) head count follow) r →
+      Decides (MatchesAt (planIn f InImage bytes) bytes x) r
+  unfolding planIn planOf
+  data-decided below head count follow r head-is count-is follow-is d =
+      let t : Plan = planIn f InImage bytes in
+      let a = stand-at {i = f .k + 1} {j = q} (stand-held f bytes ready st) in
+      let from : ℕ = followOnFrom t (lastTag t q) 1 (a .next ++ a .behind) in
+      let body : cycleBucket t x .body ≡ dataBody from (linesOf t q) = data-at a refl in
+      let same-head : head ≡ headOf (cycleBucket t x) = head-is ∙ head-held f bytes ready x below in
+      let same-count : count ≡ length (linesOf t q) = count-is ∙ sym length-held-of in
+      let same-follow : follow ≡ from = follow-is ∙ ap followOn body in
+      let o : Option Bucket = readBucket (bucketBytes bytes x) in
+      decides-by
+      (λ g.
+      let facts : DataFacts (asReading o) (headOf (cycleBucket t x)) (length (linesOf t q)) from =
+      record {
+        kind-is = g .kind-is;
+        head-is = g .head-is ∙ same-head;
+        count-is = g .count-is ∙ same-count;
+        follow-is = g .follow-is ∙ same-follow;
+      } in
+      record { reads = data-told o (cycleBucket t x) from (linesOf t q) lines-known body facts })
+      (λ e.
+      let g = subst (λ w. DataFacts (asReading w) (headOf (cycleBucket t x)) (length (linesOf t q)) from) (sym (e .reads)) (data-reads (cycleBucket t x) from (linesOf t q) body) in
+      record {
+        kind-is = g .kind-is;
+        head-is = g .head-is ∙ sym same-head;
+        count-is = g .count-is ∙ sym same-count;
+        follow-is = g .follow-is ∙ sym same-follow;
+      })
+      d

@@ -1,0 +1,31 @@
+-- How a test that decides a statement is put together.
+-- Assumes nothing.
+use mathlib.Core.Path.{_≡_, refl, sym}
+use Prim.Native.Nat.{ℕ}
+use mathlib.Core.Bool.{Bool, true, false, not, true≢false}
+use lib.Dec.{eqb}
+use borrow.Author.Tests.{eqb-true, eqb-false}
+use Rattle.cycle.specs.Comparing.{Decides}
+
+module _ {P : Type 0} where
+  pub decides-no : (P → ⊥) → Decides P false
+  decides-no f = record { yes = λ e. absurd (true≢false (sym e)); no = λ e. f }
+
+  pub decides-yes : P → Decides P true
+  decides-yes p = record { yes = λ e. p; no = λ e. absurd (true≢false e) }
+
+  -- the test of a statement that means the same
+  pub decides-by : {Q : Type 0} {r : Bool} → (P → Q) → (Q → P) → Decides P r → Decides Q r
+  decides-by f g d = record { yes = λ e. f (d .yes e); no = λ e q. d .no e (g q) }
+
+  -- a statement of which a part does not hold
+  pub decides-not : {Q : Type 0} {r : Bool} → not r ≡ true → (P → Q) → Decides Q r → Decides P false
+  decides-not {r = true} e f d = absurd (true≢false (sym e))
+  decides-not {r = false} e f d = decides-no (λ p. d .no refl (f p))
+
+  pub decides-told : {r : Bool} → not r ≡ false → Decides P r → P
+  decides-told {r = true} e d = d .yes refl
+  decides-told {r = false} e d = absurd (true≢false e)
+
+pub decides-eqb : (a b : ℕ) → Decides (a ≡ b) (eqb a b)
+decides-eqb a b = record { yes = eqb-true a b; no = eqb-false a b }

@@ -1,0 +1,138 @@
+-- The lines of an image: where data buckets stand, and what their columns spell.
+-- Assumes nothing.
+use mathlib.Core.Path.{_≡_, refl, sym, ap, _∙_}
+use Prim.Native.Nat.{ℕ, zero, suc, _+_, _-_, _*_, _/_, _%_, _≤_, _<_}
+use native.Mathlib.Nat.{mod-lt}
+use native.Mathlib.Omega.{arith}
+use mathlib.Core.Bool.{true}
+use mathlib.Core.List.{List, [], _∷_, _++_, append-assoc}
+use lib.ListN
+use lib.ListN.{length, drop, getD, length-map}
+use lib.Seq.{take-take, drop-drop, drop-append-add}
+use borrow.Author.Tests.{eqb-true}
+use Rattle.columns.specs.Lists.{joined, padded, range}
+use Rattle.columns.specs.PrintedNumbers.{value}
+use Rattle.columns.proofs.Joined.{map-at, joined-at, every-at}
+use Rattle.buckets.specs.declared.Line.{Line}
+use Rattle.buckets.specs.ListLine.{fits, figures, spelled}
+use Rattle.buckets.specs.Bucket.{dataBody, Bucket, printHead, printBody, printBucket, good}
+use Rattle.buckets.proofs.ListLines.{length-figures, spelled-alone}
+use Rattle.buckets.proofs.Good.{GoodData, bucket-good}
+use Rattle.buckets.proofs.Buckets.{length-printHead}
+use Rattle.cycle.specs.Tree.{Plan}
+use Rattle.cycle.specs.Layouts.{Slot, slots}
+use Rattle.cycle.specs.Cycle.{isData}
+use Rattle.cycle.specs.declared.Figures.{Figures}
+use Rattle.cycle.specs.declared.Source.the-variants.{Image as InImage}
+use Rattle.cycle.specs.Held.{planOf, firstPlace, lineAt, linesHeld}
+use Rattle.cycle.specs.Comparing.{bucketBytes}
+use Rattle.cycle.proofs.Ranges.{length-range, getD-range}
+use Rattle.cycle.proofs.Sequence.{dataCount, Keeps}
+use Rattle.cycle.proofs.Suffixes.{data-occurs}
+use Rattle.cycle.proofs.Positions.{At}
+use Rattle.cycle.proofs.NextOccurrence.{first-hit}
+use Rattle.cycle.proofs.DataOnce.{Counted, counted, none-before}
+
+-- ---- where data buckets stand
+
+module _ (t : Plan) (keeps : Keeps t) where
+  -- a data bucket stands at its first place
+  pub data-first :
+      (before : List Slot) (y : Slot) (rest : List Slot) (q : ℕ) → slots t ≡ before ++ (y ∷ rest) → isData t y ≡ true →
+      dataCount t before ≡ q → firstPlace t (t .k + 1) q ≡ length before
+  data-first before y rest q e d c =
+      first-hit t (t .k + 1) q before y rest e (none-before t keeps before (y ∷ rest) e q (omega arith))
+      (data-occurs t y q d (keeps .in-order before y rest e d ∙ c))
+
+  pub data-placed : (q : ℕ) → q < t .d → At t (firstPlace t (t .k + 1) q) (t .k + 1) q []
+  unfolding isData
+  data-placed q h =
+      let g : Counted t q (slots t) = counted t q (slots t) (omega (arith, keeps .all-sent)) in
+      record {
+        before = g .skipped;
+        it = g .hit;
+        next = [];
+        behind = g .behind;
+        splits = g .splits;
+        here = sym (data-first (g .skipped) (g .hit) (g .behind) q (g .splits) (g .passes) (g .count));
+        level-is = eqb-true (g .hit .level) (t .k + 1) (g .passes);
+        place-is = keeps .in-order (g .skipped) (g .hit) (g .behind) (g .splits) (g .passes) ∙ g .count;
+        alike = refl;
+      }
+
+-- ---- the columns of a line
+
+pub part-of-front : (j w m : ℕ) (s : List ℕ) → j + w ≤ m → ListN.take w (drop j (ListN.take m s)) ≡ ListN.take w (drop j s)
+part-of-front zero w m s h = take-take w m s (omega arith)
+part-of-front (suc j) w zero s h = absurd (omega arith)
+part-of-front (suc j) w (suc m) [] h = refl
+part-of-front (suc j) w (suc m) (x ∷ s) h = part-of-front j w m s (omega arith)
+
+pub spelled-front : (w : ℕ) (s : List ℕ) → 26 ≤ w → spelled (ListN.take w s) ≡ spelled s
+unfolding spelled
+spelled-front w s h =
+    λ i. record {
+      tag = value 0 (part-of-front 0 10 w s (omega arith) i);
+      tare = value 0 (part-of-front 10 6 w s (omega arith) i);
+      code = value 0 (part-of-front 16 4 w s (omega arith) i);
+      weighing = value 0 (part-of-front 20 6 w s (omega arith) i);
+    }
+
+-- a bucket lent as a part of the image
+pub part-bytes : (image : List ℕ) (x : ℕ) → ListN.take (240 * x + 240 - 240 * x) (drop (240 * x) image) ≡ bucketBytes image x
+unfolding bucketBytes
+part-bytes image x = let e : 240 * x + 240 - 240 * x ≡ 240 = omega arith in rw e
+
+-- line m of a bucket's bytes
+unfoldable pub lineBytes : List ℕ → ℕ → List ℕ
+lineBytes s m = ListN.take 26 (drop (29 + 26 * m) s)
+
+-- the same, of the image
+pub image-line : (image : List ℕ) (x m : ℕ) → m < 8 → ListN.take 26 (drop (240 * x + (29 + 26 * m)) image) ≡ lineBytes (bucketBytes image x) m
+unfolding lineBytes bucketBytes
+image-line image x m h =
+    ap (ListN.take 26) (sym (drop-drop (29 + 26 * m) (240 * x) image))
+    ∙ sym (part-of-front (29 + 26 * m) 26 240 (drop (240 * x) image) (omega arith))
+
+-- a printed data bucket has its lines there
+pub printed-line :
+    (b : Bucket) (f : ℕ) (ls : List Line) (z : Line) (m : ℕ) → b .body ≡ dataBody f ls → m < length ls →
+    lineBytes (printBucket b) m ≡ figures (getD ls m z)
+unfolding lineBytes printBucket padded
+printed-line b f ls z m e h =
+    let body : List ℕ = joined figures ls ++ ListN.replicate (210 - length (joined figures ls)) 32 in
+    let at : 29 + 26 * m ≡ length (printHead b) + m * 26 = omega (arith, length-printHead b) in
+    let whole : printHead b ++ (printBody (b .body) ++ 10 ∷ []) ≡ printHead b ++ (joined figures ls ++ (ListN.replicate (210 - length (joined figures ls)) 32 ++ 10 ∷ [])) =
+    ap (λ x. printHead b ++ (printBody x ++ 10 ∷ [])) e
+    ∙ ap (λ s. printHead b ++ s) (append-assoc (joined figures ls) (ListN.replicate (210 - length (joined figures ls)) 32) (10 ∷ [])) in
+    rw (whole, at, drop-append-add (printHead b) (joined figures ls ++ (ListN.replicate (210 - length (joined figures ls)) 32 ++ 10 ∷ [])) (m * 26))
+    (joined-at figures 26 length-figures z ls (ListN.replicate (210 - length (joined figures ls)) 32 ++ 10 ∷ []) m h)
+
+pub printed-spells :
+    (b : Bucket) (f : ℕ) (ls : List Line) (z : Line) (m : ℕ) → good b ≡ true → b .body ≡ dataBody f ls → m < length ls →
+    spelled (lineBytes (printBucket b) m) ≡ getD ls m z
+printed-spells b f ls z m g e h =
+    let told : GoodData (b .toCycle) f ls = rw e at (bucket-good b g .good-rest) in
+    ap spelled (printed-line b f ls z m e h) ∙ spelled-alone (getD ls m z) (every-at fits z ls m (told .lines-fit) h)
+
+-- ---- the lines held
+
+module _ (f : Figures) (image : List ℕ) where
+  pub length-held : length (linesHeld f InImage image) ≡ f .lines
+  unfolding linesHeld
+  length-held = length-map (range 0 (f .lines)) (λ i. spelled (drop (lineAt (planOf f []) InImage i) image)) ∙ (length-range 0 (f .lines) ∙ omega arith)
+
+  pub held-line :
+      (z : Line) (i : ℕ) → i < f .lines → 1 ≤ f .p → f .p ≤ 8 →
+      getD (linesHeld f InImage image) i z ≡ spelled (lineBytes (bucketBytes image (firstPlace (planOf f []) (f .k + 1) (i / f .p))) (i % f .p))
+  unfolding linesHeld planOf
+  held-line z i h low high =
+      let g : ℕ → Line = λ j. spelled (drop (lineAt (planOf f []) InImage j) image) in
+      let x : ℕ = firstPlace (planOf f []) (f .k + 1) (i / f .p) in
+      let long : length (range 0 (f .lines)) ≡ f .lines = length-range 0 (f .lines) ∙ omega arith in
+      let small : i % f .p < f .p = mod-lt i (omega arith) in
+      let same : 0 + i ≡ i = omega arith in
+      map-at g (range 0 (f .lines)) i 0 z (omega arith)
+      ∙ ap g (getD-range 0 0 (f .lines) i (omega arith) ∙ same)
+      ∙ sym (spelled-front 26 (drop (240 * x + (29 + 26 * (i % f .p))) image) (omega arith))
+      ∙ ap spelled (image-line image x (i % f .p) (omega arith))

@@ -1,0 +1,36 @@
+-- Parts of an image that are parts of the cycle: the laws of `Matches t bytes x y`.
+-- Assumes nothing.
+use mathlib.Core.Path.{_≡_, subst}
+use mathlib.Core.Logic.{⊎-elim}
+use Prim.Native.Nat.{ℕ, _+_, _≤_, _<_}
+use native.Mathlib.Omega.{arith}
+use mathlib.Core.List.{List}
+use Rattle.cycle.specs.Tree.{Plan}
+use Rattle.cycle.specs.Comparing.{MatchesAt, Matches}
+use Rattle.cycle.proofs.Ranges.{le-or-lt}
+
+module _ {t : Plan} {bytes : List ℕ} where
+  pub matches-none : (x : ℕ) → Matches t bytes x x
+  matches-none x = record { each = λ z low high. absurd (omega arith) }
+
+  pub matches-on : {x y z : ℕ} → Matches t bytes x y → Matches t bytes y z → Matches t bytes x z
+  matches-on {x} {y} {z} a b =
+      record {
+        each = λ w low high. ⊎-elim (λ (l : y ≤ w). b .each w l high) (λ (l : w < y). a .each w low l) (le-or-lt y w);
+      }
+
+  pub matches-part : {x z : ℕ} (u v : ℕ) → x ≤ u → v ≤ z → Matches t bytes x z → Matches t bytes u v
+  matches-part u v h g a = record { each = λ w low high. a .each w (omega arith) (omega arith) }
+
+  pub matches-one : {x : ℕ} → MatchesAt t bytes x → Matches t bytes x (x + 1)
+  matches-one {x} a =
+      record { each = λ w low high. let e : x ≡ w = omega arith in subst (MatchesAt t bytes) e a }
+
+  pub matches-next : {x y : ℕ} → Matches t bytes x y → MatchesAt t bytes y → Matches t bytes x (y + 1)
+  matches-next a b = matches-on a (matches-one b)
+
+  pub matches-at : {x z : ℕ} (y : ℕ) → x ≤ y → y < z → Matches t bytes x z → MatchesAt t bytes y
+  matches-at y low high a = a .each y low high
+
+  pub matches-to : {x y z : ℕ} → y ≡ z → Matches t bytes x y → Matches t bytes x z
+  matches-to {x} e a = subst (Matches t bytes x) e a

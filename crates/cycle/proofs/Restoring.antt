@@ -1,0 +1,187 @@
+-- The outcomes of reading back: which answer each finding stands for.
+-- Assumes nothing.
+use mathlib.Core.Path.{_≡_, refl, sym, ap, _∙_, subst}
+use Prim.Native.Nat.{ℕ, _+_, _*_, _/_, _%_, _≤_, _<_}
+use native.Mathlib.Nat.{zero-add, mul-div-cancel, div-add-mod'}
+use native.Mathlib.Omega.{arith}
+use mathlib.Core.Bool.{true, false, true≢false}
+use mathlib.Core.List.{List, [], _++_}
+use lib.Dec.{leb, eqb, lit<}
+use lib.ListN.{length, drop}
+use borrow.Author.Tests.{eq-eqb, ne-eqb, le-leb, lt-leb}
+use Rattle.columns.specs.Lists.{joined, put, onto}
+use Rattle.columns.proofs.Strict.{and-false}
+use Rattle.buckets.specs.ListLine.{printLine, listLines}
+use Rattle.buckets.proofs.Lists.{length-printed}
+use Rattle.cycle.specs.Tree.{Settings, settings}
+use Rattle.cycle.specs.Cycle.{cycleSize}
+use Rattle.cycle.specs.Building.{copiesFit, settingsFit}
+use Rattle.cycle.specs.ReadingBack.{wholeBuckets, Builds, ReadBack, noRoom, restored, ReadsBack}
+use Rattle.cycle.specs.declared.Restored.{Restored}
+use Rattle.cycle.specs.declared.Restored.the-variants.{Lines, Refused}
+use Rattle.cycle.specs.declared.Figures.{Figures}
+use Rattle.cycle.specs.declared.Source.the-variants.{Image as InImage}
+use Rattle.cycle.specs.Held.{planOf, Shaped, sized, linesHeld, planIn}
+use Rattle.cycle.specs.Comparing.{Matches, NoFall, counted, listText, Holding}
+use Rattle.cycle.proofs.Sending.{size-shape}
+use Rattle.cycle.proofs.Matching.{matches-to}
+use Rattle.cycle.proofs.ImageLines.{length-held}
+use Rattle.cycle.proofs.ImageText.{text-list}
+use Rattle.cycle.proofs.HeldImage.{Figured, BuiltFrom, built-lines, few-lines, built-from}
+use Rattle.cycle.proofs.Restorable.{restored-builds}
+
+-- ---- conditions 1 and 11
+
+pub shaped-fits : (f : Figures) → Shaped f → settingsFit (settings (f .n) (f .p) (f .layout) (f .copies)) ≡ true
+unfolding settingsFit
+shaped-fits f h =
+    rw (
+      le-leb 2 (f .n) (h .n-low),
+      le-leb (f .n) 8 (h .n-high),
+      le-leb 1 (f .p) (h .p-low),
+      le-leb (f .p) 8 (h .p-high),
+      le-leb 1 (f .layout) (h .layout-low),
+      le-leb (f .layout) 2 (h .layout-high),
+    )
+
+module _ (c : ℕ) where
+  pub buckets-whole : 1 ≤ c → c % 240 ≡ 0 → c / 240 ≤ 99999 → wholeBuckets c ≡ true
+  unfolding wholeBuckets
+  buckets-whole h g l = rw (le-leb 1 c h, eq-eqb (c % 240) 0 g, le-leb (c / 240) 99999 l)
+
+  pub image-empty : c ≡ 0 → wholeBuckets c ≡ false
+  unfolding wholeBuckets
+  image-empty e = rw (lt-leb 1 c (omega arith))
+
+  pub image-torn : (c % 240 ≡ 0 → ⊥) → wholeBuckets c ≡ false
+  unfolding wholeBuckets
+  image-torn f = rw (ne-eqb (c % 240) 0 f) (and-false (leb 1 c))
+
+  pub image-long : 99999 < c / 240 → wholeBuckets c ≡ false
+  unfolding wholeBuckets
+  image-long h = rw (lt-leb (c / 240) 99999 h, and-false (eqb (c % 240) 0)) (and-false (leb 1 c))
+
+-- ---- a refusal leaves the buffer as it is
+
+pub refused :
+    (s : Settings) (bytes d : List ℕ) {r : Restored} → ReadBack s bytes (length d) r [] → ReadsBack s bytes d d r
+unfolding onto
+refused s bytes d o = record { list = []; outcome = o; written = refl }
+
+-- ---- condition 13
+
+module _ (s : Settings) (f : Figures) (bytes : List ℕ) (g : Figured s f) (count : f .lines ≡ counted (f .p) bytes) where
+  found : (list : List ℕ) → Builds s list bytes → BuiltFrom f bytes list
+  found list b = built-from s bytes list b f g (count ∙ (ap (λ p. counted p bytes) (g .p-is) ∙ built-lines s bytes list b))
+
+  pub copies-refused : copiesFit (planOf f []) ≡ false → (list : List ℕ) → Builds s list bytes → ⊥
+  copies-refused h list b = true≢false (sym (found list b .copies-fit) ∙ h)
+
+  pub size-refused : (cycleSize (planOf f []) ≡ length bytes / 240 → ⊥) → (list : List ℕ) → Builds s list bytes → ⊥
+  size-refused h list b = h (size-shape f [] (listLines list) ∙ found list b .size-is)
+
+  pub cycle-refused :
+      f .size ≡ cycleSize (planOf f []) → (Matches (planIn f InImage bytes) bytes 0 (f .size) → ⊥) → (list : List ℕ) → Builds s list bytes → ⊥
+  cycle-refused size h list b =
+      h (matches-to (size-shape f (listLines list) [] ∙ sym size) (found list b .matches))
+
+  pub fall-refused : (NoFall (planIn f InImage bytes) → ⊥) → (list : List ℕ) → Builds s list bytes → ⊥
+  fall-refused h list b = h (found list b .rises)
+
+pub many-refused : (s : Settings) (bytes : List ℕ) → 40000 < counted (s .p) bytes → (list : List ℕ) → Builds s list bytes → ⊥
+many-refused s bytes h list b = omega (arith, built-lines s bytes list b, few-lines s bytes list b)
+
+-- ---- condition 7, and the list
+
+module _ (s : Settings) (f : Figures) (bytes : List ℕ) (fit : settingsFit s ≡ true) (whole : wholeBuckets (length bytes) ≡ true)
+    (g : Figured s f) (w : Holding f bytes) (same : Matches (planIn f InImage bytes) bytes 0 (f .size)) (order : NoFall (planIn f InImage bytes)) where
+  pub built : Builds s (joined printLine (linesHeld f InImage bytes)) bytes
+  built = restored-builds s f bytes fit g (w .ready) (w .long) same order
+
+  pub length-list : length (joined printLine (linesHeld f InImage bytes)) ≡ 27 * f .lines
+  length-list =
+      let held = length-held f bytes in
+      length-printed (linesHeld f InImage bytes) ∙ omega (arith, held)
+
+  pub room-refused : (room : ℕ) → room < 27 * f .lines → ReadBack s bytes room (Refused 7 0) []
+  room-refused room h = noRoom fit whole (joined printLine (linesHeld f InImage bytes)) built (omega (arith, length-list))
+
+  pub list-written :
+      (d out : List ℕ) → 27 * f .lines ≤ length d → out ≡ put d 0 (listText f bytes (f .lines)) → ReadsBack s bytes d out (Lines (f .lines))
+  unfolding put onto
+  list-written d out h e =
+      let list : List ℕ = joined printLine (linesHeld f InImage bytes) in
+      let held = length-held f bytes in
+      let count : length list / 27 ≡ f .lines =
+      ap (λ c. c / 27) (length-printed (linesHeld f InImage bytes)) ∙ (mul-div-cancel (length (linesHeld f InImage bytes)) {n = 27} (lit< tt) ∙ held) in
+      record {
+        list = list;
+        outcome = subst (λ c. ReadBack s bytes (length d) (Lines c) list) count (restored fit whole list built (omega (arith, length-list)));
+        written = e ∙ (ap (put d 0) (text-list f bytes w same) ∙ ap (λ k. list ++ drop k d) (zero-add (length list)));
+      }
+
+-- ---- figures with their size
+
+pub sized-shaped : (f : Figures) (c : ℕ) → Shaped f → Shaped (sized f c)
+unfolding sized
+sized-shaped f c h =
+    record {
+      n-low = h .n-low;
+      n-high = h .n-high;
+      p-low = h .p-low;
+      p-high = h .p-high;
+      layout-low = h .layout-low;
+      layout-high = h .layout-high;
+      lines-high = h .lines-high;
+      d-is = h .d-is;
+      k-is = h .k-is;
+      powers-are = h .powers-are;
+      fulls-are = h .fulls-are;
+    }
+
+-- what is known of figures with their size
+pub record Sized (f g : Figures) : Type 0 where
+  pub figured : Figured (settings (f .n) (f .p) (f .layout) (f .copies)) g
+  pub size-is : g .size ≡ cycleSize (planOf g [])
+  pub same-size : g .size ≡ cycleSize (planOf f [])
+  pub copies-same : copiesFit (planOf g []) ≡ copiesFit (planOf f [])
+  pub lines-same : g .lines ≡ f .lines
+  pub p-same : g .p ≡ f .p
+
+pub sized-facts : (f : Figures) → Shaped f → Sized f (sized f (cycleSize (planOf f [])))
+unfolding sized planOf copiesFit
+sized-facts f h =
+    record {
+      figured =
+          record {
+            shaped = sized-shaped f (cycleSize (planOf f [])) h;
+            n-is = refl;
+            p-is = refl;
+            layout-is = refl;
+            copies-is = refl;
+          };
+      size-is = refl;
+      same-size = refl;
+      copies-same = refl;
+      lines-same = refl;
+      p-same = refl;
+    }
+
+pub with-size : (f g : Figures) → Shaped f → g ≡ sized f (cycleSize (planOf f [])) → Sized f g
+with-size f g h e = subst (Sized f) (sym e) (sized-facts f h)
+
+pub holding :
+    (f g : Figures) (bytes : List ℕ) → Shaped f → Sized f g → copiesFit (planOf f []) ≡ true → g .size ≡ length bytes / 240 →
+    length bytes % 240 ≡ 0 → length bytes / 240 ≤ 99999 → Holding g bytes
+holding f g bytes h z copies size torn short =
+    let all : length bytes / 240 * 240 + length bytes % 240 ≡ length bytes = div-add-mod' (length bytes) 240 in
+    record {
+      ready =
+          record {
+            shaped = z .figured .shaped;
+            copies-fit = z .copies-same ∙ copies;
+            size-is = z .size-is;
+            size-high = omega (arith, size);
+          };
+      long = omega (arith, size, all, torn);
+    }

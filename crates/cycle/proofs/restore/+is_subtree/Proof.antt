@@ -1,0 +1,178 @@
+-- `cycle::restore::is_subtree` meets its contract. The recursion's measure is the height. The loop's invariant: the bucket and
+-- the subtrees of the children before i stand in their places, and `next` is the place behind them.
+-- Assumes nothing.
+use mathlib.Core.Path.{_≡_, sym, ap, _∙_}
+use mathlib.Core.List.{[]}
+use Prim.Native.Nat.{ℕ, _+_, _-_, _*_, _≤_, _<_}
+use native.Mathlib.Omega.{arith}
+use lib.ListN.{length}
+use borrow.Fn.Kinds.{In}
+use borrow.Fn.PlainCycle.{Measures, is, falls, and}
+use Rattle.cycle.specs.Tree.{children}
+use Rattle.cycle.specs.declared.Source.the-variants.{Image as InImage}
+use Rattle.cycle.specs.Held.{planOf, planIn, treeAt}
+use Rattle.cycle.specs.Comparing.{Matches}
+use Rattle.cycle.proofs.Deciding.{decides-yes, decides-not, decides-told}
+use Rattle.cycle.proofs.Matching.{matches-one, matches-on, matches-at, matches-part, matches-to}
+use Rattle.cycle.proofs.ChildTrees.{earlier, earlier-none, earlier-more}
+use Rattle.cycle.proofs.TreePlaces.{place-small, first-small, tree-some, tree-before, tree-alone, tree-whole, child-place, child-inside}
+use Rattle.cycle.proofs.Comparisons.{seats}
+use Rattle.cycle.proofs.restore.is_subtree.Reads as is-subtree
+use Rattle.cycle.proofs.restore.is_subtree.Kinds as is-subtree-kinds
+use Rattle.cycle.proofs.restore.+is_subtree.Lts-is_subtree as is-subtree-lts
+use Rattle.cycle.proofs.index.child_count.Reads as child-count-reads
+use Rattle.cycle.proofs.restore.is_tree_bucket.Reads as is-tree-bucket-reads
+use Rattle.cycle.proofs.sizes.tree_size.Reads as tree-size-reads
+use Rattle.cycle.proofs.restore.+is_subtree.{statement}
+use Rattle.cycle.proofs.restore.+is_subtree.Tie.{close}
+
+abbrev μ-is-subtree : Measures 1 is-subtree-kinds.ps ℕ
+μ-is-subtree κs a = a .1 .1 .1 .0
+
+abbrev is-subtree-at : ℕ → In 1 is-subtree-kinds.ps
+is-subtree-at t =
+    and 1 is-subtree-kinds.ps (is 1 is-subtree-kinds.ps μ-is-subtree t) is-subtree.Pre
+
+abbrev is-subtree-below : ℕ → In 1 is-subtree-kinds.ps
+is-subtree-below t =
+    and 1 is-subtree-kinds.ps (falls 1 is-subtree-kinds.ps _<_ μ-is-subtree t) is-subtree.Pre
+
+abbrev is-subtree-Inv-loop : is-subtree-lts.InvT-loop
+is-subtree-Inv-loop image f s e j x below first count next₀ i₀ next i =
+    (i ≤ count) × (next ≡ x + 1 + length (earlier f e j i)) × Matches (planIn f InImage image) image x next
+
+abbrev is-subtree-μ-loop : is-subtree-lts.MeasureT-loop
+is-subtree-μ-loop image f s e j x below first count next₀ i₀ next i = count - i
+
+pub +is-subtree-spec : {M : Type 1} → statement M
++is-subtree-spec = close μ-is-subtree λ t. is-subtree-lts.spec (
+  is-tree-bucket-reads.Asked,
+  is-tree-bucket-reads.Learnt,
+  child-count-reads.Asked,
+  child-count-reads.Learnt,
+  is-subtree-below t,
+  is-subtree.Post,
+  tree-size-reads.Asked,
+  tree-size-reads.Learnt,
+)
+    (is-subtree-at t)
+    is-subtree.Post
+    is-subtree-Inv-loop
+    is-subtree-μ-loop
+    -- is-tree-bucket-requires
+    (λ c κs. c .before .pre .1)
+    -- returns
+    (λ c. let st = c .before .before .before in
+    let w = st .pre .1 .0 in
+    let a = st .args in
+    let some-there = tree-some (a .f) (a .s) (w .holding .ready) (w .placed) (a .e) (a .j) (a .x) (st .pre .1 .1) in
+    decides-not (c .if1 .taken) (matches-at (a .x) (omega arith) (omega (arith, some-there))) (c .before .is-tree-bucket .ensures))
+    -- returns-2
+    (λ c. let told = c .before in
+    let st = told .before .before .before in
+    let w = st .pre .1 .0 in
+    let a = st .args in
+    let one = tree-alone (a .f) (a .s) (w .holding .ready) (w .placed) (a .e) (a .j) (a .x) (st .pre .1 .1) (c .if2 .taken) in
+    let end : a .x + 1 ≡ a .x + length (treeAt (planOf (a .f) []) (a .e) (a .j)) = omega (arith, one) in
+    decides-yes (matches-to end (matches-one (decides-told (told .if1 .left) (told .before .is-tree-bucket .ensures)))))
+    -- sub-below
+    (λ c. c .before .before .before .before .pre .1 .1 .low)
+    -- mul-first
+    (λ c. let st = c .before .before .before .before .before in
+    let w = st .pre .1 .0 in
+    let a = st .args in
+    omega (arith, first-small (a .f) (a .s) (w .holding .ready) (w .placed) (a .e) (a .j) (a .x) (st .pre .1 .1)))
+    -- child-count-requires
+    (λ c κs. let st = c .before .before .before .before .before in
+    (st .pre .1 .0 .holding .ready, st .pre .1 .1 .low, st .pre .1 .1 .inside))
+    -- add-next
+    (λ c. let st = c .before .before .before .before .before .before in
+    let w = st .pre .1 .0 in
+    let a = st .args in
+    omega (arith, seats (a .f) (a .image .now) (a .s) w, tree-before (a .f) (a .s) (w .holding .ready) (w .placed) (a .e) (a .j) (a .x) (st .pre .1 .1)))
+    -- loop-holds
+    (λ c. let told = c .before .before .before in
+    let st = told .before .before .before in
+    let a = st .args in
+    (omega arith, omega (arith, earlier-none (a .f) (a .e) (a .j)), matches-one (decides-told (told .if1 .left) (told .before .is-tree-bucket .ensures))))
+    -- add-c
+    (λ c. let loop = c .before in
+    let st = loop .before .before .before .before .before .before .before in
+    let w = st .pre .1 .0 in
+    let a = st .args in
+    let p = st .pre .1 .1 in
+    let more = loop .before .before .before .if2 .left in
+    let place = child-place (a .f) (a .s) (w .holding .ready) (w .placed) (a .e) (a .j) (a .x) p (loop .loop .i) (loop .loop .next) more (omega (arith, c .loop-test .taken, loop .before .child-count .ensures)) (loop .loop .inv .1) in
+    omega (arith, place-small (a .f) (a .s) (w .holding .ready) (w .placed) (a .e - 1) (a .j * a .f .n + loop .loop .i) (loop .loop .next) place))
+    -- is-subtree-requires
+    (λ c κs. let loop = c .before in
+    let st = loop .before .before .before .before .before .before .before in
+    let w = st .pre .1 .0 in
+    let a = st .args in
+    let p = st .pre .1 .1 in
+    let more = loop .before .before .before .if2 .left in (
+      omega (arith, st .pre .0, p .low),
+      (
+        w,
+        child-place (a .f) (a .s) (w .holding .ready) (w .placed) (a .e) (a .j) (a .x) p (loop .loop .i) (loop .loop .next) more (omega (arith, c .loop-test .taken, loop .before .child-count .ensures)) (loop .loop .inv .1),
+      ),
+    ))
+    -- returns-3
+    (λ c. let turn = c .before .before in
+    let loop = turn .before in
+    let st = loop .before .before .before .before .before .before .before in
+    let w = st .pre .1 .0 in
+    let a = st .args in
+    let p = st .pre .1 .1 in
+    let more = loop .before .before .before .if2 .left in
+    let here : loop .loop .i < length (children (planOf (a .f) []) (a .f .k + 1 - a .e) (a .j)) = omega (arith, turn .loop-test .taken, loop .before .child-count .ensures) in
+    let fits = child-inside (a .f) (a .s) (w .holding .ready) (w .placed) (a .e) (a .j) (a .x) p (loop .loop .i) more here in
+    decides-not (c .if3 .taken)
+    (matches-part (loop .loop .next) (loop .loop .next + length (treeAt (planOf (a .f) []) (a .e - 1) (a .j * a .f .n + loop .loop .i)))
+    (omega (arith, loop .loop .inv .1)) (omega (arith, loop .loop .inv .1, fits)))
+    (c .before .is-subtree .ensures))
+    -- tree-size-requires
+    (λ c κs. let turn = c .before .before in
+    let loop = turn .before in
+    let st = loop .before .before .before .before .before .before .before in
+    let w = st .pre .1 .0 in
+    let a = st .args in
+    let p = st .pre .1 .1 in
+    let more = loop .before .before .before .if2 .left in
+    let place = child-place (a .f) (a .s) (w .holding .ready) (w .placed) (a .e) (a .j) (a .x) p (loop .loop .i) (loop .loop .next) more (omega (arith, turn .loop-test .taken, loop .before .child-count .ensures)) (loop .loop .inv .1) in
+    (w .holding .ready .shaped, place .low, place .inside))
+    -- add-next-2
+    (λ c. let turn = c .before .before .before in
+    let loop = turn .before in
+    let st = loop .before .before .before .before .before .before .before in
+    let w = st .pre .1 .0 in
+    let a = st .args in
+    let p = st .pre .1 .1 in
+    let more = loop .before .before .before .if2 .left in
+    let place = child-place (a .f) (a .s) (w .holding .ready) (w .placed) (a .e) (a .j) (a .x) p (loop .loop .i) (loop .loop .next) more (omega (arith, turn .loop-test .taken, loop .before .child-count .ensures)) (loop .loop .inv .1) in
+    omega (arith, seats (a .f) (a .image .now) (a .s) w, place .before-data, c .tree-size .ensures))
+    -- add-i
+    (λ c. omega (arith, c .before .before .before .loop-test .taken))
+    -- loop-less
+    (λ c. omega (arith, c .before .before .before .loop-test .taken))
+    -- loop-again
+    (λ c. let known = c .before in
+    let turn = known .before .before in
+    let loop = turn .before in
+    let st = loop .before .before .before .before .before .before .before in
+    let a = st .args in
+    let on = earlier-more (a .f) (a .e) (a .j) (loop .loop .i) in
+    let size = c .tree-size .ensures in (
+      omega (arith, turn .loop-test .taken),
+      omega (arith, loop .loop .inv .1, on, size),
+      matches-to (ap (λ z. loop .loop .next + z) (sym size)) (matches-on (loop .loop .inv .2) (decides-told (known .if3 .left) (known .before .is-subtree .ensures))),
+    ))
+    -- returns-4
+    (λ c. let loop = c .before in
+    let st = loop .before .before .before .before .before .before .before in
+    let w = st .pre .1 .0 in
+    let a = st .args in
+    let all : loop .loop .i ≡ length (children (planOf (a .f) []) (a .f .k + 1 - a .e) (a .j)) = omega (arith, c .loop-test .left, loop .loop .inv .0, loop .before .child-count .ensures) in
+    let whole = ap (λ m. 1 + length (earlier (a .f) (a .e) (a .j) m)) all ∙ tree-whole (a .f) (a .s) (w .holding .ready) (w .placed) (a .e) (a .j) (a .x) (st .pre .1 .1) in
+    let end : loop .loop .next ≡ a .x + length (treeAt (planOf (a .f) []) (a .e) (a .j)) = omega (arith, whole, loop .loop .inv .1) in
+    decides-yes (matches-to end (loop .loop .inv .2)))

@@ -1,0 +1,152 @@
+-- `cycle::restore::restore_figures` meets its contract: 13, 7 and the list.
+-- Assumes nothing.
+use mathlib.Core.Path.{_≡_, refl, sym, ap, _∙_}
+use mathlib.Core.Bool.{true}
+use mathlib.Core.List.{List, []}
+use Prim.Native.Nat.{ℕ}
+use native.Mathlib.Omega.{arith}
+use lib.ListN.{length}
+use borrow.Author.Needs.{needs}
+use borrow.Author.Tests.{not-true, not-false}
+use Rattle.cycle.specs.Tree.{Settings, settings}
+use Rattle.cycle.specs.Building.{copiesFit, settingsFit}
+use Rattle.cycle.specs.ReadingBack.{wholeBuckets, Builds, noList, ReadsBack}
+use Rattle.cycle.specs.declared.Restored.the-variants.{Refused}
+use Rattle.cycle.specs.Held.{planOf}
+use Rattle.cycle.specs.Comparing.{counted, Holding}
+use Rattle.cycle.proofs.Deciding.{decides-told}
+use Rattle.cycle.proofs.HeldImage.{Figured}
+use Rattle.cycle.proofs.Restoring
+use Rattle.cycle.proofs.Restoring.{Sized, shaped-fits, buckets-whole, refused, copies-refused, size-refused, cycle-refused, fall-refused, room-refused, list-written, holding}
+use Rattle.cycle.proofs.restore.restore_figures.Statement.{statement}
+use Rattle.cycle.proofs.restore.restore_figures.Tie as tie
+
+abbrev bytes : tie.Start → List ℕ
+bytes c = c .args .image .now
+
+abbrev set : tie.Start → Settings
+set c = settings (c .args .f .n) (c .args .f .p) (c .args .f .layout) (c .args .f .copies)
+
+fit : (c : tie.Start) → settingsFit (set c) ≡ true
+fit c = shaped-fits (c .args .f) (c .pre .0)
+
+whole : (c : tie.Start) → wholeBuckets (length (bytes c)) ≡ true
+whole c = buckets-whole (length (bytes c)) (c .pre .1) (c .pre .2) (c .pre .3)
+
+-- the figures as given
+figured : (c : tie.Start) → Figured (set c) (c .args .f)
+figured c =
+    record { shaped = c .pre .0; n-is = refl; p-is = refl; layout-is = refl; copies-is = refl }
+
+none-builds : (c : tie.Start) → ((list : List ℕ) → Builds (set c) list (bytes c) → ⊥) → ReadsBack (set c) (bytes c) (c .args .out .now) (c .args .out .now) (Refused 13 0)
+none-builds c h = refused (set c) (bytes c) (c .args .out .now) (noList (fit c) (whole c) h)
+
+-- ---- with their size
+
+abbrev entry : tie.After-with-size → tie.Start
+entry c = c .before .before .before .before .before
+
+copies-are : (c : tie.Else1) → copiesFit (planOf (c .before .before .before .before .args .f) []) ≡ true
+copies-are c = sym (c .before .copies-fit .ensures) ∙ not-false _ (c .if1 .left)
+
+sizes : (c : tie.After-with-size) → Sized (entry c .args .f) (c .with-size .result)
+sizes c = Restoring.with-size (entry c .args .f) (c .with-size .result) (entry c .pre .0) (c .with-size .ensures)
+
+count : (c : tie.After-with-size) → c .with-size .result .lines ≡ counted (c .with-size .result .p) (bytes (entry c))
+count c = sizes c .lines-same ∙ (entry c .pre .4 ∙ ap (λ p. counted p (bytes (entry c))) (sym (sizes c .p-same)))
+
+held : (c : tie.Else2) → Holding (c .before .before .with-size .result) (bytes (entry (c .before .before)))
+held c =
+    let sized = c .before .before in
+    let s = entry sized in
+    holding (s .args .f) (sized .with-size .result) (bytes s) (s .pre .0) (sizes sized) (copies-are (sized .before)) (c .if2 .left) (s .pre .2) (s .pre .3)
+
+returns : tie.Need-returns
+returns c =
+    let s = c .before .before .before .before in
+    none-builds s
+    (copies-refused (set s) (s .args .f) (bytes s) (figured s) (s .pre .4) (sym (c .before .copies-fit .ensures) ∙ not-true _ (c .if1 .taken)))
+
+with-size-requires : tie.Need-with-size-requires
+with-size-requires c κs = (c .before .before .before .before .pre .0, copies-are c)
+
+returns-2 : tie.Need-returns-2
+returns-2 c =
+    let sized = c .before .before in
+    let s = entry sized in
+    none-builds s
+    (size-refused (set s) (s .args .f) (bytes s) (figured s) (s .pre .4) (λ e. c .if2 .taken (sizes sized .same-size ∙ e)))
+
+is-cycle-requires : tie.Need-is-cycle-requires
+is-cycle-requires c κs = held c
+
+returns-3 : tie.Need-returns-3
+returns-3 c =
+    let sized = c .before .before .before .before in
+    let s = entry sized in
+    none-builds s
+    (cycle-refused (set s) (sized .with-size .result) (bytes s) (sizes sized .figured) (count sized) (sizes sized .size-is)
+    (c .before .is-cycle .ensures .no (not-true _ (c .if3 .taken))))
+
+tags-rise-requires : tie.Need-tags-rise-requires
+tags-rise-requires c κs = held (c .before .before)
+
+returns-4 : tie.Need-returns-4
+returns-4 c =
+    let sized = c .before .before .before .before .before .before in
+    let s = entry sized in
+    none-builds s
+    (fall-refused (set s) (sized .with-size .result) (bytes s) (sizes sized .figured) (count sized)
+    (c .before .tags-rise .ensures .no (not-true _ (c .if4 .taken))))
+
+mul-if5 : tie.Need-mul-if5
+mul-if5 c =
+    let matched = c .before .before .before .before .before in
+    omega (arith, held matched .ready .shaped .lines-high)
+
+returns-5 : tie.Need-returns-5
+returns-5 c =
+    let rises = c .before .before in
+    let same = rises .before .before in
+    let sized = same .before .before .before .before in
+    let s = entry sized in
+    refused (set s) (bytes s) (s .args .out .now)
+    (room-refused (set s) (sized .with-size .result) (bytes s) (fit s) (whole s) (sizes sized .figured) (held (same .before .before))
+    (decides-told (same .if3 .left) (same .before .is-cycle .ensures)) (decides-told (rises .if4 .left) (rises .before .tags-rise .ensures))
+    (length (s .args .out .now)) (c .if5 .taken))
+
+write-list-requires : tie.Need-write-list-requires
+write-list-requires c κs =
+    let roomy = c .before in
+    let matched = roomy .before .before .before .before .before .before in
+    (held matched, roomy .if5 .left)
+
+returns-6 : tie.Need-returns-6
+returns-6 c =
+    let wrote = c .before .before in
+    let roomy = wrote .before .before in
+    let rises = roomy .before .before in
+    let same = rises .before .before in
+    let sized = same .before .before .before .before in
+    let s = entry sized in
+    list-written (set s) (sized .with-size .result) (bytes s) (fit s) (whole s) (sizes sized .figured) (held (same .before .before))
+    (decides-told (same .if3 .left) (same .before .is-cycle .ensures)) (decides-told (rises .if4 .left) (rises .before .tags-rise .ensures))
+    (s .args .out .now) _ (roomy .if5 .left) (wrote .write-list .ensures)
+
+pub restore-figures-spec : {M : Type 1} → statement M
+restore-figures-spec =
+    tie.close
+    (tie.spec
+    (λ c κs. search needs)
+    returns
+    with-size-requires
+    returns-2
+    is-cycle-requires
+    returns-3
+    tags-rise-requires
+    returns-4
+    mul-if5
+    returns-5
+    write-list-requires
+    (λ c. search needs)
+    returns-6)

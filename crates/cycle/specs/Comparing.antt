@@ -1,0 +1,90 @@
+-- What the contracts of the functions that read back say beyond document 01's own words: how many lines an image has, and
+-- when a part of it is that part of a plan's cycle.
+-- Assumes nothing.
+use mathlib.Core.Path.{_≡_}
+use Prim.Native.Nat.{ℕ, _+_, _-_, _*_, _/_, _≤_, _<_}
+use mathlib.Core.Bool.{Bool, true, false}
+use mathlib.Core.Option.{some}
+use mathlib.Core.List.{List, [], _∷_, _++_}
+use lib.Dec.{eqb, ltb}
+use lib.ListN.{length, take, drop, getD, replicate}
+use Rattle.columns.specs.Lists.{pick, parts, joined, range}
+use Rattle.buckets.specs.Bucket.{readBucket}
+use Rattle.buckets.specs.declared.Line.{Line}
+use Rattle.buckets.specs.declared.Head.{Head}
+use Rattle.buckets.specs.declared.Index.{Index}
+use Rattle.buckets.specs.declared.Kind.the-variants.{Index as KindIndex}
+use Rattle.buckets.specs.declared.Reading.{Reading}
+use Rattle.cycle.specs.Tree.{Plan, firstTag, lastTag}
+use Rattle.cycle.specs.declared.Figures.{Figures}
+use Rattle.cycle.specs.declared.Segment.{Segment}
+use Rattle.cycle.specs.declared.Source.the-variants.{Image as InImage}
+use Rattle.cycle.specs.Held.{planOf, Ready, Placed, lineAt, cycleBucket}
+
+-- the test's answer decides whether P holds
+pub record Decides (P : Type 0) (answer : Bool) : Type 0 where
+  pub yes : answer ≡ true → P
+  pub no : answer ≡ false → P → ⊥
+
+-- ---- what is held of two index buckets
+
+pub record SamePairs (a b : Index) : Type 0 where
+  pub same-count : a .pairs ≡ b .pairs
+  pub same-tags : a .«pair_tags» ≡ b .«pair_tags»
+  pub same-distances : a .«pair_distances» ≡ b .«pair_distances»
+
+pub record SameEntries (a b : Index) : Type 0 where
+  pub same-count : a .entries ≡ b .entries
+  pub same-tags : a .«entry_tags» ≡ b .«entry_tags»
+  pub same-distances : a .«entry_distances» ≡ b .«entry_distances»
+
+-- ---- how many lines
+
+-- p for each of d data buckets but the last, and what the last digit of that one's count says
+unfoldable pub linesBy : ℕ → ℕ → ℕ → ℕ
+linesBy p d last = pick (eqb d 0) 0 (pick (ltb last 48) 0 ((d - 1) * p + (last - 48)))
+
+-- the same, with the data buckets among these still to be counted: column 24 has their letter, 28 the last digit of their count
+abbrev pub countedFrom : ℕ → ℕ → ℕ → List (List ℕ) → ℕ
+countedFrom p d last [] = linesBy p d last
+countedFrom p d last (s ∷ ss) = pick (eqb (getD s 24 0) 68) (countedFrom p (d + 1) (getD s 28 0) ss) (countedFrom p d last ss)
+
+unfoldable pub counted : ℕ → List ℕ → ℕ
+counted p image = countedFrom p 0 48 (parts (length image / 240) 240 image)
+
+-- ---- a part of the image
+
+-- bucket x of an image
+unfoldable pub bucketBytes : List ℕ → ℕ → List ℕ
+bucketBytes image x = take 240 (drop (240 * x) image)
+
+-- bucket x of the image is bucket x of the cycle
+pub record MatchesAt (t : Plan) (image : List ℕ) (x : ℕ) : Type 0 where
+  pub reads : readBucket (bucketBytes image x) ≡ some (cycleBucket t x)
+
+-- the same of those from x up to but without y
+pub record Matches (t : Plan) (image : List ℕ) (x y : ℕ) : Type 0 where
+  pub each : (z : ℕ) → x ≤ z → z < y → MatchesAt t image z
+
+-- no tag falls from one data bucket to the next
+unfoldable pub NoFall : Plan → Type 0
+NoFall t = (q : ℕ) → q + 1 < t .d → lastTag t q ≤ firstTag t (q + 1)
+
+-- what a strict reading finds in the index bucket with this head and index
+unfoldable pub indexReading : Head → Index → Reading
+indexReading h i =
+    record { kind = KindIndex; head = h; «follow_on» = 0; index = i; lines = 0; tags = replicate 8 0 }
+
+-- the first c lines of the image as list lines
+unfoldable pub listText : Figures → List ℕ → ℕ → List ℕ
+listText f image c = joined (λ i. take 26 (drop (lineAt (planOf f []) InImage i) image) ++ 10 ∷ []) (range 0 c)
+
+-- figures for which an image has the right length
+pub record Holding (f : Figures) (image : List ℕ) : Type 0 where
+  pub ready : Ready f
+  pub long : length image ≡ 240 * f .size
+
+-- one of the segments of its cycle
+pub record Comparing (f : Figures) (image : List ℕ) (s : Segment) : Type 0 where
+  pub holding : Holding f image
+  pub placed : (ls : List Line) → Placed (planOf f ls) s

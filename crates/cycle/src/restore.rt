@@ -1,0 +1,381 @@
+// Reading back: whether an image is the cycle of some list under given settings, and of which.
+use super::Figures;
+use super::Restored;
+use super::Segment;
+use super::Source;
+use super::build::settings_fit;
+use super::index::child_count;
+use super::index::follow_on_at;
+use super::index::head_at;
+use super::index::path_index;
+use super::index::tree_index;
+use super::places::line_place;
+use super::places::tag_of;
+use super::segments::segment_count;
+use super::segments::segment_of;
+use super::sizes::copies_fit;
+use super::sizes::figures_of;
+use super::sizes::lesser;
+use super::sizes::tree_size;
+use super::sizes::with_size;
+use buckets::Head;
+use buckets::Index;
+use buckets::Kind;
+use buckets::reader::read_bucket;
+use columns::copy_columns;
+ghost use mathlib.Core.Path.{_≡_};
+ghost use mathlib.Core.List.{[], _∷_, _++_};
+ghost use Prim.Native.Nat.{_+_, _-_, _*_, _/_, _%_, _≤_, _<_};
+ghost use lib.ListN.{length, take, drop};
+ghost use Rattle.columns.specs.Lists.{put};
+ghost use Rattle.buckets.specs.Bucket.{readBucket};
+ghost use Rattle.buckets.specs.Held.{asReading};
+ghost use Rattle.cycle.specs.Tree.{settings};
+ghost use Rattle.cycle.specs.ReadingBack.{ReadsBack};
+ghost use Rattle.cycle.specs.Held.{planOf, Shaped, treeAt, planIn, TreePlace};
+ghost use Rattle.cycle.specs.Comparing.{Decides, SamePairs, SameEntries, counted, bucketBytes, MatchesAt, Matches, NoFall, indexReading, listText, Holding, Comparing};
+ghost use Rattle.cycle.specs.declared.Source.the-variants as Source;
+
+fn same_head(a: Head, b: Head) -> bool
+    ensures { λ r. ⌜ Decides (a ≡ b) r ⌝ }
+{
+    if a.position != b.position {
+        return false;
+    }
+    if a.to_cycle != b.to_cycle {
+        return false;
+    }
+    a.to_segment == b.to_segment
+}
+
+fn same_numbers(a: &[u64], b: &[u64]) -> bool
+    ensures { λ r. ⌜ Decides (now (a .entry) ≡ now (b .entry)) r ⌝ }
+{
+    if a.len() != b.len() {
+        return false;
+    }
+    let mut i = 0;
+    while i < a.len() {
+        if a[i] != b[i] {
+            return false;
+        }
+        i += 1;
+    }
+    true
+}
+
+fn same_pairs(a: Index, b: Index) -> bool
+    ensures { λ r. ⌜ Decides (SamePairs a b) r ⌝ }
+{
+    if a.pairs != b.pairs {
+        return false;
+    }
+    let tags = a.pair_tags;
+    let other_tags = b.pair_tags;
+    if !same_numbers(&tags, &other_tags) {
+        return false;
+    }
+    let distances = a.pair_distances;
+    let other_distances = b.pair_distances;
+    same_numbers(&distances, &other_distances)
+}
+
+fn same_entries(a: Index, b: Index) -> bool
+    ensures { λ r. ⌜ Decides (SameEntries a b) r ⌝ }
+{
+    if a.entries != b.entries {
+        return false;
+    }
+    let tags = a.entry_tags;
+    let other_tags = b.entry_tags;
+    if !same_numbers(&tags, &other_tags) {
+        return false;
+    }
+    let distances = a.entry_distances;
+    let other_distances = b.entry_distances;
+    same_numbers(&distances, &other_distances)
+}
+
+// Whether the bucket at x is the index bucket with this head and index.
+fn is_index(image: &[u8], x: u64, head: Head, index: Index) -> bool
+    requires { ⌜ (240 * x + 240 ≤ length (now image)) × (x ≤ 99999) ⌝ }
+    ensures { λ r. ⌜ Decides (asReading (readBucket (bucketBytes (now (image .entry)) x)) ≡ indexReading head index) r ⌝ }
+{
+    let at = (240 * x) as usize;
+    let to = at + 240;
+    let r = read_bucket(&image[at..to]);
+    let kind = r.kind;
+    match kind {
+        Kind::Index => {
+            let read = r.index;
+            let read_head = r.head;
+            if read.blank != index.blank {
+                return false;
+            }
+            if !same_head(read_head, head) {
+                return false;
+            }
+            if !same_pairs(read, index) {
+                return false;
+            }
+            same_entries(read, index)
+        }
+        Kind::Data => false,
+        Kind::Misprinted => false,
+    }
+}
+
+// Whether bucket j of height e of a segment's tree stands at x.
+fn is_tree_bucket(image: &[u8], f: Figures, s: Segment, e: usize, j: u64, x: u64) -> bool
+    requires { ⌜ Comparing f (now image) s × TreePlace f s e j x ⌝ }
+    ensures { λ r. ⌜ Decides (MatchesAt (planIn f Source.Image (now (image .entry))) (now (image .entry)) x) r ⌝ }
+{
+    let index = tree_index(image, f, Source::Image, s, e, j, x);
+    is_index(image, x, head_at(f, s, x), index)
+}
+
+// Whether the subtree of bucket j of height e stands from x on.
+fn is_subtree(image: &[u8], f: Figures, s: Segment, e: usize, j: u64, x: u64) -> bool
+    requires { ⌜ Comparing f (now image) s × TreePlace f s e j x ⌝ }
+    ensures { λ r. ⌜ Decides (Matches (planIn f Source.Image (now (image .entry))) (now (image .entry)) x (x + length (treeAt (planOf f []) e j))) r ⌝ }
+{
+    if !is_tree_bucket(image, f, s, e, j, x) {
+        return false;
+    }
+    if e == 1 {
+        return true;
+    }
+    let below = e - 1;
+    let first = j * f.n;
+    let count = child_count(f, e, j);
+    let mut next = x + 1;
+    let mut i = 0;
+    while i < count {
+        let c = first + i as u64;
+        if !is_subtree(image, f, s, below, c, next) {
+            return false;
+        }
+        next += tree_size(f, below, c);
+        i += 1;
+    }
+    true
+}
+
+// Whether the path bucket of level i of a segment stands at x.
+fn is_path_bucket(image: &[u8], f: Figures, s: Segment, i: u64, x: u64) -> bool
+    requires { ⌜ Comparing f (now image) s × (s .top ≤ i) × (i ≤ f .copies) × (x ≡ s .start + (i - s .top)) ⌝ }
+    ensures { λ r. ⌜ Decides (MatchesAt (planIn f Source.Image (now (image .entry))) (now (image .entry)) x) r ⌝ }
+{
+    let index = path_index(image, f, Source::Image, s, i, x);
+    is_index(image, x, head_at(f, s, x), index)
+}
+
+// Whether the path of a segment stands in its place.
+fn is_path(image: &[u8], f: Figures, s: Segment) -> bool
+    requires { ⌜ Comparing f (now image) s ⌝ }
+    ensures { λ r. ⌜ Decides (Matches (planIn f Source.Image (now (image .entry))) (now (image .entry)) (s .start) (s .«tree_at»)) r ⌝ }
+{
+    let mut x = s.start;
+    let mut i = s.top;
+    while i <= f.copies {
+        if !is_path_bucket(image, f, s, i, x) {
+            return false;
+        }
+        x += 1;
+        i += 1;
+    }
+    true
+}
+
+// Whether data bucket q stands at x. Its lines are read off the image, so that only their number is compared.
+fn is_data(image: &[u8], f: Figures, s: Segment, q: u64, x: u64) -> bool
+    requires { ⌜ Comparing f (now image) s × (s .first ≤ q) × (q < s .last) × (x ≡ s .«data_at» + (q - s .first)) ⌝ }
+    ensures { λ r. ⌜ Decides (MatchesAt (planIn f Source.Image (now (image .entry))) (now (image .entry)) x) r ⌝ }
+{
+    let at = (240 * x) as usize;
+    let to = at + 240;
+    let r = read_bucket(&image[at..to]);
+    let kind = r.kind;
+    match kind {
+        Kind::Index => false,
+        Kind::Misprinted => false,
+        Kind::Data => {
+            let head = r.head;
+            if !same_head(head, head_at(f, s, x)) {
+                return false;
+            }
+            let from = q * f.p;
+            if r.lines as u64 != lesser(f.p, f.lines - from) {
+                return false;
+            }
+            r.follow_on == follow_on_at(image, f, Source::Image, q, x)
+        }
+    }
+}
+
+// Whether the data buckets of a segment stand in their places.
+fn are_datas(image: &[u8], f: Figures, s: Segment) -> bool
+    requires { ⌜ Comparing f (now image) s ⌝ }
+    ensures { λ r. ⌜ Decides (Matches (planIn f Source.Image (now (image .entry))) (now (image .entry)) (s .«data_at») (s .end)) r ⌝ }
+{
+    let mut x = s.data_at;
+    let mut q = s.first;
+    while q < s.last {
+        if !is_data(image, f, s, q, x) {
+            return false;
+        }
+        x += 1;
+        q += 1;
+    }
+    true
+}
+
+// Whether a segment stands in its place: its path, its tree, its data buckets.
+fn is_segment(image: &[u8], f: Figures, s: Segment) -> bool
+    requires { ⌜ Comparing f (now image) s ⌝ }
+    ensures { λ r. ⌜ Decides (Matches (planIn f Source.Image (now (image .entry))) (now (image .entry)) (s .start) (s .end)) r ⌝ }
+{
+    if !is_path(image, f, s) {
+        return false;
+    }
+    if !is_subtree(image, f, s, s.height, s.root, s.tree_at) {
+        return false;
+    }
+    are_datas(image, f, s)
+}
+
+// Whether the image is the cycle of the lines that stand in it.
+fn is_cycle(image: &[u8], f: Figures) -> bool
+    requires { ⌜ Holding f (now image) ⌝ }
+    ensures { λ r. ⌜ Decides (Matches (planIn f Source.Image (now (image .entry))) (now (image .entry)) 0 (f .size)) r ⌝ }
+{
+    let count = segment_count(f);
+    let mut i = 0;
+    while i < count {
+        if !is_segment(image, f, segment_of(f, i)) {
+            return false;
+        }
+        i += 1;
+    }
+    true
+}
+
+// Whether no tag falls from a data bucket to the next.
+fn tags_rise(image: &[u8], f: Figures) -> bool
+    requires { ⌜ Holding f (now image) ⌝ }
+    ensures { λ r. ⌜ Decides (NoFall (planIn f Source.Image (now (image .entry)))) r ⌝ }
+{
+    let mut q = 1;
+    while q < f.d {
+        let line = q * f.p;
+        let first = tag_of(image, f, Source::Image, line);
+        let last = tag_of(image, f, Source::Image, line - 1);
+        if first < last {
+            return false;
+        }
+        q += 1;
+    }
+    true
+}
+
+// How many lines the image has: p for each data bucket but the last, and what the last one's count says.
+fn line_count(image: &[u8], p: u64) -> u64
+    requires { ⌜ (length (now image) ≤ 240 * 99999) × (p ≤ 8) ⌝ }
+    ensures { λ r. ⌜ r ≡ counted p (now (image .entry)) ⌝ }
+{
+    let count = image.len() / 240;
+    let mut x = 0;
+    let mut d: u64 = 0;
+    let mut last: u8 = 48;
+    while x < count {
+        let at = 240 * x;
+        if image[at + 24] == 68 {
+            d += 1;
+            last = image[at + 28];
+        }
+        x += 1;
+    }
+    if d == 0 {
+        return 0;
+    }
+    if last < 48 {
+        return 0;
+    }
+    (d - 1) * p + (last - 48) as u64
+}
+
+// A line of the image as a list line.
+fn copy_line(out: &mut [u8], to: usize, image: &[u8], from: usize)
+    requires { ⌜ (to + 27 ≤ length (now out)) × (from + 26 ≤ length (now image)) ⌝ }
+    ensures { λ _. ⌜ now (out .exit) ≡ put (now (out .entry)) to (take 26 (drop from (now (image .entry))) ++ 10 ∷ []) ⌝ }
+{
+    let end = to + 26;
+    let behind = from + 26;
+    copy_columns(&mut out[to..end], &image[from..behind]);
+    out[end] = 10;
+}
+
+// The lines of the image as a list, at the front of the buffer.
+fn write_list(out: &mut [u8], image: &[u8], f: Figures)
+    requires { ⌜ Holding f (now image) × (27 * f .lines ≤ length (now out)) ⌝ }
+    ensures { λ _. ⌜ now (out .exit) ≡ put (now (out .entry)) 0 (listText f (now (image .entry)) (f .lines)) ⌝ }
+{
+    let mut i = 0;
+    while i < f.lines {
+        let to = (27 * i) as usize;
+        copy_line(out, to, image, line_place(f, Source::Image, i));
+        i += 1;
+    }
+}
+
+// Conditions 13 and 7, and then the list.
+fn restore_figures(image: &[u8], f: Figures, out: &mut [u8]) -> Restored
+    requires { ⌜ Shaped f × (1 ≤ length (now image)) × (length (now image) % 240 ≡ 0) × (length (now image) / 240 ≤ 99999) × (f .lines ≡ counted (f .p) (now image)) ⌝ }
+    ensures { λ r. ⌜ ReadsBack (settings (f .n) (f .p) (f .layout) (f .copies)) (now (image .entry)) (now (out .entry)) (now (out .exit)) r ⌝ }
+{
+    if !copies_fit(f) {
+        return Restored::Refused(13, 0);
+    }
+    let sized = with_size(f);
+    let count = (image.len() / 240) as u64;
+    if sized.size != count {
+        return Restored::Refused(13, 0);
+    }
+    if !is_cycle(image, sized) {
+        return Restored::Refused(13, 0);
+    }
+    if !tags_rise(image, sized) {
+        return Restored::Refused(13, 0);
+    }
+    let room = out.len() as u64;
+    if room < 27 * sized.lines {
+        return Restored::Refused(7, 0);
+    }
+    write_list(out, image, sized);
+    Restored::Lines(sized.lines)
+}
+
+// Writes the list that an image was built from into the front of a lent buffer: its number of lines, or a refusal, on which no
+// byte is written.
+pub fn read_back(image: &[u8], n: u64, p: u64, layout: u64, copies: u64, out: &mut [u8]) -> Restored
+    ensures { λ r. ⌜ ReadsBack (settings n p layout copies) (now (image .entry)) (now (out .entry)) (now (out .exit)) r ⌝ }
+{
+    if !settings_fit(n, p, layout) {
+        return Restored::Refused(1, 0);
+    }
+    let length = image.len();
+    if length == 0 {
+        return Restored::Refused(11, 0);
+    }
+    if length % 240 != 0 {
+        return Restored::Refused(11, 0);
+    }
+    if 99999 < length / 240 {
+        return Restored::Refused(11, 0);
+    }
+    let lines = line_count(image, p);
+    if 40000 < lines {
+        return Restored::Refused(13, 0);
+    }
+    restore_figures(image, figures_of(n, p, layout, copies, lines), out)
+}
