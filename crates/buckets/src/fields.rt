@@ -3,6 +3,8 @@ use super::BLANK;
 use columns;
 use columns::Number;
 ghost use mathlib.Core.Path.{_≡_};
+ghost use mathlib.Core.Bool.{_&&_};
+ghost use lib.Dec.{eqb};
 ghost use Prim.Native.Nat.{_≤_};
 ghost use lib.ListN.{length};
 ghost use Rattle.columns.specs.PrintedNumbers.{asNumber};
@@ -25,16 +27,25 @@ pub fn read_within(part: &[u8], low: u64, high: u64) -> Number
     Number::Value(x)
 }
 
-// Whether every column of part is blank.
+// Whether c is blank and the columns before it are.
+fn still_blank(before: bool, c: u8) -> bool
+    ensures { λ r. ⌜ r ≡ (before && eqb c 32) ⌝ }
+{
+    if c == BLANK {
+        return before;
+    }
+    false
+}
+
+// Whether every column of part is blank. It looks at each of them, so that many are tested at once.
 pub fn all_blank(part: &[u8]) -> bool
     ensures { λ r. ⌜ r ≡ allBlank (now (part .entry)) ⌝ }
 {
+    let mut blank = true;
     let mut i = 0;
     while i < part.len() {
-        if part[i] != BLANK {
-            return false;
-        }
+        blank = still_blank(blank, part[i]);
         i += 1;
     }
-    true
+    blank
 }

@@ -161,7 +161,7 @@ fn read_digits(part: &[u8]) -> Number
         if NINE < c {
             return Number::Misprinted;
         }
-        x = x * ten_to(1) + (c - ZERO) as u64;
+        x = x * 10 + c as u64 - 48;
         i += 1;
     }
     Number::Value(x)

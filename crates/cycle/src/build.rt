@@ -21,6 +21,7 @@ use buckets::lines::read_line;
 use buckets::writer::write_data;
 use buckets::writer::write_index;
 ghost use mathlib.Core.Path.{_≡_};
+ghost use mathlib.Core.Bool.{true};
 ghost use mathlib.Core.Option.{none};
 ghost use mathlib.Core.List.{[]};
 ghost use Prim.Native.Nat.{_+_, _-_, _*_, _≤_, _<_};
@@ -197,6 +198,28 @@ fn first_fall(list: &[u8], lines: u64) -> u64
     lines
 }
 
+// Whether every line is well printed and no tag falls, in one pass. Where it is not so, the place is looked for anew.
+fn all_rise(list: &[u8], lines: u64) -> bool
+    requires { ⌜ (length (now list) ≡ 27 * lines) × (lines ≤ 40000) ⌝ }
+    ensures { λ r. ⌜ (r ≡ true → (misprintFrom 0 (cutLines (now (list .entry))) ≡ none) × (fallFrom 0 0 (listLines (now (list .entry))) ≡ none)) ⌝ }
+{
+    let mut last = 0;
+    let mut i = 0;
+    while i < lines {
+        let at = (27 * i) as usize;
+        let to = at + 27;
+        let LineRead::Read(line) = read_line(&list[at..to]) else {
+            return false;
+        };
+        if line.tag < last {
+            return false;
+        }
+        last = line.tag;
+        i += 1;
+    }
+    true
+}
+
 // Whether n, p and layout are within their ranges.
 pub fn settings_fit(n: u64, p: u64, layout: u64) -> bool
     ensures { λ r. ⌜ r ≡ settingsFit (settings n p layout 0) ⌝ }
@@ -253,6 +276,9 @@ pub fn build(list: &[u8], n: u64, p: u64, layout: u64, copies: u64, out: &mut [u
     let lines = (length / 27) as u64;
     if 40000 < lines {
         return Built::Refused(2, 0);
+    }
+    if all_rise(list, lines) {
+        return build_figures(list, figures_of(n, p, layout, copies, lines), out);
     }
     let misprint = first_misprint(list, lines);
     if misprint < lines {

@@ -27,3 +27,4 @@ pub mod CopiedLines
 pub mod Runs
 pub mod WritingRuns
 pub mod Lookups
+pub mod SavedStates

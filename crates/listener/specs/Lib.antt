@@ -6,3 +6,4 @@ pub mod Demand3
 pub mod SampleYard
 pub mod OnReading
 pub mod OnRun
+pub mod State

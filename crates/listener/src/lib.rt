@@ -1,6 +1,7 @@
 // The listener and the lookup: document 01, "The listener".
 mod choose;
 pub mod lookup;
+mod state;
 mod step;
 
 // What a listener awaits: its tune-in bucket, an index bucket, either kind, a data bucket, or nothing any more.

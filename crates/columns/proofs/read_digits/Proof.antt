@@ -1,7 +1,7 @@
 -- `columns::read_digits` meets its contract. The loop's invariant: the answer is that of the columns left, behind the digits read.
 -- Assumes nothing.
 use Prim.Native.Nat.{ℕ, suc, _+_, _-_, _*_, _^_, _≤_, _<_}
-use mathlib.Core.Path.{_≡_, refl, _∙_, sym, ap}
+use mathlib.Core.Path.{_≡_, refl, _∙_, sym, ap, subst}
 use mathlib.Core.Bool.{true, false}
 use mathlib.Core.Option.{Option, none, some}
 use mathlib.Core.List.{List, [], _∷_}
@@ -73,6 +73,10 @@ module _ (s : List ℕ) (x i c : ℕ) (o : Digits s x i) (h : i < length s) (e :
   fits : length s ≤ 10 → c ≤ 57 → x * 10 + (c - 48) < 10000000000
   fits t u = lt-of-lt-of-le (next-small u) (pow-le-pow-right {n = 10} (lit< tt) {i = i + 1} {j = 10} (omega arith))
 
+-- the digit is taken from its column last
+behind : (s : List ℕ) (x i c : ℕ) → 48 ≤ c → Digits s (x * 10 + (c - 48)) i → Digits s (x * 10 + c - 48) i
+behind s x i c l o = let e : x * 10 + (c - 48) ≡ x * 10 + c - 48 = omega arith in subst (λ (y : ℕ). Digits s y i) e o
+
 all-read : (s : List ℕ) (x i : ℕ) → Digits s x i → length s ≤ i → readNumber s ≡ some x
 all-read s x i o h =
     let e : i ≡ length s = omega (arith, o .within) in
@@ -91,10 +95,10 @@ returns : tie.Need-returns Inv-loop μ-loop
 returns c = ap asNumber (sym (zero-alone _ (c .before .if1 .taken) (c .if2 .taken)))
 
 returns-2 : tie.Need-returns-2 Inv-loop μ-loop
-returns-2 c = ap asNumber (sym (zero-leading _ (c .before .if1 .taken) (c .before .before .before .before .pre .0) (c .if2 .left)))
+returns-2 c = ap asNumber (sym (zero-leading _ (c .before .if1 .taken) (c .before .before .before .pre .0) (c .if2 .left)))
 
 loop-holds : tie.Need-loop-holds Inv-loop μ-loop
-loop-holds c = let start = c .before .before .before in none-read _ (start .pre .0) (start .pre .1 .1) (c .if1 .left)
+loop-holds c = let start = c .before .before in none-read _ (start .pre .0) (start .pre .1 .1) (c .if1 .left)
 
 shared-slice-read-c : tie.Need-shared-slice-read-c Inv-loop μ-loop
 shared-slice-read-c c = omega arith
@@ -109,25 +113,26 @@ returns-4 c =
     let turn = c .before .before .before in
     ap asNumber (sym (too-high _ _ _ _ (turn .before .loop .inv) (turn .loop-test .taken) refl (c .if4 .taken)))
 
-ten-to-requires : tie.Need-ten-to-requires Inv-loop μ-loop
-ten-to-requires c κs = lit< tt
-
-fit : (c : tie.After-ten-to Inv-loop μ-loop) →
-    c .before .before .before .before .before .loop .x * 10 +
-    (getD (c .before .before .before .before .before .before .before .before .before .args .part .now) (c .before .before .before .before .before .loop .i) 0 - 48) <
+-- what one more digit makes of the number read
+fit : (c : tie.Else4 Inv-loop μ-loop) →
+    c .before .before .before .before .loop .x * 10 +
+    (getD (c .before .before .before .before .before .before .before .args .part .now) (c .before .before .before .before .loop .i) 0 - 48) <
     10000000000
 fit c =
-    let turn = c .before .before .before .before in
-    fits _ _ _ _ (turn .before .loop .inv) (turn .loop-test .taken) refl (turn .before .before .before .before .before .pre .1 .0) (c .before .if4 .left)
+    let turn = c .before .before .before in
+    fits _ _ _ _ (turn .before .loop .inv) (turn .loop-test .taken) refl (turn .before .before .before .before .pre .1 .0) (c .if4 .left)
 
 mul-x : tie.Need-mul-x Inv-loop μ-loop
-mul-x c = rw (c .ten-to .ensures) (omega (arith, fit c))
+mul-x c = omega (arith, fit c)
 
 cast-x : tie.Need-cast-x Inv-loop μ-loop
-cast-x c = omega (arith, fit c)
+cast-x c = omega (arith, c .if4 .left)
 
 add-x : tie.Need-add-x Inv-loop μ-loop
-add-x c = rw (c .ten-to .ensures) (omega (arith, fit c))
+add-x c = omega (arith, fit c)
+
+sub-x : tie.Need-sub-x Inv-loop μ-loop
+sub-x c = omega (arith, c .before .if3 .left)
 
 add-i : tie.Need-add-i Inv-loop μ-loop
 add-i c = omega arith
@@ -137,8 +142,9 @@ loop-less c = omega arith
 
 loop-again : tie.Need-loop-again Inv-loop μ-loop
 loop-again c =
-    let turn = c .before .before .before .before in
-    rw (c .ten-to .ensures) (next _ _ _ _ (turn .before .loop .inv) (turn .loop-test .taken) refl (c .before .before .if3 .left) (c .before .if4 .left))
+    let turn = c .before .before .before in
+    behind _ _ _ _ (c .before .if3 .left)
+    (next _ _ _ _ (turn .before .loop .inv) (turn .loop-test .taken) refl (c .before .if3 .left) (c .if4 .left))
 
 returns-5 : tie.Need-returns-5 Inv-loop μ-loop
 returns-5 c = ap asNumber (sym (all-read _ _ _ (c .before .loop .inv) (c .loop-test .left)))
@@ -156,10 +162,10 @@ read-digits-spec =
     shared-slice-read-c
     returns-3
     returns-4
-    ten-to-requires
     mul-x
     cast-x
     add-x
+    sub-x
     add-i
     loop-less
     loop-again

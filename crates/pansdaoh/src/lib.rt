@@ -1,0 +1,243 @@
+// The calls for C and Rust: building, reading back, a lookup, and a listener whose state is eight numbers that the caller keeps. Each takes
+// any input. A lent buffer keeps every byte that the output does not cover, and all of them on a refusal.
+use cycle::Built;
+use cycle::Restored;
+use cycle::build;
+use cycle::restore;
+use listener::Listener;
+use listener::Looked;
+use listener::Stepped;
+use listener::lookup;
+ghost use mathlib.Core.Path.{_≡_};
+ghost use Prim.Native.Nat.{ℕ};
+ghost use lib.ListN.{length};
+ghost use Rattle.columns.specs.Lists.{onto, put};
+ghost use Rattle.cycle.specs.Tree.{settings};
+ghost use Rattle.cycle.specs.Building;
+ghost use Rattle.listener.specs.Listener.{start};
+ghost use Rattle.listener.specs.Lookup;
+ghost use Rattle.listener.specs.State.{saved, restored};
+ghost use Rattle.pansdaoh.specs.Calls.{builtAnswer, restoredAnswer, Restores, lookedAnswer, stepAnswer, stepFrom};
+
+// A refusal's number (0: not refused) and place, and the number of buckets built or of lines read back.
+#[repr(C)]
+pub struct Answer {
+    pub number: u64,
+    pub place: u64,
+    pub count: u64,
+}
+
+// A refusal's number (0: not refused) and place; how the lookup ended (1 found, 2 absent, 0 refused), its heard and elapsed,
+// and the number of lines written.
+#[repr(C)]
+pub struct Found {
+    pub number: u64,
+    pub place: u64,
+    pub end: u64,
+    pub heard: u64,
+    pub elapsed: u64,
+    pub lines: u64,
+}
+
+// The answer (1 doze, 2 found, 3 absent, 4 refused), the distance to doze or the refusal's number (else 0), and which lines of
+// the bucket match: the first, from 0, and how many.
+#[repr(C)]
+pub struct Step {
+    pub answer: u64,
+    pub value: u64,
+    pub first: u64,
+    pub count: u64,
+}
+
+// Building's answer as numbers.
+fn built_answer(built: Built) -> Answer
+    ensures { λ r. ⌜ r ≡ builtAnswer built ⌝ }
+{
+    match built {
+        Built::Cycle(n) => Answer {
+            number: 0,
+            place: 0,
+            count: n,
+        },
+        Built::Refused(number, place) => Answer {
+            number: number,
+            place: place,
+            count: 0,
+        },
+    }
+}
+
+// Reading back's answer as numbers.
+fn restored_answer(restored: Restored) -> Answer
+    ensures { λ r. ⌜ r ≡ restoredAnswer restored ⌝ }
+{
+    match restored {
+        Restored::Lines(lines) => Answer {
+            number: 0,
+            place: 0,
+            count: lines,
+        },
+        Restored::Refused(number, place) => Answer {
+            number: number,
+            place: place,
+            count: 0,
+        },
+    }
+}
+
+// A lookup's answer as numbers.
+fn looked_answer(looked: Looked) -> Found
+    ensures { λ r. ⌜ r ≡ lookedAnswer looked ⌝ }
+{
+    match looked {
+        Looked::Found {
+            heard,
+            elapsed,
+            lines,
+        } => Found {
+            number: 0,
+            place: 0,
+            end: 1,
+            heard: heard,
+            elapsed: elapsed,
+            lines: lines,
+        },
+        Looked::Absent { heard, elapsed } => Found {
+            number: 0,
+            place: 0,
+            end: 2,
+            heard: heard,
+            elapsed: elapsed,
+            lines: 0,
+        },
+        Looked::Refused(number, place) => Found {
+            number: number,
+            place: place,
+            end: 0,
+            heard: 0,
+            elapsed: 0,
+            lines: 0,
+        },
+    }
+}
+
+// A step's answer as numbers.
+fn step_answer(r: Stepped) -> Step
+    ensures { λ s. ⌜ s ≡ stepAnswer r ⌝ }
+{
+    let answer = r.answer;
+    match answer {
+        listener::Answer::Doze(d) => Step {
+            answer: 1,
+            value: d,
+            first: r.first,
+            count: r.count,
+        },
+        listener::Answer::Found => Step {
+            answer: 2,
+            value: 0,
+            first: r.first,
+            count: r.count,
+        },
+        listener::Answer::Absent => Step {
+            answer: 3,
+            value: 0,
+            first: r.first,
+            count: r.count,
+        },
+        listener::Answer::Refused(number) => Step {
+            answer: 4,
+            value: number,
+            first: r.first,
+            count: r.count,
+        },
+    }
+}
+
+// Builds the cycle of a list into the front of out.
+#[no_mangle]
+pub extern "C" fn pansdaoh_build(
+    list: &[u8],
+    n: u64,
+    p: u64,
+    layout: u64,
+    copies: u64,
+    out: &mut [u8],
+) -> Answer
+    ensures { λ r.
+        ⌜ (r ≡ builtAnswer (Building.build (settings n p layout copies) (now (list .entry)) (length (now (out .entry))) .answer)) ×
+        (now (out .exit) ≡
+        onto (Building.build (settings n p layout copies) (now (list .entry)) (length (now (out .entry))) .output) (now (out .entry))) ⌝ }
+{
+    let built = build::build(list, n, p, layout, copies, out);
+    built_answer(built)
+}
+
+// Reads the list that an image was built from back into the front of out.
+#[no_mangle]
+pub extern "C" fn pansdaoh_read_back(
+    image: &[u8],
+    n: u64,
+    p: u64,
+    layout: u64,
+    copies: u64,
+    out: &mut [u8],
+) -> Answer
+    ensures { λ r. ⌜ Restores (settings n p layout copies) (now (image .entry)) (now (out .entry)) (now (out .exit)) r ⌝ }
+{
+    let restored = restore::read_back(image, n, p, layout, copies, out);
+    restored_answer(restored)
+}
+
+// Looks a tag up in an image, tuning in at the bucket named, and writes the matching lines to the front of out.
+#[no_mangle]
+pub extern "C" fn pansdaoh_lookup(image: &[u8], tag: u64, tune_in: u64, out: &mut [u8]) -> Found
+    ensures { λ r.
+        ⌜ (r ≡ lookedAnswer (Lookup.lookup (now (image .entry)) tag «tune_in» (length (now (out .entry))) .answer)) ×
+        (now (out .exit) ≡
+        put (now (out .entry)) 0 (Lookup.lookup (now (image .entry)) tag «tune_in» (length (now (out .entry))) .output)) ⌝ }
+{
+    let looked = lookup::lookup(image, tag, tune_in, out);
+    looked_answer(looked)
+}
+
+// Starts a listener with a tag: it awaits its tune-in bucket.
+#[no_mangle]
+pub extern "C" fn pansdaoh_start(state: &mut [u64; 8], tag: u64)
+    ensures { λ _. ⌜ now (state .exit) ≡ saved (start tag) ⌝ }
+{
+    let l = Listener::new(tag);
+    *state = l.saved();
+}
+
+// Gives a listener one bucket.
+#[no_mangle]
+pub extern "C" fn pansdaoh_step(state: &mut [u64; 8], bucket: &[u8]) -> Step
+    ensures { λ r.
+        ⌜ (r ≡ stepAnswer (stepFrom (now (state .entry)) (now (bucket .entry)))) ×
+        (now (state .exit) ≡ saved (stepFrom (now (state .entry)) (now (bucket .entry)) .listener)) ⌝ }
+{
+    let l = Listener::restored(*state);
+    let r = l.step(bucket);
+    let next = r.listener;
+    *state = next.saved();
+    step_answer(r)
+}
+
+// The buckets that a listener has taken.
+#[no_mangle]
+pub extern "C" fn pansdaoh_heard(state: &[u64; 8]) -> u64
+    ensures { λ r. ⌜ r ≡ restored (now (state .entry)) .heard ⌝ }
+{
+    let l = Listener::restored(*state);
+    l.heard()
+}
+
+// The buckets gone by from a listener's tune-in to the last one taken, both in.
+#[no_mangle]
+pub extern "C" fn pansdaoh_elapsed(state: &[u64; 8]) -> u64
+    ensures { λ r. ⌜ r ≡ restored (now (state .entry)) .elapsed ⌝ }
+{
+    let l = Listener::restored(*state);
+    l.elapsed()
+}
