@@ -1,0 +1,103 @@
+//! The calls of both sides under one name. Each returns what it counts, or
+//! panics if it is refused.
+
+use std::hint::black_box;
+
+use pansdaoh::calls as library;
+
+pub const BUCKET: usize = 240;
+pub const LINE: usize = 27;
+
+/// Settings: n, p, layout, copies.
+pub type Settings = [u64; 4];
+
+pub trait Calls {
+    /// Returns the buckets built.
+    fn build(list: &[u8], settings: Settings, out: &mut [u8]) -> u64;
+    /// Returns the lines read.
+    fn read_back(image: &[u8], settings: Settings, out: &mut [u8]) -> u64;
+    /// Returns the buckets heard.
+    fn lookup(image: &[u8], tag: u64, tune_in: u64, out: &mut [u8]) -> u64;
+    /// Gives a bucket to a fresh listener.
+    fn tune_in(bucket: &[u8], tag: u64);
+    /// A hearing to its end, bucket by bucket; returns the buckets heard.
+    fn hearing(image: &[u8], tag: u64, tune_in: u64) -> u64;
+}
+
+pub struct Library;
+
+impl Calls for Library {
+    fn build(list: &[u8], [n, p, layout, copies]: Settings, out: &mut [u8]) -> u64 {
+        let answer = library::build(list, n, p, layout, copies, out);
+        assert_eq!(answer.number, 0);
+        answer.count
+    }
+
+    fn read_back(image: &[u8], [n, p, layout, copies]: Settings, out: &mut [u8]) -> u64 {
+        let answer = library::read_back(image, n, p, layout, copies, out);
+        assert_eq!(answer.number, 0);
+        answer.count
+    }
+
+    fn lookup(image: &[u8], tag: u64, tune_in: u64, out: &mut [u8]) -> u64 {
+        let found = library::lookup(image, tag, tune_in, out);
+        assert_eq!(found.number, 0);
+        found.heard
+    }
+
+    fn tune_in(bucket: &[u8], tag: u64) {
+        let mut state = Default::default();
+        library::start(&mut state, tag);
+        black_box(library::step(&mut state, bucket));
+    }
+
+    fn hearing(image: &[u8], tag: u64, tune_in: u64) -> u64 {
+        let buckets = image.len() / BUCKET;
+        let mut state = Default::default();
+        library::start(&mut state, tag);
+        let mut place = tune_in as usize;
+        loop {
+            let step = library::step(&mut state, &image[BUCKET * place..][..BUCKET]);
+            match step.answer {
+                library::STEP_DOZE => place = (place + step.value as usize) % buckets,
+                library::STEP_REFUSED => panic!("refused by {}", step.value),
+                _ => return library::heard(&state),
+            }
+        }
+    }
+}
+
+pub struct Reference;
+
+impl Calls for Reference {
+    fn build(list: &[u8], [n, p, layout, copies]: Settings, out: &mut [u8]) -> u64 {
+        reference::build(list, n, p, layout, copies, out).unwrap()
+    }
+
+    fn read_back(image: &[u8], [n, p, layout, copies]: Settings, out: &mut [u8]) -> u64 {
+        reference::read_back(image, n, p, layout, copies, out).unwrap()
+    }
+
+    fn lookup(image: &[u8], tag: u64, tune_in: u64, out: &mut [u8]) -> u64 {
+        reference::lookup(image, tag, tune_in, out).unwrap().heard
+    }
+
+    fn tune_in(bucket: &[u8], tag: u64) {
+        black_box(reference::Listener::new(tag).step(bucket));
+    }
+
+    fn hearing(image: &[u8], tag: u64, tune_in: u64) -> u64 {
+        let buckets = image.len() / BUCKET;
+        let mut listener = reference::Listener::new(tag);
+        let mut place = tune_in as usize;
+        loop {
+            let (next, answer, _, _) = listener.step(&image[BUCKET * place..][..BUCKET]);
+            listener = next;
+            match answer {
+                reference::Answer::Doze(distance) => place = (place + distance as usize) % buckets,
+                reference::Answer::Refused(number) => panic!("refused by {number}"),
+                _ => return listener.heard(),
+            }
+        }
+    }
+}

@@ -1,0 +1,78 @@
+//! The input of a measurement, the same for both sides.
+
+use std::hint::black_box;
+
+use reference::generate::{list, Random};
+use reference::line;
+
+use crate::calls::{Calls, Reference, Settings, BUCKET, LINE};
+
+/// The calls measured: `copy` copies an image, `tune_in` gives each bucket of
+/// the cycle to a fresh listener, `step` goes through whole hearings.
+pub const CALLS: [&str; 6] = ["copy", "build", "read_back", "tune_in", "step", "lookup"];
+
+/// Each tag is up to this much above the one before it.
+const SPREAD: u64 = 40;
+/// Hearings of one round.
+const HEARINGS: u64 = 2_000;
+
+/// A list, its cycle, and buffers to lend.
+pub struct Yard {
+    settings: Settings,
+    list: Vec<u8>,
+    image: Vec<u8>,
+    list_out: Vec<u8>,
+    image_out: Vec<u8>,
+    /// Tags, of the list or one above, and tune-ins, spread over list and cycle.
+    hearings: Vec<(u64, u64)>,
+}
+
+impl Yard {
+    pub fn new(settings: Settings, lines: u64) -> Yard {
+        let list = list(&mut Random::new(1), lines, SPREAD);
+        let mut image = vec![0; 99_999 * BUCKET];
+        let buckets = Reference::build(&list, settings, &mut image);
+        image.truncate(buckets as usize * BUCKET);
+        // Other bytes than 0, so that each page of the buffers is there.
+        let list_out = vec![1; list.len()];
+        let image_out = vec![1; image.len()];
+        let hearings = (0..HEARINGS)
+            .map(|i| {
+                let line = (i * 7_919 % lines) as usize;
+                let tag = line::tag(&list[LINE * line..][..10]).unwrap();
+                (tag + i % 2, i * 104_729 % buckets)
+            })
+            .collect();
+        Yard { settings, list, image, list_out, image_out, hearings }
+    }
+
+    /// One round of a call; returns the buckets it built, read or heard.
+    pub fn round<C: Calls>(&mut self, call: &str) -> u64 {
+        let buckets = (self.image.len() / BUCKET) as u64;
+        let image = black_box(&self.image[..]);
+        let hearings = self.hearings.iter();
+        match call {
+            "copy" => {
+                black_box(&mut self.image_out).copy_from_slice(image);
+                buckets
+            }
+            "build" => {
+                C::build(black_box(&self.list), self.settings, black_box(&mut self.image_out))
+            }
+            "read_back" => {
+                C::read_back(image, self.settings, black_box(&mut self.list_out));
+                buckets
+            }
+            "tune_in" => {
+                image.chunks_exact(BUCKET).for_each(|bucket| C::tune_in(bucket, black_box(5)));
+                buckets
+            }
+            "step" => hearings.map(|&(tag, tune_in)| C::hearing(image, tag, tune_in)).sum(),
+            "lookup" => {
+                let out = black_box(&mut self.list_out[..]);
+                hearings.map(|&(tag, tune_in)| C::lookup(image, tag, tune_in, out)).sum()
+            }
+            _ => panic!("no such call: {call}"),
+        }
+    }
+}

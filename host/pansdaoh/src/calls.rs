@@ -1,0 +1,60 @@
+//! The calls of the static library, with the numbers they return.
+//!
+//! Each lent buffer is a slice. After a refusal it holds what it held before,
+//! and bytes past the output always do.
+
+/// A listener's state. Any content is answered; only [`start`] and [`step`]
+/// give it a meaning.
+pub type State = [u64; 8];
+
+/// What building and reading back return.
+#[repr(C)]
+#[derive(Clone, Copy, Debug, PartialEq, Eq)]
+pub struct Answer {
+    /// 0, or the number of the refusal.
+    pub number: u64,
+    /// The refusal's place.
+    pub place: u64,
+    /// Buckets built or lines read; 0 if refused.
+    pub count: u64,
+}
+
+/// What a lookup returns.
+#[repr(C)]
+#[derive(Clone, Copy, Debug, PartialEq, Eq)]
+pub struct Found {
+    /// 0, or the number of the refusal.
+    pub number: u64,
+    /// The refusal's place.
+    pub place: u64,
+    /// [`FOUND`], [`ABSENT`], or 0 if refused.
+    pub end: u64,
+    pub heard: u64,
+    pub elapsed: u64,
+    pub lines: u64,
+}
+
+pub const FOUND: u64 = 1;
+pub const ABSENT: u64 = 2;
+
+/// What a step returns.
+#[repr(C)]
+#[derive(Clone, Copy, Debug, PartialEq, Eq)]
+pub struct Step {
+    /// [`STEP_DOZE`], [`STEP_FOUND`], [`STEP_ABSENT`] or [`STEP_REFUSED`].
+    pub answer: u64,
+    /// The distance to doze or the number of the refusal, else 0.
+    pub value: u64,
+    /// The first of the bucket's lines that match, from 0.
+    pub first: u64,
+    /// How many match.
+    pub count: u64,
+}
+
+pub const STEP_DOZE: u64 = 1;
+pub const STEP_FOUND: u64 = 2;
+pub const STEP_ABSENT: u64 = 3;
+pub const STEP_REFUSED: u64 = 4;
+
+mod library;
+pub use library::*;

@@ -1,0 +1,84 @@
+//! Tare lists on air: building a list into a cycle of buckets, reading a cycle
+//! back to its list, a listener that picks out the lines of one tag, and a
+//! lookup that runs it over an image.
+//!
+//! The work is done by the static library `pansdaoh`. [`calls`] has its calls
+//! as they are; the functions here turn a refusal into an error.
+#![deny(unsafe_code)]
+
+pub mod calls;
+mod listener;
+
+pub use listener::{Answer, Listener};
+
+/// Bytes of a list line, its newline included.
+pub const LINE: usize = 27;
+/// Bytes of a bucket.
+pub const BUCKET: usize = 240;
+/// The most lines of a list.
+pub const MAX_LINES: usize = 40_000;
+/// The most buckets of a cycle.
+pub const MAX_BUCKETS: usize = 99_999;
+
+/// The settings of a cycle.
+#[derive(Clone, Copy, Debug, PartialEq, Eq)]
+pub struct Settings {
+    /// Entries for an index bucket, 2 to 8.
+    pub n: u64,
+    /// Lines for a data bucket, 1 to 8.
+    pub p: u64,
+    /// 1 distributed, 2 (1,m).
+    pub layout: u64,
+    /// r or m.
+    pub copies: u64,
+}
+
+/// Number and place of document 01's "Refused inputs".
+#[derive(Clone, Copy, Debug, PartialEq, Eq)]
+pub struct Refusal {
+    pub number: u64,
+    pub place: u64,
+}
+
+/// What a lookup returns.
+#[derive(Clone, Copy, Debug, PartialEq, Eq)]
+pub struct Looked {
+    /// Found, else absent.
+    pub found: bool,
+    pub heard: u64,
+    pub elapsed: u64,
+    /// The number of lines written.
+    pub lines: u64,
+}
+
+/// Builds the cycle of a list into `out` and returns N, its buckets.
+pub fn build(list: &[u8], settings: Settings, out: &mut [u8]) -> Result<u64, Refusal> {
+    let Settings { n, p, layout, copies } = settings;
+    counted(calls::build(list, n, p, layout, copies, out))
+}
+
+/// Writes the list that builds this image into `out` and returns its lines.
+pub fn read_back(image: &[u8], settings: Settings, out: &mut [u8]) -> Result<u64, Refusal> {
+    let Settings { n, p, layout, copies } = settings;
+    counted(calls::read_back(image, n, p, layout, copies, out))
+}
+
+/// Listens for a tag from a tune-in bucket on; the lines found go to `out`.
+pub fn lookup(image: &[u8], tag: u64, tune_in: u64, out: &mut [u8]) -> Result<Looked, Refusal> {
+    let found = calls::lookup(image, tag, tune_in, out);
+    accepted(found.number, found.place)?;
+    let calls::Found { end, heard, elapsed, lines, .. } = found;
+    Ok(Looked { found: end == calls::FOUND, heard, elapsed, lines })
+}
+
+fn counted(answer: calls::Answer) -> Result<u64, Refusal> {
+    accepted(answer.number, answer.place)?;
+    Ok(answer.count)
+}
+
+fn accepted(number: u64, place: u64) -> Result<(), Refusal> {
+    match number {
+        0 => Ok(()),
+        _ => Err(Refusal { number, place }),
+    }
+}

@@ -1,0 +1,171 @@
+//! Calls made of both sides, with lent buffers that show what was touched.
+
+use pansdaoh::calls::{self, Answer, Found};
+use reference::generate::Random;
+use reference::{Cycle, Refusal};
+
+/// Settings: n, p, layout, copies.
+pub type Settings = [u64; 4];
+
+/// Bytes before and behind a lent buffer.
+const AROUND: usize = 41;
+
+/// A buffer to lend, with other bytes before and behind it.
+pub struct Lent {
+    bytes: Vec<u8>,
+}
+
+/// What byte i held before the call.
+fn former(i: usize) -> u8 {
+    (7 + 31 * i + i / 256) as u8
+}
+
+impl Lent {
+    pub fn new(room: usize) -> Lent {
+        Lent { bytes: (0..AROUND + room + AROUND).map(former).collect() }
+    }
+
+    pub fn buffer(&mut self) -> &mut [u8] {
+        let end = self.bytes.len() - AROUND;
+        &mut self.bytes[AROUND..end]
+    }
+
+    /// The buffer starts with these bytes, and all others are as they were.
+    pub fn holds(&self, written: &[u8]) -> bool {
+        let (before, rest) = self.bytes.split_at(AROUND);
+        let (output, behind) = rest.split_at(written.len());
+        let start = AROUND + written.len();
+        output == written
+            && before.iter().enumerate().all(|(i, &byte)| byte == former(i))
+            && behind.iter().enumerate().all(|(i, &byte)| byte == former(start + i))
+    }
+}
+
+/// Builds on both sides into a buffer of `room` bytes.
+pub fn build(list: &[u8], [n, p, layout, copies]: Settings, room: usize) -> Answer {
+    let mut expected = vec![0; room];
+    let result = reference::build(list, n, p, layout, copies, &mut expected);
+    expected.truncate(240 * result.unwrap_or(0) as usize);
+    let given = list.to_vec();
+    let mut lent = Lent::new(room);
+    let answer = calls::build(&given, n, p, layout, copies, lent.buffer());
+    assert_eq!(answer, answer_of(result), "n {n}, p {p}, layout {layout}, copies {copies}");
+    assert!(lent.holds(&expected), "n {n}, p {p}, layout {layout}, copies {copies}");
+    assert!(given == list, "the list was touched");
+    answer
+}
+
+/// Reads back on both sides into a buffer of `room` bytes.
+pub fn read_back(image: &[u8], [n, p, layout, copies]: Settings, room: usize) -> Answer {
+    let mut expected = vec![0; room];
+    let result = reference::read_back(image, n, p, layout, copies, &mut expected);
+    expected.truncate(27 * result.unwrap_or(0) as usize);
+    let given = image.to_vec();
+    let mut lent = Lent::new(room);
+    let answer = calls::read_back(&given, n, p, layout, copies, lent.buffer());
+    assert_eq!(answer, answer_of(result), "n {n}, p {p}, layout {layout}, copies {copies}");
+    assert!(lent.holds(&expected), "n {n}, p {p}, layout {layout}, copies {copies}");
+    assert!(given == image, "the image was touched");
+    answer
+}
+
+fn answer_of(result: Result<u64, Refusal>) -> Answer {
+    match result {
+        Ok(count) => Answer { number: 0, place: 0, count },
+        Err(Refusal { number, place }) => Answer { number, place, count: 0 },
+    }
+}
+
+/// Looks up on both sides into a buffer of `room` bytes.
+pub fn lookup(image: &[u8], tag: u64, tune_in: u64, room: usize) -> Found {
+    let given = image.to_vec();
+    let found = lookup_lent(&given, tag, tune_in, room);
+    assert!(given == image, "the image was touched");
+    found
+}
+
+/// The same, without a look at the image afterwards.
+pub fn lookup_lent(image: &[u8], tag: u64, tune_in: u64, room: usize) -> Found {
+    let mut expected = vec![0; room];
+    let result = reference::lookup(image, tag, tune_in, &mut expected);
+    let expected_found = match result {
+        Ok(looked) => Found {
+            number: 0,
+            place: 0,
+            end: if looked.found { 1 } else { 2 },
+            heard: looked.heard,
+            elapsed: looked.elapsed,
+            lines: looked.lines,
+        },
+        Err(Refusal { number, place }) => {
+            Found { number, place, end: 0, heard: 0, elapsed: 0, lines: 0 }
+        }
+    };
+    expected.truncate(27 * expected_found.lines as usize);
+    let mut lent = Lent::new(room);
+    let found = calls::lookup(image, tag, tune_in, lent.buffer());
+    assert_eq!(found, expected_found, "tag {tag}, tune-in {tune_in}");
+    assert!(lent.holds(&expected), "tag {tag}, tune-in {tune_in}");
+    found
+}
+
+/// The image of a valid list, by the reference.
+pub fn image_of(list: &[u8], [n, p, layout, copies]: Settings) -> Vec<u8> {
+    let cycle = Cycle::new((list.len() / 27) as u64, n, p, layout, copies).unwrap();
+    let mut image = vec![0; 240 * cycle.buckets() as usize];
+    reference::build(list, n, p, layout, copies, &mut image).unwrap();
+    image
+}
+
+/// All legal settings of n and p for so many lines; of the (1,m) cycles those
+/// with few parts, with parts of one data bucket, and some between.
+pub fn legal_copies(lines: u64, n: u64, p: u64) -> Vec<Settings> {
+    let data = lines.div_ceil(p);
+    let levels = (1..).find(|&k| n.pow(k) >= data).unwrap() as u64;
+    let mut settings: Vec<Settings> = (0..=4.min(levels - 1)).map(|r| [n, p, 1, r]).collect();
+    let mut parts = vec![1, 2, 3, 5, data / 2, data.saturating_sub(1), data];
+    parts.retain(|&m| 1 <= m && m <= data.max(1));
+    parts.sort();
+    parts.dedup();
+    settings.extend(parts.iter().map(|&m| [n, p, 2, m]));
+    settings
+}
+
+/// One of the legal settings for so many lines.
+pub fn legal_settings(random: &mut Random, lines: u64) -> Settings {
+    let (n, p) = (2 + random.below(7), 1 + random.below(8));
+    pick(random, &legal_copies(lines, n, p))
+}
+
+pub fn pick<T: Copy>(random: &mut Random, choices: &[T]) -> T {
+    choices[random.below(choices.len() as u64) as usize]
+}
+
+/// The tags of a list.
+pub fn tags(list: &[u8]) -> Vec<u64> {
+    let tag = |line: &[u8]| std::str::from_utf8(&line[..10]).unwrap().trim().parse().unwrap();
+    list.chunks(27).map(tag).collect()
+}
+
+/// Every tag of the list, those next to it, 0, and tags above all.
+pub fn tags_around(list: &[u8]) -> Vec<u64> {
+    let mut around = vec![0, 4_294_967_295, 4_294_967_296, u64::MAX];
+    for tag in tags(list) {
+        around.extend([tag.saturating_sub(1), tag, tag + 1]);
+    }
+    around.sort();
+    around.dedup();
+    around
+}
+
+/// Every byte of some bytes, altered in turn to each of 256 and set back.
+pub fn each_alteration(bytes: &[u8], mut check: impl FnMut(&[u8])) {
+    let mut altered = bytes.to_vec();
+    for place in 0..bytes.len() {
+        for byte in 0..=255 {
+            altered[place] = byte;
+            check(&altered);
+        }
+        altered[place] = bytes[place];
+    }
+}

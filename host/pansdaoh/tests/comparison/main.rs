@@ -1,0 +1,11 @@
+//! The library against the independent implementation `reference`: the same
+//! numbers, and each byte of the lent buffers.
+
+mod building;
+mod compare;
+mod full_size;
+mod header;
+mod listening;
+mod looking_up;
+mod reading_back;
+mod sample_yard;

@@ -1,0 +1,55 @@
+/*
+ * Builds list S of the sample yard with r 1 and prints for tag 5 each tune-in,
+ * heard, elapsed and lines. Each lookup is held against a listener's own steps.
+ */
+#include <stdio.h>
+#include <string.h>
+
+#include "pansdaoh.h"
+
+static const char LIST[] = "         3     0   0     0\n"
+                           "         5     0   0     0\n"
+                           "         5     0   0     0\n"
+                           "         8     0   0     0\n"
+                           "         9     0   0     0\n";
+
+static uint8_t image[20 * PANSDAOH_BUCKET];
+static uint8_t lines[5 * PANSDAOH_LINE];
+
+/* Steps a listener to its end; 0 if it says what the lookup said. */
+static int compare(uint64_t buckets, uint64_t tag, uint64_t place, struct pansdaoh_found found) {
+    uint64_t state[PANSDAOH_STATE];
+    uint64_t matched = 0;
+    struct pansdaoh_step step;
+    pansdaoh_start(state, tag);
+    do {
+        step = pansdaoh_step(state, image + PANSDAOH_BUCKET * place, PANSDAOH_BUCKET);
+        matched += step.count;
+        place = (place + step.value) % buckets;
+    } while (step.answer == PANSDAOH_STEP_DOZE);
+    return step.answer != PANSDAOH_STEP_FOUND || found.end != PANSDAOH_FOUND ||
+           pansdaoh_heard(state) != found.heard || pansdaoh_elapsed(state) != found.elapsed ||
+           matched != found.lines;
+}
+
+int main(void) {
+    const uint8_t *list = (const uint8_t *)LIST;
+    size_t length = sizeof LIST - 1;
+    struct pansdaoh_answer built =
+        pansdaoh_build(list, length, 2, 1, 1, 1, image, sizeof image);
+    size_t image_length = PANSDAOH_BUCKET * built.count;
+    struct pansdaoh_answer read =
+        pansdaoh_read_back(image, image_length, 2, 1, 1, 1, lines, sizeof lines);
+    uint64_t tune_in;
+    if (built.number != 0 || read.number != 0 || read.count != 5 || memcmp(lines, list, length))
+        return 1;
+    for (tune_in = 0; tune_in < built.count; tune_in++) {
+        struct pansdaoh_found found =
+            pansdaoh_lookup(image, image_length, 5, tune_in, lines, sizeof lines);
+        if (found.number != 0 || compare(built.count, 5, tune_in, found))
+            return 1;
+        printf("%6u%6u%6u%6u\n", (unsigned)tune_in, (unsigned)found.heard,
+               (unsigned)found.elapsed, (unsigned)found.lines);
+    }
+    return 0;
+}

@@ -1,0 +1,72 @@
+//! Building: a list into a cycle.
+
+use crate::bucket::BUCKET;
+use crate::columns::{at, at_mut};
+use crate::cycle::Cycle;
+use crate::line::{self, FIGURES, LINE, MAX_LINES};
+use crate::print::Lines;
+use crate::Refusal;
+
+/// Builds the cycle of a list into `out` and returns N. "Building tests 1 to 7
+/// in that order, each over the whole list"; nothing is written before.
+pub fn build(
+    list: &[u8],
+    n: u64,
+    p: u64,
+    layout: u64,
+    copies: u64,
+    out: &mut [u8],
+) -> Result<u64, Refusal> {
+    check_settings(n, p, layout)?;
+    let lines = check_list(list)?;
+    let cycle = Cycle::new(lines, n, p, layout, copies).map_err(Refusal::of)?;
+    let image = out.get_mut(..BUCKET * cycle.buckets() as usize).ok_or(Refusal::of(7))?;
+    let lines = List { list, p };
+    cycle.walk(|slot| {
+        let bucket = at_mut(image, BUCKET * slot.place as usize);
+        cycle.print(&slot, &lines, bucket);
+        Some(())
+    });
+    Ok(cycle.buckets())
+}
+
+/// 1: "n, p or layout outside its range".
+pub(crate) fn check_settings(n: u64, p: u64, layout: u64) -> Result<(), Refusal> {
+    let in_range = (2..=8).contains(&n) && (1..=8).contains(&p) && (1..=2).contains(&layout);
+    in_range.then_some(()).ok_or(Refusal::of(1))
+}
+
+/// 2, then 3 over the whole list, then 4 over the whole list. Returns the
+/// number of lines.
+fn check_list(list: &[u8]) -> Result<u64, Refusal> {
+    let lines = (list.len() / LINE) as u64;
+    if !list.len().is_multiple_of(LINE) || lines > MAX_LINES {
+        return Err(Refusal::of(2));
+    }
+    let mut last = 0;
+    let mut falls = None;
+    for (place, line) in (0..).zip(list.chunks_exact(LINE)) {
+        let tag = line::tag_of(at(line, 0)).filter(|_| line[FIGURES] == b'\n');
+        let Some(tag) = tag else {
+            return Err(Refusal { number: 3, place });
+        };
+        if tag < last && falls.is_none() {
+            falls = Some(Refusal { number: 4, place });
+        }
+        last = tag;
+    }
+    falls.map_or(Ok(lines), Err)
+}
+
+/// The lines of a list.
+struct List<'a> {
+    list: &'a [u8],
+    p: u64,
+}
+
+impl Lines for List<'_> {
+    #[inline(always)]
+    fn line(&self, data: u64, _place: u64, i: u64) -> &[u8; FIGURES] {
+        at(self.list, LINE * (data * self.p + i) as usize)
+    }
+}

@@ -1,0 +1,38 @@
+//! Tare lists on air, written straight from document 01: a list is built into
+//! a cycle of buckets, a cycle is read back into its list, a listener picks
+//! out the lines of one tag, and a lookup runs it over an image.
+#![forbid(unsafe_code)]
+
+mod bucket;
+mod build;
+pub mod columns;
+mod cycle;
+pub mod generate;
+pub mod line;
+mod listener;
+pub mod literal;
+mod lookup;
+mod print;
+mod read_back;
+
+pub use bucket::BUCKET;
+pub use build::build;
+pub use cycle::Cycle;
+pub use line::LINE;
+pub use listener::{Answer, Listener};
+pub use lookup::{lookup, Looked};
+pub use read_back::read_back;
+
+/// Number and place of "Refused inputs".
+#[derive(Clone, Copy, Debug, PartialEq, Eq)]
+pub struct Refusal {
+    pub number: u64,
+    pub place: u64,
+}
+
+impl Refusal {
+    /// "place 0 unless named".
+    pub(crate) fn of(number: u64) -> Refusal {
+        Refusal { number, place: 0 }
+    }
+}

@@ -1,0 +1,239 @@
+//! Demand 3 by brute force: every tag around, every tune-in.
+
+mod common;
+
+use common::{image_of, legal_copies, levels, lookup_into, tags};
+use reference::generate::{damaged_image, list, list_from, list_of, Random};
+use reference::{literal, Answer, Listener, Looked, Refusal};
+
+/// One hearing over a cycle, held against the list.
+fn hear(list: &[u8], image: &[u8], [n, p, ..]: [u64; 4], tag: u64, tune_in: u64) {
+    let buckets = (image.len() / 240) as u64;
+    let (k, _) = levels((list.len() / 27) as u64, n, p);
+    let tags = tags(list);
+    let with_tag = tags.chunks(p as usize).filter(|run| run.contains(&tag)).count() as u64;
+    let most = 2 + k + with_tag.max(1);
+
+    let mut listener = Listener::new(tag);
+    let (mut steps, mut elapsed, mut place) = (0, 1, tune_in);
+    let mut lines = Vec::new();
+    let found = loop {
+        let bucket = &image[240 * place as usize..][..240];
+        let (next, answer, first, count) = listener.step(bucket);
+        listener = next;
+        steps += 1;
+        assert_eq!((listener.heard(), listener.elapsed()), (steps, elapsed));
+        assert!(steps <= most && elapsed <= 2 * buckets - tune_in);
+        for i in first..first + count {
+            lines.extend(&bucket[29 + 26 * i as usize..][..26]);
+            lines.push(b'\n');
+        }
+        match answer {
+            Answer::Doze(distance) => {
+                elapsed += distance;
+                place = (place + distance) % buckets;
+            }
+            Answer::Found => break true,
+            Answer::Absent => break false,
+            Answer::Refused(number) => panic!("refused by {number}"),
+        }
+    };
+    let ours: Vec<u8> = list
+        .chunks(27)
+        .zip(&tags)
+        .filter(|line| *line.1 == tag)
+        .flat_map(|line| line.0)
+        .copied()
+        .collect();
+    assert_eq!(found, !ours.is_empty());
+    assert!(lines == ours, "tag {tag}, tune-in {tune_in}");
+    // After the end any bytes are refused by 14 and change nothing.
+    for bytes in [&image[..240], b"", b"any"] {
+        assert_eq!(listener.step(bytes), (listener, Answer::Refused(14), 0, 0));
+    }
+
+    let looked = Looked { found, heard: steps, elapsed, lines: (ours.len() / 27) as u64 };
+    assert!(lookup_into(image, tag, tune_in, ours.len()) == Ok((looked, ours.clone())));
+    assert!(lookup_into(image, tag, tune_in, ours.len() + 5) == Ok((looked, ours.clone())));
+    if found {
+        let short = lookup_into(image, tag, tune_in, ours.len() - 1);
+        assert_eq!(short, Err(Refusal { number: 7, place: 0 }));
+    }
+}
+
+/// Every tag of the list, those next to it, 0, and tags above all.
+fn tags_around(list: &[u8]) -> Vec<u64> {
+    let mut around = vec![0, 4_294_967_295, 4_294_967_296, u64::MAX];
+    for tag in tags(list) {
+        around.extend([tag.saturating_sub(1), tag, tag + 1]);
+    }
+    around.sort();
+    around.dedup();
+    around
+}
+
+fn hear_all(list: &[u8], settings: [u64; 4]) {
+    let image = image_of(list, settings);
+    for tag in tags_around(list) {
+        for tune_in in 0..(image.len() / 240) as u64 {
+            hear(list, &image, settings, tag, tune_in);
+        }
+    }
+}
+
+#[test]
+fn small_lists_and_all_settings() {
+    let random = &mut Random::new(1);
+    for lines in 0..=18 {
+        for n in 2..=8 {
+            for p in 1..=8 {
+                for settings in legal_copies(lines, n, p) {
+                    let spread = [0, 1, 1, 2][random.below(4) as usize];
+                    let start = [0, 0, 7, 4_294_967_290][random.below(4) as usize];
+                    hear_all(&list_from(random, lines, start, spread), settings);
+                }
+            }
+        }
+    }
+}
+
+/// Tags from 1 to 3 in every order that never falls, n 2, p 1.
+#[test]
+fn every_short_list() {
+    for lines in 1..=6 {
+        for code in 0..3u64.pow(lines) {
+            let tags: Vec<u64> = (0..lines).map(|i| 1 + code / 3u64.pow(i) % 3).collect();
+            if tags.is_sorted() {
+                for settings in legal_copies(lines as u64, 2, 1) {
+                    hear_all(&list_of(&tags), settings);
+                }
+            }
+        }
+    }
+}
+
+#[test]
+fn deeper_trees() {
+    let random = &mut Random::new(2);
+    for (lines, n, p) in [(33, 2, 1), (40, 2, 2), (40, 3, 1), (70, 4, 1), (80, 8, 1)] {
+        for settings in legal_copies(lines, n, p) {
+            if settings[2] == 1 || settings[3] <= 3 {
+                hear_all(&list(random, lines, 1), settings);
+            }
+        }
+    }
+}
+
+#[test]
+fn large_lists() {
+    let random = &mut Random::new(3);
+    for settings in [[8, 8, 1, 1], [2, 1, 1, 4], [8, 1, 1, 4], [8, 8, 2, 4], [3, 2, 2, 2]] {
+        let list = list(random, 5_000, 2);
+        let image = image_of(&list, settings);
+        for _ in 0..60 {
+            let tag = random.below(5_200);
+            let tune_in = random.below((image.len() / 240) as u64);
+            hear(&list, &image, settings, tag, tune_in);
+        }
+    }
+}
+
+/// Listener and lookup over damaged images, against the slow ones.
+#[test]
+fn damaged_images() {
+    let random = &mut Random::new(4);
+    let mut ends = [0; 15];
+    for _ in 0..20_000 {
+        let lines = random.below(16);
+        let spread = random.below(3);
+        let list = list(random, lines, spread);
+        let (n, p) = (2 + random.below(7), 1 + random.below(4));
+        let legal = legal_copies(lines, n, p);
+        let settings = legal[random.below(legal.len() as u64) as usize];
+        let mut image = image_of(&list, settings);
+        for _ in 0..random.below(4) {
+            if !image.is_empty() {
+                image = damaged_image(random, &image);
+            }
+        }
+        let buckets = (image.len() / 240) as u64;
+        for _ in 0..3 {
+            let tag = random.below(20);
+            let tune_in = random.below(10 * buckets + 1) % (buckets + 1);
+            let room = 27 * random.below(8) as usize;
+            let fast = lookup_into(&image, tag, tune_in, room);
+            let slow = literal::lookup(&image, tag, tune_in, room);
+            let number = fast.as_ref().map_or_else(|refusal| refusal.number, |_| 0);
+            ends[number as usize] += 1;
+            let fast = fast.map(|(looked, lines)| {
+                assert_eq!(lines.len() as u64, 27 * looked.lines);
+                (looked.found, looked.heard, looked.elapsed, lines)
+            });
+            assert!(fast == slow, "{fast:?} {slow:?}");
+            hear_both(random, &image, tag);
+        }
+    }
+    for number in [0, 7, 8, 9, 10, 11, 12] {
+        assert!(ends[number] > 100, "{ends:?}");
+    }
+}
+
+/// Both listeners, step by step, on the awaited bucket or another one.
+fn hear_both(random: &mut Random, image: &[u8], tag: u64) {
+    let buckets = image.len() / 240;
+    if buckets == 0 {
+        return;
+    }
+    let mut place = random.below(buckets as u64) as usize;
+    let mut fast = Listener::new(tag);
+    let mut slow = literal::Listener::new(tag);
+    for _ in 0..12 {
+        if random.below(12) == 0 {
+            place = random.below(buckets as u64) as usize;
+        }
+        let length = if random.below(50) == 0 { random.below(250) as usize } else { 240 };
+        let bucket = &image[240 * place..];
+        let bucket = &bucket[..length.min(bucket.len())];
+        let (next, answer, first, count) = fast.step(bucket);
+        assert_eq!((answer, first, count), slow.step(bucket));
+        fast = next;
+        assert_eq!((fast.heard(), fast.elapsed()), (slow.heard(), slow.elapsed()));
+        if let Answer::Doze(distance) = answer {
+            place = (place + distance as usize) % buckets;
+        }
+    }
+}
+
+/// Single buckets with numbers at the bounds of their ranges.
+#[test]
+fn bounds_of_a_bucket() {
+    let step = |bucket: &str| {
+        let answer = Listener::new(5).step(bucket.as_bytes());
+        let (slow, ..) = literal::Listener::new(5).step(bucket.as_bytes());
+        assert_eq!(answer.1, slow, "{bucket}");
+        answer.1
+    };
+    let numbers = [0, 1, 2, 49_999, 50_000, 99_998, 99_999, 100_000, 100_001, 999_999];
+    for position in numbers {
+        for to_cycle in numbers {
+            for other in numbers {
+                for (letter, segment, follow_on) in
+                    [('I', other, 0), ('I', 1, other), ('D', other, 0), ('D', 1, other)]
+                {
+                    let head =
+                        format!("{position:>6}{to_cycle:>6}{segment:>6}{follow_on:>6}{letter}");
+                    let body = if letter == 'I' {
+                        " 0 0".into()
+                    } else {
+                        format!(" 0 1{:>10}     0   0     0", 5)
+                    };
+                    step(&format!("{:<239}\n", head + &body));
+                }
+            }
+        }
+    }
+    let at =
+        |position: u64| format!("{:<239}\n", format!("{position:>6}{:>6}{:>6}{:>6}I 0 0", 1, 1, 0));
+    assert_eq!(step(&at(99_998)), Answer::Doze(1));
+    assert_eq!(step(&at(99_999)), Answer::Refused(8));
+}

@@ -1,0 +1,127 @@
+//! The sample yard and the examples of the refusal table.
+
+mod common;
+
+use common::{build_into, lookup_into, read_back_into};
+use reference::generate::list_of;
+use reference::{Answer, Listener, Looked, Refusal};
+
+const S: [u64; 5] = [3, 5, 5, 8, 9];
+const ROOM: usize = 240 * 100;
+
+fn built(tags: &[u64], layout: u64, copies: u64) -> Result<usize, Refusal> {
+    build_into(&list_of(tags), [2, 1, layout, copies], ROOM).map(|image| image.len() / 240)
+}
+
+fn image(tags: &[u64], copies: u64) -> Vec<u8> {
+    build_into(&list_of(tags), [2, 1, 1, copies], ROOM).unwrap()
+}
+
+fn refused<T>(number: u64) -> Result<T, Refusal> {
+    Err(Refusal { number, place: 0 })
+}
+
+/// Found, heard, elapsed and lines.
+fn looked(image: &[u8], tag: u64, tune_in: u64) -> (bool, u64, u64, u64) {
+    let (Looked { found, heard, elapsed, lines }, list) =
+        lookup_into(image, tag, tune_in, 1_000).unwrap();
+    assert_eq!(list, list_of(&vec![tag; lines as usize]));
+    (found, heard, elapsed, lines)
+}
+
+#[test]
+fn p1_to_p5() {
+    assert_eq!(built(&S, 1, 0), Ok(11));
+    assert_eq!(built(&S, 1, 1), Ok(12));
+    assert_eq!(built(&S, 1, 2), Ok(13));
+    assert_eq!(built(&S, 1, 3), refused(5));
+    assert_eq!(built(&S, 2, 2), Ok(17));
+    let image = build_into(&list_of(&S), [2, 1, 2, 2], ROOM).unwrap();
+    let letters: String = image.chunks(240).map(|bucket| bucket[24] as char).collect();
+    assert_eq!(letters, "IIIIIIDDIIIIIIDDD");
+    assert!(built(&S, 2, 5).is_ok());
+    assert_eq!(built(&S, 2, 6), refused(5));
+    assert_eq!(built(&[], 1, 0), Ok(1));
+    let empty = build_into(&[], [2, 1, 1, 0], ROOM).unwrap();
+    for tag in [0, 1, 5, 4_294_967_295] {
+        assert_eq!(looked(&empty, tag, 0), (false, 2, 2, 0));
+    }
+}
+
+#[test]
+fn p6_to_p11() {
+    let s = image(&S, 1);
+    assert_eq!(looked(&s, 5, 0), (true, 7, 19, 2));
+    assert_eq!(looked(&s, 6, 7), (false, 6, 13, 0));
+    assert_eq!(looked(&s, 10, 3), (false, 2, 6, 0));
+    assert_eq!(looked(&s, 9, 0), (true, 5, 12, 1));
+    assert_eq!(looked(&s, 3, 8), (true, 5, 9, 1));
+    let eight = image(&[1, 2, 3, 5, 5, 5, 7, 8], 2);
+    assert_eq!(eight.len() / 240, 18);
+    assert_eq!(looked(&eight, 5, 12), (true, 8, 20, 3));
+}
+
+#[test]
+fn table() {
+    let s = image(&S, 1);
+    let mut table = String::new();
+    for tune_in in 0..12 {
+        let (found, heard, elapsed, lines) = looked(&s, 5, tune_in);
+        assert!(found);
+        table += &format!("{tune_in:>6}{heard:>6}{elapsed:>6}{lines:>6}\n");
+    }
+    let expected = "
+     0     7    19     2
+     1     7    18     2
+     2     7    17     2
+     3     7    16     2
+     4     7    15     2
+     5     7    14     2
+     6     7    13     2
+     7     7    12     2
+     8     6    11     2
+     9     6    10     2
+    10     6     9     2
+    11     6     8     2
+";
+    assert_eq!(table, expected[1..]);
+}
+
+#[test]
+fn refused_inputs() {
+    let list = list_of(&S);
+    let s = image(&S, 1);
+    assert_eq!(s.len(), 240 * 12);
+    assert_eq!(build_into(&list, [9, 1, 1, 1], ROOM), refused(1));
+    assert_eq!(build_into(&[b' '; 28], [2, 1, 1, 1], ROOM), refused(2));
+    let mut leading = list.clone();
+    leading[7..10].copy_from_slice(b"007");
+    assert_eq!(build_into(&leading, [2, 1, 1, 1], ROOM), refused(3));
+    let falling = list_of(&[5, 3]);
+    let place_1 = Err(Refusal { number: 4, place: 1 });
+    assert_eq!(build_into(&falling, [2, 1, 1, 0], ROOM), place_1);
+    assert_eq!(build_into(&list, [2, 1, 1, 3], ROOM), refused(5));
+    assert_eq!(build_into(&list, [2, 1, 1, 1], 2_879), refused(7));
+    assert_eq!(Listener::new(5).step(&s[..239]).1, Answer::Refused(8));
+    // Position 5 where another is due.
+    let listener = Listener::new(5).step(&s[..240]).0;
+    assert_eq!(listener.step(&s[240 * 5..240 * 6]).1, Answer::Refused(9));
+    let round = format!("{:<93}{:>10}{:>6}{:>131}", "     0     1     1     0I 0 1", 5, 1, "\n");
+    assert_eq!(lookup_into(round.as_bytes(), 5, 0, ROOM), Err(Refusal { number: 10, place: 0 }));
+    assert_eq!(read_back_into(&[], [2, 1, 1, 1], ROOM), refused(11));
+    assert_eq!(lookup_into(&s, 5, 12, ROOM), Err(Refusal { number: 12, place: 0 }));
+    let mut altered = s.clone();
+    assert_eq!(&altered[93..109], b"         8     1");
+    altered[102] = b'7';
+    assert_eq!(read_back_into(&altered, [2, 1, 1, 1], ROOM), refused(13));
+    let (mut listener, mut place) = (Listener::new(9), 0);
+    loop {
+        let (next, answer, _, _) = listener.step(&s[240 * place..][..240]);
+        listener = next;
+        match answer {
+            Answer::Doze(distance) => place = (place + distance as usize) % 12,
+            _ => break assert_eq!(answer, Answer::Found),
+        }
+    }
+    assert_eq!(listener.step(b""), (listener, Answer::Refused(14), 0, 0));
+}
