@@ -17,6 +17,7 @@ use Rattle.cycle.specs.declared.Built.the-variants.{Cycle, Refused}
 use Rattle.cycle.specs.declared.Figures.{Figures}
 use Rattle.cycle.specs.declared.Source.the-variants.{List as InList}
 use Rattle.cycle.specs.Held.{planOf, Shaped, sized, Ready, Sending, planIn, written}
+use Rattle.cycle.proofs.Readiness.{sized-shaped, sized-trees}
 use Rattle.cycle.proofs.Sending.{plan-in, long-in}
 use Rattle.cycle.proofs.Written.{written-all}
 
@@ -114,20 +115,8 @@ pub sized-ready : (f : Figures) → Shaped f → copiesFit (planOf f []) ≡ tru
 unfolding sized planOf
 sized-ready f h fit small =
     record {
-      shaped =
-          record {
-            n-low = h .n-low;
-            n-high = h .n-high;
-            p-low = h .p-low;
-            p-high = h .p-high;
-            layout-low = h .layout-low;
-            layout-high = h .layout-high;
-            lines-high = h .lines-high;
-            d-is = h .d-is;
-            k-is = h .k-is;
-            powers-are = h .powers-are;
-            fulls-are = h .fulls-are;
-          };
+      shaped = sized-shaped f (cycleSize (planOf f [])) h;
+      trees = sized-trees f (cycleSize (planOf f []));
       copies-fit = fit;
       size-is = refl;
       size-high = small;

@@ -8,9 +8,9 @@ use mathlib.Core.Option.{Option, none, some}
 use mathlib.Core.List.{List, [], _∷_, _++_, map}
 use borrow.Author.Tests.{eq-eqb}
 use lib.Arith.{digits-div, digits-mod}
-use lib.ListN.{length, drop, getD, length-drop, length-take}
+use lib.ListN.{length, drop, getD, replicate, length-drop, length-take, length-map}
 use lib.Seq.{ext-getD, getD-take, getD-drop}
-use Rattle.columns.specs.Lists.{pick, every, range}
+use Rattle.columns.specs.Lists.{pick, every, range, lastOr}
 use Rattle.buckets.specs.declared.Line.{Line}
 use Rattle.buckets.specs.declared.Head.{Head}
 use Rattle.buckets.specs.declared.Index.{Index}
@@ -18,25 +18,38 @@ use Rattle.buckets.specs.declared.Kind.the-variants.{Index as KindIndex, Data a
 use Rattle.buckets.specs.declared.Reading.{Reading}
 use Rattle.buckets.specs.ListLine.{spelled}
 use Rattle.buckets.specs.Bucket.{Pair, Entry, Body, indexBody, dataBody, Bucket, readBucket, good, followOn, laterPrinted, printedTag}
-use Rattle.buckets.specs.Held.{headOf, heldIndex, indexOf, heldBody, asReading, bucketWith}
+use Rattle.buckets.specs.Held.{headOf, heldIndex, indexOf, heldBody, asReading, bucketWith, filled}
 use Rattle.buckets.proofs.Good.{GoodIndex, bucket-good}
 use Rattle.buckets.proofs.Buckets.{print-of-read-bucket}
-use Rattle.cycle.specs.Tree.{Plan, linesOf, lastTag}
+use Rattle.cycle.specs.Tree.{Plan, linesOf, tagsOf, lastTag}
 use Rattle.cycle.specs.Layouts.{Slot, slot, slots}
 use Rattle.cycle.specs.Cycle.{isData, firstPair, laterPair, hasPairs, pairs, entries, followOnFrom}
 use Rattle.cycle.specs.declared.Figures.{Figures}
 use Rattle.cycle.specs.declared.Source.the-variants.{Image as InImage}
 use Rattle.cycle.specs.Held.{planOf, Ready, Stand, firstPlace, lastSentBefore, linesHeld, planIn, cycleBucket, asIndex}
-use Rattle.cycle.specs.Comparing.{Decides, bucketBytes, MatchesAt, indexReading}
+use Rattle.cycle.specs.Comparing.{Decides, bucketBytes, RisesAt, MatchesAt, indexReading}
 use Rattle.cycle.proofs.Sequence.{Keeps, dataCount}
 use Rattle.cycle.proofs.Keeping.{keeps}
-use Rattle.cycle.proofs.Shapes.{stand-shape}
-use Rattle.cycle.proofs.Positions.{stand-at, index-at, data-at}
+use Rattle.cycle.proofs.Shapes.{stand-shape, firstPlace-shape}
+use Rattle.cycle.proofs.Positions.{At, stand-at, at-same, index-at, data-at}
 use Rattle.cycle.proofs.WholeIndex.{index-held, bucket-whole}
 use Rattle.cycle.proofs.Readiness.{sound}
 use Rattle.cycle.proofs.Sending.{head-shape}
 use Rattle.cycle.proofs.Deciding.{decides-by}
-use Rattle.cycle.proofs.ImageLines.{data-first, lineBytes, printed-spells, length-held, held-line}
+use Rattle.cycle.proofs.ImageLines.{data-first, data-placed, lineBytes, printed-spells, length-held, held-line}
+
+-- ---- the tags of the data bucket at x against the next one's
+
+module _ (t : Plan) (ks : Keeps t) {x i j : ℕ} {xs : List Slot} (a : At t x i j xs) where
+  same-data : (q : ℕ) → firstPlace t (t .k + 1) q ≡ x → q + 1 < t .d → (i ≡ t .k + 1) × (j ≡ q)
+  same-data q e h = at-same a (subst (λ y. At t y (t .k + 1) q []) e (data-placed t ks q (omega arith)))
+
+  -- an index bucket is none
+  pub none-falls : i ≤ t .k → (q : ℕ) → firstPlace t (t .k + 1) q ≡ x → RisesAt t q
+  none-falls low q e h = absurd (omega (arith, same-data q e h .0))
+
+  pub one-rises : RisesAt t j → (q : ℕ) → firstPlace t (t .k + 1) q ≡ x → RisesAt t q
+  one-rises r q e h = subst (RisesAt t) (same-data q e h .1) r h
 
 -- ---- index buckets
 
@@ -89,6 +102,11 @@ module _ (f : Figures) (bytes : List ℕ) (ready : Ready f) where
   unfolding planIn
   head-held x h = head-shape f [] (linesHeld f InImage bytes) x (omega (arith, ready .size-is))
 
+  pub held-keeps : Keeps (planIn f InImage bytes)
+  unfolding planIn
+  held-keeps =
+      keeps (planOf f (linesHeld f InImage bytes)) (sound f (linesHeld f InImage bytes) (ready .shaped) (ready .copies-fit))
+
   pub index-decided :
       (x i j : ℕ) {xs : List Slot} → Stand (planOf f []) x (slot i j ∷ xs) → i ≤ f .k → x < f .size →
       (head : Head) (index : Index) (r : Bool) → head ≡ headOf (cycleBucket (planOf f []) x) →
@@ -111,6 +129,7 @@ module _ (f : Figures) (bytes : List ℕ) (ready : Ready f) where
         reads =
             index-told o (cycleBucket t x) ps es (λ c m. print-of-read-bucket (bucketBytes bytes x) m .1) body
             (pairs-later t (rest ++ slots t) (lastSentBefore t x) (length (slots t) - x) (slot i j)) (e ∙ wanted);
+        rises = none-falls t (held-keeps) a low;
       })
       (λ e. ap asReading (e .reads) ∙ (index-reads (cycleBucket t x) ps es body ∙ sym wanted))
       d
@@ -152,6 +171,40 @@ data-reads b f ls e =
       count-is = ap (λ x. heldBody (headOf b) x .lines) e;
       follow-is = ap (λ x. heldBody (headOf b) x .«follow_on») e;
     }
+
+pub last-filled : (w z d : ℕ) (xs : List ℕ) → 1 ≤ length xs → getD (filled w xs) (length xs - 1) d ≡ lastOr z xs
+unfolding filled
+last-filled w z d [] h = absurd (omega arith)
+last-filled w z d (x ∷ xs) h =
+    let e : length (x ∷ xs) - 1 ≡ length xs = omega arith in
+    rw e (last-append x xs (replicate (w - length (x ∷ xs)) 0))
+  where
+    last-append : (y : ℕ) (ys zs : List ℕ) → getD (y ∷ (ys ++ zs)) (length ys) d ≡ lastOr y ys
+    last-append y [] zs = refl
+    last-append y (v ∷ ys) zs = last-append v ys zs
+
+-- the last tag that a reading of a data bucket finds
+last-of-read :
+    (o : Option Bucket) (ls : List Line) →
+    ((c : Bucket) (h : ℕ) (ms : List Line) → o ≡ some c → c .body ≡ dataBody h ms → length ms ≡ length ls → ms ≡ ls) →
+    asReading o .kind ≡ KindData → asReading o .lines ≡ length ls → 1 ≤ length ls →
+    getD (asReading o .tags) (asReading o .lines - 1) 0 ≡ lastOr 0 (map (λ l. l .tag) ls)
+last-of-read none ls known k c h = absurd (let z : _≡_ {A = ℕ} 0 1 = cc in omega arith)
+last-of-read (some b) ls known k c h = of (b .body) refl
+  where
+    of : (y : Body) → b .body ≡ y → getD (asReading (some b) .tags) (asReading (some b) .lines - 1) 0 ≡ lastOr 0 (map (λ l. l .tag) ls)
+    of (indexBody ps es) g =
+        absurd
+        (let i : KindIndex ≡ KindData = ap (λ x. heldBody (headOf b) x .kind) (sym g) ∙ k in
+        let z : _≡_ {A = ℕ} 0 1 = cc in omega arith)
+    of (dataBody f ms) g =
+        let count : length ms ≡ length ls = ap (λ x. heldBody (headOf b) x .lines) (sym g) ∙ c in
+        let same : ms ≡ ls = known b f ms refl g count in
+        let tags : List ℕ = map (λ (l : Line). l .tag) ms in
+        let long : length tags ≡ length ms = length-map ms (λ (l : Line). l .tag) in
+        ap (λ x. getD (heldBody (headOf b) x .tags) (heldBody (headOf b) x .lines - 1) 0) g
+        ∙ (ap (λ m. getD (filled 8 tags) (m - 1) 0) (sym long)
+        ∙ (last-filled 8 0 0 tags (omega (arith, long, count)) ∙ ap (λ xs. lastOr 0 (map (λ (l : Line). l .tag) xs)) same))
 
 module _ (f : Figures) (bytes : List ℕ) (ready : Ready f) (x q : ℕ) (st : Stand (planOf f []) x (slot (f .k + 1) q ∷ [])) where
   -- data bucket q stands at x and nowhere else
@@ -199,10 +252,26 @@ module _ (f : Figures) (bytes : List ℕ) (ready : Ready f) (x q : ℕ) (st : St
       ∙ ap (λ s. spelled (lineBytes s m)) (sym (told .0))
       ∙ sym (held-of z m (omega (arith, l, length-held-of))))
 
+  held-here : firstPlace (planIn f InImage bytes) (f .k + 1) q ≡ x
+  unfolding planIn
+  held-here = firstPlace-shape f (linesHeld f InImage bytes) [] (f .k + 1) q ∙ data-here
+
+  -- the last of the tags that were read is the bucket's
+  pub last-known :
+      (g : Reading) → g ≡ asReading (readBucket (bucketBytes bytes x)) → g .kind ≡ KindData →
+      g .lines ≡ min (f .p) (f .lines - q * f .p) → 1 ≤ g .lines → getD (g .tags) (g .lines - 1) 0 ≡ lastTag (planIn f InImage bytes) q
+  unfolding lastTag tagsOf
+  last-known g is kind count some-lines =
+      ap (λ (r : Reading). getD (r .tags) (r .lines - 1) 0) is
+      ∙ last-of-read (readBucket (bucketBytes bytes x)) (linesOf (planIn f InImage bytes) q) lines-known
+      (sym (ap (λ (r : Reading). r .kind) is) ∙ kind)
+      (sym (ap (λ (r : Reading). r .lines) is) ∙ (count ∙ sym length-held-of))
+      (omega (arith, some-lines, count, length-held-of))
+
   pub data-decided :
       x < f .size → (head : Head) (count follow : ℕ) (r : Bool) → head ≡ headOf (cycleBucket (planOf f []) x) →
       count ≡ min (f .p) (f .lines - q * f .p) → follow ≡ followOn (cycleBucket (planIn f InImage bytes) x .body) →
-      Decides (DataFacts (asReading (readBucket (bucketBytes bytes x))) head count follow) r →
+      Decides (DataFacts (asReading (readBucket (bucketBytes bytes x))) head count follow × RisesAt (planIn f InImage bytes) q) r →
       Decides (MatchesAt (planIn f InImage bytes) bytes x) r
   unfolding planIn planOf
   data-decided below head count follow r head-is count-is follow-is d =
@@ -218,18 +287,23 @@ module _ (f : Figures) (bytes : List ℕ) (ready : Ready f) (x q : ℕ) (st : St
       (λ g.
       let facts : DataFacts (asReading o) (headOf (cycleBucket t x)) (length (linesOf t q)) from =
       record {
-        kind-is = g .kind-is;
-        head-is = g .head-is ∙ same-head;
-        count-is = g .count-is ∙ same-count;
-        follow-is = g .follow-is ∙ same-follow;
+        kind-is = g .0 .kind-is;
+        head-is = g .0 .head-is ∙ same-head;
+        count-is = g .0 .count-is ∙ same-count;
+        follow-is = g .0 .follow-is ∙ same-follow;
       } in
-      record { reads = data-told o (cycleBucket t x) from (linesOf t q) lines-known body facts })
-      (λ e.
-      let g = subst (λ w. DataFacts (asReading w) (headOf (cycleBucket t x)) (length (linesOf t q)) from) (sym (e .reads)) (data-reads (cycleBucket t x) from (linesOf t q) body) in
       record {
-        kind-is = g .kind-is;
-        head-is = g .head-is ∙ sym same-head;
-        count-is = g .count-is ∙ sym same-count;
-        follow-is = g .follow-is ∙ sym same-follow;
+        reads = data-told o (cycleBucket t x) from (linesOf t q) lines-known body facts;
+        rises = one-rises t (held-keeps f bytes ready) a (g .1);
       })
+      (λ e.
+      let g = subst (λ w. DataFacts (asReading w) (headOf (cycleBucket t x)) (length (linesOf t q)) from) (sym (e .reads)) (data-reads (cycleBucket t x) from (linesOf t q) body) in (
+        record {
+          kind-is = g .kind-is;
+          head-is = g .head-is ∙ sym same-head;
+          count-is = g .count-is ∙ sym same-count;
+          follow-is = g .follow-is ∙ sym same-follow;
+        },
+        e .rises q held-here,
+      ))
       d

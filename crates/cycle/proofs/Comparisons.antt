@@ -1,23 +1,30 @@
 -- What the functions that compare a segment have at hand: bounds, what they ask of their callees, and buckets decided.
 -- Assumes nothing.
-use mathlib.Core.Path.{_≡_}
+use mathlib.Core.Path.{_≡_, sym, ap₂, _∙_}
 use Prim.Native.Nat.{ℕ, _+_, _-_, _*_, _≤_, _<_, min}
 use native.Mathlib.Omega.{arith}
 use mathlib.Core.Bool.{Bool}
-use mathlib.Core.List.{List, []}
-use lib.ListN.{length}
+use mathlib.Core.List.{List, [], _∷_}
+use lib.Dec.{eqb}
+use lib.ListN.{length, take, drop}
+use Rattle.columns.specs.Lists.{pick}
+use Rattle.columns.specs.PrintedNumbers.{value}
 use Rattle.buckets.specs.declared.Head.{Head}
 use Rattle.buckets.specs.declared.Index.{Index}
 use Rattle.buckets.specs.Bucket.{readBucket, followOn}
 use Rattle.buckets.specs.Held.{headOf, asReading}
-use Rattle.cycle.specs.Tree.{above}
+use Rattle.cycle.specs.Tree.{above, lastTag, firstTag}
+use Rattle.cycle.specs.Layouts.{slot}
 use Rattle.cycle.specs.declared.Figures.{Figures}
 use Rattle.cycle.specs.declared.Segment.{Segment}
 use Rattle.cycle.specs.declared.Source.the-variants.{Image as InImage}
-use Rattle.cycle.specs.Held.{planOf, Ready, Placed, linesHeld, planIn, cycleBucket, asIndex, TreePlace}
-use Rattle.cycle.specs.Comparing.{Decides, bucketBytes, MatchesAt, indexReading, Comparing}
+use Rattle.cycle.specs.Held.{planOf, Ready, Stand, Placed, firstPlace, linesHeld, planIn, cycleBucket, asIndex, TreePlace}
+use Rattle.cycle.specs.Comparing.{Decides, bucketBytes, RisesAt, MatchesAt, Followed, indexReading, Comparing}
 use Rattle.cycle.proofs.SegmentParts.{Seated, seated, path-size, path-layout, path-there, path-high, data-there}
 use Rattle.cycle.proofs.TreePlaces.{tree-before, bucket-stands}
+use Rattle.cycle.proofs.Deciding.{decides-by}
+use Rattle.cycle.proofs.SentLines.{follow-last, follow-next}
+use Rattle.cycle.proofs.ImageText.{Seam, seam}
 use Rattle.cycle.proofs.BucketsCompared.{DataFacts, index-decided, data-decided}
 
 module _ (f : Figures) (bytes : List ℕ) (s : Segment) (w : Comparing f bytes s) where
@@ -65,7 +72,44 @@ module _ (f : Figures) (bytes : List ℕ) (s : Segment) (w : Comparing f bytes s
       (q x : ℕ) → s .first ≤ q → q < s .last → x ≡ s .«data_at» + (q - s .first) → (head : Head) (count follow : ℕ) (r : Bool) →
       head ≡ headOf (cycleBucket (planOf f []) x) → count ≡ min (f .p) (f .lines - q * f .p) →
       follow ≡ followOn (cycleBucket (planIn f InImage bytes) x .body) →
-      Decides (DataFacts (asReading (readBucket (bucketBytes bytes x))) head count follow) r → Decides (MatchesAt (planIn f InImage bytes) bytes x) r
+      Decides (DataFacts (asReading (readBucket (bucketBytes bytes x))) head count follow × RisesAt (planIn f InImage bytes) q) r →
+      Decides (MatchesAt (planIn f InImage bytes) bytes x) r
   data-bucket-decided q x low high is head count follow r head-is count-is follow-is d =
       let there = data-there f s ready-in (w .placed) [] q low high in
       data-decided f bytes ready-in x q (rw (← is) at there) (omega (arith, seats, data-below q low high)) head count follow r head-is count-is follow-is d
+
+  -- its follow-on, and its last tag against the next one's first
+  module _ (q x : ℕ) (low : s .first ≤ q) (high : q < s .last) (is : x ≡ s .«data_at» + (q - s .first)) where
+    pub stands-here : Stand (planOf f []) x (slot (f .k + 1) q ∷ [])
+    stands-here = let there = data-there f s ready-in (w .placed) [] q low high in rw (← is) at there
+
+    pub last-followed :
+        (follow : ℕ) (r : Bool) → q + 1 ≡ f .d → Decides (follow ≡ 0) r → Decides (Followed (planIn f InImage bytes) q x follow) r
+    unfolding planIn planOf
+    last-followed follow r end d =
+        let none-left : followOn (cycleBucket (planIn f InImage bytes) x .body) ≡ 0 = follow-last f ready-in InImage bytes q x stands-here end in
+        decides-by (λ e. record { follow-is = e ∙ sym none-left; in-order = λ h. absurd (omega arith) }) (λ g. g .follow-is ∙ none-left) d
+
+    -- the tags that meet
+    module _ (last first : ℕ) (next : q + 1 < f .d) (last-is : last ≡ lastTag (planIn f InImage bytes) q)
+        (first-is : first ≡ value 0 (take 10 (drop (240 * firstPlace (planOf f []) (f .k + 1) (q + 1) + 29) bytes))) where
+      meets : Seam f bytes (w .holding) q
+      meets = seam f bytes (w .holding) q next
+
+      first-there : firstTag (planIn f InImage bytes) (q + 1) ≡ first
+      first-there = meets .first-is ∙ (meets .stands-at ∙ sym first-is)
+
+      pub next-falls : (follow : ℕ) → first < last → Followed (planIn f InImage bytes) q x follow → ⊥
+      unfolding planIn planOf
+      next-falls follow h g = let up = g .in-order next in omega (arith, first-there, last-is)
+
+      pub next-followed :
+          (follow : ℕ) (r : Bool) → last ≤ first →
+          Decides (follow ≡ pick (eqb first last) (firstPlace (planOf f []) (f .k + 1) (q + 1) - x) 0) r →
+          Decides (Followed (planIn f InImage bytes) q x follow) r
+      next-followed follow r h d =
+          let same : followOn (cycleBucket (planIn f InImage bytes) x .body) ≡ pick (eqb first last) (firstPlace (planOf f []) (f .k + 1) (q + 1) - x) 0 =
+          follow-next f ready-in InImage bytes q x stands-here next
+          ∙ ap₂ (λ u v. pick (eqb u v) (firstPlace (planOf f []) (f .k + 1) (q + 1) - x) 0)
+          (sym (meets .first-is) ∙ first-there) (sym (meets .last-is) ∙ sym last-is) in
+          decides-by (λ e. record { follow-is = e ∙ sym same; in-order = λ i. omega (arith, first-there, last-is) }) (λ g. g .follow-is ∙ same) d

@@ -6,7 +6,7 @@ use Prim.Native.Nat.{ℕ, _+_, _-_, _*_, _^_, _≤_, _<_, max}
 use native.Mathlib.Nat.{mul-le-mul-left, one-le-pow, eq-zero-or-pos}
 use native.Mathlib.Omega.{arith}
 use mathlib.Core.List.{[]}
-use lib.ListN.{length, getD}
+use lib.ListN.{length}
 use Rattle.columns.specs.Lists.{joined, span}
 use Rattle.cycle.specs.Tree.{Plan, width}
 use Rattle.cycle.specs.Layouts.{pathTop, distributedSegment}
@@ -22,7 +22,6 @@ use Rattle.cycle.proofs.FirstPlaces.{first-inside, first-top, first-pla
 -- bucket j of a level up to r + 1, and the number b of the segment where it stands first
 pub record First (f : Figures) (level j b : ℕ) : Type 0 where
   pub few : f .copies ≤ 4
-  pub entry : getD (f .powers) (f .copies + 1 - level) 0 ≡ f .n ^ (f .copies + 1 - level)
   pub small : b ≤ 40000
   pub among : b < segmentCount (planOf f [])
   pub top : pathTop (f .n) (f .copies) b ≤ level
@@ -56,7 +55,6 @@ first-held f level j ready one low high inside =
     let same : b - 0 ≡ b = omega arith in
     record {
       few = k .few;
-      entry = ready .shaped .powers-are h (omega (arith, k .few));
       small = omega (arith, r .start);
       among = among;
       top = first-top t s one level j low high within;

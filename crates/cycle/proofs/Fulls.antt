@@ -1,25 +1,11 @@
--- The tables of the figures: a row of f, filled from the front, and the sizes of full subtrees.
+-- The next power, and the sizes of full subtrees.
 -- Assumes nothing.
 use mathlib.Core.Path.{_≡_, ap, _∙_}
-use mathlib.Core.Logic.{⊎-elim}
-use Prim.Native.Nat.{ℕ, zero, suc, _+_, _*_, _^_, _≤_, _<_}
-use native.Mathlib.Nat.{pow-succ', pow-zero, mul-comm, add-mul, one-mul, mul-le-mul-right, eq-or-lt-of-le}
+use Prim.Native.Nat.{ℕ, zero, suc, _+_, _*_, _^_, _≤_}
+use native.Mathlib.Nat.{pow-succ', pow-zero, mul-comm, add-mul, one-mul, mul-le-mul-right}
 use native.Mathlib.Numerals.{add-one}
 use native.Mathlib.Omega.{arith}
-use mathlib.Core.List.{List}
-use lib.ListN.{length, getD, set}
-use lib.Seq.{getD-set-same, getD-set-other}
 use Rattle.cycle.specs.Held.{fullSize}
-
--- one place more of a table of f
-pub row-more :
-    (f : ℕ → ℕ) (a : List ℕ) (h v : ℕ) → h < length a → ((g : ℕ) → g < h → getD a g 0 ≡ f g) → v ≡ f h →
-    (g : ℕ) → g < h + 1 → getD (set a h v) g 0 ≡ f g
-row-more f a h v l row e g u =
-    ⊎-elim
-    (λ (z : g ≡ h). rw z (getD-set-same a h v 0 l ∙ e))
-    (λ (s : g < h). getD-set-other a h g v 0 (λ z. omega arith) ∙ row g s)
-    (eq-or-lt-of-le {n = g} {m = h} (omega arith))
 
 -- the next power
 pub power-next : (n h : ℕ) → n ^ (h + 1) ≡ n ^ h * n

@@ -19,7 +19,7 @@ use Rattle.cycle.specs.ReadingBack.{Builds}
 use Rattle.cycle.specs.declared.Figures.{Figures}
 use Rattle.cycle.specs.declared.Source.the-variants.{Image as InImage}
 use Rattle.cycle.specs.Held.{planOf, Shaped, firstPlace, linesHeld, planIn, cycleBucket}
-use Rattle.cycle.specs.Comparing.{bucketBytes, Matches, NoFall, counted}
+use Rattle.cycle.specs.Comparing.{bucketBytes, Matches, RisesAt, counted}
 use Rattle.cycle.proofs.TreeLaws.{up-covers}
 use Rattle.cycle.proofs.Rising.{Rising, rising-take}
 use Rattle.cycle.proofs.Shapes.{firstPlace-shape}
@@ -64,6 +64,16 @@ bucket-of-line t a i l =
     let high : length (t .lines) ≤ t .d * t .p = rw (a .d-is) covers in
     div-lt-iff-lt-mul (a .sound .full) .1 (omega arith)
 
+-- tags do not fall from a data bucket to the next
+pub no-fall : (t : Plan) → Accepted t → (q : ℕ) → RisesAt t q
+no-fall t a q h =
+    let next : q + 1 ≡ suc q = omega arith in
+    let g : Filled t (suc q) = filled t (laid t a) (suc q) (omega arith) in
+    let r : Rising (lastTag t q) (restFrom t (suc q)) = next-rises t (laid t a) q in
+    let b : Rising (lastTag t q) (linesOf t (suc q)) = rw lines-of (rising-take (lastTag t q) (t .p) (restFrom t (suc q)) r) in
+    let c : Rising (lastTag t q) (g .line ∷ g .more) = subst (Rising (lastTag t q)) (g .is) b in
+    rw (next, g .first-is) (c .0)
+
 module _ (f : Figures) (ls : List Line) (a : Accepted (planOf f ls)) (short : cycleSize (planOf f ls) ≤ 99999) (count : length ls ≡ f .lines) where
   pub held-built : linesHeld f InImage (image (planOf f ls)) ≡ ls
   unfolding planOf bucketBytes
@@ -90,18 +100,10 @@ module _ (f : Figures) (ls : List Line) (a : Accepted (planOf f ls)) (short : cy
 
   pub matches-built : Matches (planOf f ls) (image (planOf f ls)) 0 (cycleSize (planOf f ls))
   unfolding bucketBytes
-  matches-built = record { each = λ x low high. record { reads = image-reads (planOf f ls) a short x high } }
-
--- tags do not fall from a data bucket to the next
-pub no-fall : (t : Plan) → Accepted t → NoFall t
-unfolding NoFall
-no-fall t a q h =
-    let next : q + 1 ≡ suc q = omega arith in
-    let g : Filled t (suc q) = filled t (laid t a) (suc q) (omega arith) in
-    let r : Rising (lastTag t q) (restFrom t (suc q)) = next-rises t (laid t a) q in
-    let b : Rising (lastTag t q) (linesOf t (suc q)) = rw lines-of (rising-take (lastTag t q) (t .p) (restFrom t (suc q)) r) in
-    let c : Rising (lastTag t q) (g .line ∷ g .more) = subst (Rising (lastTag t q)) (g .is) b in
-    rw (next, g .first-is) (c .0)
+  matches-built =
+      record {
+        each = λ x low high. record { reads = image-reads (planOf f ls) a short x high; rises = λ q e. no-fall (planOf f ls) a q };
+      }
 
 -- ---- figures of settings
 
@@ -136,7 +138,6 @@ pub record BuiltFrom (f : Figures) (bytes list : List ℕ) : Type 0 where
   pub size-is : cycleSize (planOf f (listLines list)) ≡ length bytes / 240
   pub lines-are : linesHeld f InImage bytes ≡ listLines list
   pub matches : Matches (planIn f InImage bytes) bytes 0 (cycleSize (planOf f (listLines list)))
-  pub rises : NoFall (planIn f InImage bytes)
 
 module _ (s : Settings) (bytes list : List ℕ) (b : Builds s list bytes) where
   pub built-lines : counted (s .p) bytes ≡ length (listLines list)
@@ -166,5 +167,4 @@ module _ (s : Settings) (bytes list : List ℕ) (b : Builds s list bytes) where
         size-is = ap cycleSize same ∙ sym (o .size-is);
         lines-are = held;
         matches = subst (λ (u : List Line × List ℕ). Matches (planOf f (u .0)) (u .1) 0 (cycleSize (planOf f ls))) (ap₂ (λ x y. (x, y)) (sym held) text) (matches-built f ls fine short (sym e));
-        rises = subst (λ u. NoFall (planOf f u)) (sym held) (no-fall (planOf f ls) fine);
       }

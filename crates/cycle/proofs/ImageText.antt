@@ -1,17 +1,19 @@
 -- The list that is copied out of an image, line by line, and the tags where one data bucket follows another.
 -- Assumes nothing.
 use mathlib.Core.Path.{_≡_, refl, sym, ap, ap₂, _∙_}
-use Prim.Native.Nat.{ℕ, zero, suc, _+_, _-_, _*_, _/_, _%_, _≤_, _<_, min}
-use native.Mathlib.Nat.{suc-mul}
+use Prim.Native.Nat.{ℕ, zero, suc, _+_, _-_, _*_, _/_, _%_, _≤_, _<_}
+use native.Mathlib.Nat.{add-zero, add-suc, suc-add, mul-div-cancel, mul-mod-left}
 use native.Mathlib.Numerals.{add-one}
 use native.Mathlib.Omega.{arith}
 use mathlib.Core.Bool.{true}
 use mathlib.Core.List.{List, [], _∷_, _++_, map, append-nil}
+use lib.Arith.{digits-div, digits-mod}
 use lib.ListN
 use lib.ListN.{length, drop, getD, length-append}
 use Rattle.columns.specs.Lists.{joined, span, range}
 use Rattle.columns.proofs.Put.{length-part}
 use Rattle.columns.proofs.Joined.{every-at}
+use Rattle.columns.specs.PrintedNumbers.{value}
 use Rattle.buckets.specs.declared.Line.{Line}
 use Rattle.buckets.specs.ListLine.{fits, figures, printLine, spelled}
 use Rattle.buckets.proofs.ListLines.{spelled-alone}
@@ -20,9 +22,8 @@ use Rattle.cycle.specs.Cycle.{followOnFrom, cycleSize}
 use Rattle.cycle.specs.declared.Figures.{Figures}
 use Rattle.cycle.specs.declared.Source.the-variants.{Image as InImage}
 use Rattle.cycle.specs.Held.{planOf, firstPlace, lineAt, linesHeld, tagAt, planIn, cycleBucket}
-use Rattle.cycle.specs.Comparing.{bucketBytes, Matches, listText, Holding}
-use Rattle.cycle.proofs.Ranges.{range-snoc, joined-append}
-use Rattle.cycle.proofs.TreeLaws.{up-lt}
+use Rattle.cycle.specs.Comparing.{bucketBytes, Matches, linesText, listText, Holding}
+use Rattle.cycle.proofs.Ranges.{range-snoc, joined-append, joined-range, joined-same}
 use Rattle.cycle.proofs.Sequence.{Sound}
 use Rattle.cycle.proofs.Keeping.{keeps}
 use Rattle.cycle.proofs.Readiness.{sound}
@@ -31,7 +32,8 @@ use Rattle.cycle.proofs.Positions.{data-at}
 use Rattle.cycle.proofs.Sending.{size-shape}
 use Rattle.cycle.proofs.DataHeld.{data-ends}
 use Rattle.cycle.proofs.LinesHeld.{line-bucket, line-column}
-use Rattle.cycle.proofs.Tags.{first-tag, last-tag}
+use Rattle.cycle.proofs.SentLines.{full-lines, last-full}
+use Rattle.cycle.proofs.Tags.{first-tag}
 use Rattle.cycle.proofs.ImageLines.{data-placed, spelled-front, lineBytes, image-line, printed-line, length-held}
 use Rattle.cycle.proofs.Matching.{matches-to}
 use Rattle.cycle.proofs.HeldImage.{at-below, place-in-bucket}
@@ -39,15 +41,41 @@ use Rattle.cycle.proofs.Restorable.{bytes-are, data-good}
 
 -- ---- the text of the lines
 
-joined-same :
-    {A : Type 0} (g h : ℕ → List A) (a c : ℕ) → ((i : ℕ) → a ≤ i → i < a + c → g i ≡ h i) → joined g (span a c) ≡ joined h (span a c)
-joined-same g h a zero e = refl
-joined-same g h a (suc c) e =
-    ap₂ {C = List _} _++_ (e a (omega arith) (omega arith)) (joined-same g h (suc a) c (λ i low high. e i (omega arith) (omega arith)))
+joined-shift :
+    {A : Type 0} (g h : ℕ → List A) (a b c : ℕ) → ((i : ℕ) → i < c → g (a + i) ≡ h (b + i)) → joined g (span a c) ≡ joined h (span b c)
+joined-shift g h a b zero e = refl
+joined-shift g h a b (suc c) e =
+    let first : g a ≡ h b = rw (add-zero a, add-zero b) at (e 0 (omega arith)) in
+    ap₂ {C = List _} _++_ first
+    (joined-shift g h (suc a) (suc b) c (λ i l. rw (add-suc a i, add-suc b i, ← suc-add a i, ← suc-add b i) at (e (suc i) (omega arith))))
 
 joined-map : {A B C : Type 0} (g : B → List C) (h : A → B) (xs : List A) → joined g (map h xs) ≡ joined (λ x. g (h x)) xs
 joined-map g h [] = refl
 joined-map g h (x ∷ xs) = ap (λ s. g (h x) ++ s) (joined-map g h xs)
+
+-- lines that stand side by side
+module _ (bytes : List ℕ) (from : ℕ) where
+  pub lines-none : linesText bytes from 0 ≡ []
+  unfolding linesText
+  lines-none = refl
+
+  pub lines-more : (c : ℕ) → linesText bytes from (c + 1) ≡ linesText bytes from c ++ (ListN.take 26 (drop (from + 26 * c) bytes) ++ 10 ∷ [])
+  unfolding linesText
+  lines-more c =
+      let g : ℕ → List ℕ = λ i. ListN.take 26 (drop (from + 26 * i) bytes) ++ 10 ∷ [] in
+      ap (λ b. joined g (range 0 b)) (add-one c)
+      ∙ ap (joined g) (range-snoc 0 c (omega arith))
+      ∙ joined-append g (range 0 c) (c ∷ [])
+      ∙ ap (λ s. joined g (range 0 c) ++ s) (append-nil (g c))
+
+  pub length-lines-text : (c : ℕ) → from + 26 * c ≤ length bytes → length (linesText bytes from c) ≡ 27 * c
+  length-lines-text zero h = ap length lines-none
+  length-lines-text (suc c) h =
+      let line : List ℕ = ListN.take 26 (drop (from + 26 * c) bytes) ++ 10 ∷ [] in
+      let rest : length (linesText bytes from c) ≡ 27 * c = length-lines-text c (omega arith) in
+      let own : length line ≡ 27 =
+      length-append (ListN.take 26 (drop (from + 26 * c) bytes)) (10 ∷ []) ∙ ap (λ n. n + 1) (length-part bytes (from + 26 * c) 26 (omega arith)) in
+      ap (λ b. length (linesText bytes from b)) (sym (add-one c)) ∙ (ap length (lines-more c) ∙ (length-append (linesText bytes from c) line ∙ omega arith))
 
 module _ (f : Figures) (bytes : List ℕ) (w : Holding f bytes) where
   -- a line lies within the image
@@ -58,32 +86,49 @@ module _ (f : Figures) (bytes : List ℕ) (w : Holding f bytes) where
       let column = line-column f i (w .ready .shaped) in
       omega (arith, w .long)
 
-  pub text-more :
-      (c : ℕ) → listText f bytes (c + 1) ≡ listText f bytes c ++ (ListN.take 26 (drop (lineAt (planOf f []) InImage c) bytes) ++ 10 ∷ [])
+  pub text-on : (a b c : ℕ) → a ≤ b → b ≤ c → listText f bytes a c ≡ listText f bytes a b ++ listText f bytes b c
   unfolding listText
-  text-more c =
-      let g : ℕ → List ℕ = λ i. ListN.take 26 (drop (lineAt (planOf f []) InImage i) bytes) ++ 10 ∷ [] in
-      ap (λ b. joined g (range 0 b)) (add-one c)
-      ∙ ap (joined g) (range-snoc 0 c (omega arith))
-      ∙ joined-append g (range 0 c) (c ∷ [])
-      ∙ ap (λ s. joined g (range 0 c) ++ s) (append-nil (g c))
+  text-on a b c h g = joined-range (λ i. ListN.take 26 (drop (lineAt (planOf f []) InImage i) bytes) ++ 10 ∷ []) a b c h g
 
-  pub text-none : listText f bytes 0 ≡ []
+  pub text-none : (a b : ℕ) → b ≤ a → listText f bytes a b ≡ []
   unfolding listText
-  text-none = refl
+  text-none a b h = let e : b - a ≡ 0 = omega arith in rw e
 
-  pub length-line : (i : ℕ) → i < f .lines → length (ListN.take 26 (drop (lineAt (planOf f []) InImage i) bytes) ++ 10 ∷ []) ≡ 27
+  length-line : (i : ℕ) → i < f .lines → length (ListN.take 26 (drop (lineAt (planOf f []) InImage i) bytes) ++ 10 ∷ []) ≡ 27
   length-line i h =
       length-append (ListN.take 26 (drop (lineAt (planOf f []) InImage i) bytes)) (10 ∷ [])
       ∙ ap (λ c. c + 1) (length-part bytes (lineAt (planOf f []) InImage i) 26 (line-room i h))
 
-  pub length-text : (c : ℕ) → c ≤ f .lines → length (listText f bytes c) ≡ 27 * c
-  length-text zero h = ap length text-none
-  length-text (suc c) h =
-      let line : List ℕ = ListN.take 26 (drop (lineAt (planOf f []) InImage c) bytes) ++ 10 ∷ [] in
-      let rest : length (listText f bytes c) ≡ 27 * c = length-text c (omega arith) in
-      let own : length line ≡ 27 = length-line c (omega arith) in
-      ap (λ b. length (listText f bytes b)) (sym (add-one c)) ∙ (ap length (text-more c) ∙ (length-append (listText f bytes c) line ∙ omega arith))
+  length-lines :
+      (a c : ℕ) → a + c ≤ f .lines → length (joined (λ i. ListN.take 26 (drop (lineAt (planOf f []) InImage i) bytes) ++ 10 ∷ []) (span a c)) ≡ 27 * c
+  length-lines a zero h = refl
+  length-lines a (suc c) h =
+      let line : ℕ → List ℕ = λ i. ListN.take 26 (drop (lineAt (planOf f []) InImage i) bytes) ++ 10 ∷ [] in
+      let rest : length (joined line (span (suc a) c)) ≡ 27 * c = length-lines (suc a) c (omega arith) in
+      let own : length (line a) ≡ 27 = length-line a (omega arith) in
+      length-append (line a) (joined line (span (suc a) c)) ∙ omega arith
+
+  pub length-text : (a b : ℕ) → a ≤ b → b ≤ f .lines → length (listText f bytes a b) ≡ 27 * (b - a)
+  unfolding listText
+  length-text a b h g = length-lines a (b - a) (omega arith)
+
+  -- the lines of a data bucket stand side by side
+  pub bucket-text :
+      (q c : ℕ) → c ≤ f .p →
+      linesText bytes (240 * firstPlace (planOf f []) (f .k + 1) q + 29) c ≡ listText f bytes (q * f .p) (q * f .p + c)
+  unfolding linesText listText planOf
+  bucket-text q c h =
+      let x : ℕ = firstPlace (planOf f []) (f .k + 1) q in
+      let from : q * f .p + c - q * f .p ≡ c - 0 = omega arith in
+      rw from
+      (joined-shift (λ i. ListN.take 26 (drop (240 * x + 29 + 26 * i) bytes) ++ 10 ∷ [])
+      (λ i. ListN.take 26 (drop (lineAt (planOf f []) InImage i) bytes) ++ 10 ∷ []) 0 (q * f .p) (c - 0)
+      (λ i l.
+      let none-before : 0 + i ≡ i = omega arith in
+      let bucket : (q * f .p + i) / f .p ≡ q = digits-div q {m = f .p} {r = i} (omega arith) in
+      let line : (q * f .p + i) % f .p ≡ i = digits-mod q {m = f .p} {r = i} (omega arith) in
+      let place : 240 * x + 29 + 26 * i ≡ 240 * x + (29 + 26 * i) = omega arith in
+      rw (none-before, bucket, line, place)))
 
   -- if each bucket is that of the lines read off the image, the columns of a line are its print
   module _ (whole : Matches (planIn f InImage bytes) bytes 0 (f .size)) where
@@ -120,7 +165,7 @@ module _ (f : Figures) (bytes : List ℕ) (w : Holding f bytes) where
         ∙ (ap spelled columns ∙ spelled-alone (getD (linesOf t q) m z) fit)))
 
     -- and the text is the list of those lines
-    pub text-list : listText f bytes (f .lines) ≡ joined printLine (linesHeld f InImage bytes)
+    pub text-list : listText f bytes 0 (f .lines) ≡ joined printLine (linesHeld f InImage bytes)
     unfolding listText linesHeld printLine
     text-list =
         let h : ℕ → Line = λ i. spelled (drop (lineAt (planOf f []) InImage i) bytes) in
@@ -130,25 +175,24 @@ module _ (f : Figures) (bytes : List ℕ) (w : Holding f bytes) where
 
   -- ---- from one data bucket to the next
 
+  -- where data bucket q has a next one: its last tag and the next one's first
   pub record Seam (q : ℕ) : Type 0 where
-    pub low : 1 ≤ q * f .p
-    pub inside : q * f .p < f .lines
-    pub before : lastTag (planIn f InImage bytes) (q - 1) ≡ tagAt f InImage bytes (q * f .p - 1)
-    pub behind : firstTag (planIn f InImage bytes) q ≡ tagAt f InImage bytes (q * f .p)
+    pub last-is : lastTag (planIn f InImage bytes) q ≡ tagAt f InImage bytes ((q + 1) * f .p - 1)
+    pub first-is : firstTag (planIn f InImage bytes) (q + 1) ≡ tagAt f InImage bytes ((q + 1) * f .p)
+    pub stands-at :
+        tagAt f InImage bytes ((q + 1) * f .p)
+        ≡ value 0 (ListN.take 10 (drop (240 * firstPlace (planOf f []) (f .k + 1) (q + 1) + 29) bytes))
 
-  pub seam : (q : ℕ) → 1 ≤ q → q < f .d → Seam q
-  seam zero low high = absurd (omega arith)
-  seam (suc q) low high =
-      let shaped = w .ready .shaped in
-      let p-low = shaped .p-low in
-      let on : suc q * f .p ≡ q * f .p + f .p = suc-mul q (f .p) in
-      let there : suc q * f .p < f .lines = up-lt (f .lines) (f .p) (suc q) (shaped .p-low) (omega (arith, shaped .d-is)) in
-      let back : suc q - 1 ≡ q = omega arith in
-      let next : (q + 1) * f .p ≡ suc q * f .p = ap (λ c. c * f .p) (add-one q) in
-      let least : min (f .lines) ((q + 1) * f .p) - 1 ≡ suc q * f .p - 1 = omega arith in
+  pub seam : (q : ℕ) → q + 1 < f .d → Seam q
+  unfolding tagAt planOf
+  seam q high =
+      let ready = w .ready in
+      let next : q + 1 ≡ suc q = add-one q in
+      let p-low = ready .shaped .p-low in
+      let bucket : (q + 1) * f .p / f .p ≡ q + 1 = mul-div-cancel (q + 1) {n = f .p} p-low in
+      let column : (q + 1) * f .p % f .p ≡ 0 = mul-mod-left (q + 1) (f .p) in
       record {
-        low = omega arith;
-        inside = there;
-        before = ap (lastTag (planIn f InImage bytes)) back ∙ (last-tag f InImage bytes q p-low (omega arith) ∙ ap (tagAt f InImage bytes) least);
-        behind = first-tag f InImage bytes (suc q) p-low there;
+        last-is = rw next (last-full f ready InImage bytes q (omega arith));
+        first-is = first-tag f InImage bytes (q + 1) p-low (full-lines f (ready .shaped) (q + 1) high);
+        stands-at = rw (bucket, column);
       }

@@ -39,6 +39,7 @@ pub mod Levels
 pub mod LineCount
 pub mod LinesHeld
 pub mod LinesSent
+pub mod ListWritten
 pub mod Matching
 pub mod NextOccurrence
 pub mod Occurrences
@@ -63,6 +64,7 @@ pub mod Refusals
 pub mod Restorable
 pub mod Restoring
 pub mod Rising
+pub mod SegmentData
 pub mod SegmentParts
 pub mod SegmentSizes
 pub mod Segmented

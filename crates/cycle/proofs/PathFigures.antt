@@ -1,4 +1,4 @@
--- Layout 1, under the figures of a cycle: the buckets above one of B's level, by the table of powers.
+-- Layout 1, under the figures of a cycle: the buckets above one of B's level, by the powers of n.
 -- Assumes nothing.
 use mathlib.Core.Path.{_≡_, sym, ap, subst, _∙_}
 use mathlib.Core.Logic.{⊎-elim}
@@ -6,7 +6,7 @@ use Prim.Native.Nat.{ℕ, suc, _+_, _-_, _*_, _/_, _^_, _≤_, _<_}
 use native.Mathlib.Nat.{zero-mul, pow-succ', mul-assoc, mul-le-mul-right, div-mul-le-self, one-le-pow, eq-zero-or-pos}
 use native.Mathlib.Omega.{arith}
 use mathlib.Core.List.{List, []}
-use lib.ListN.{length, getD}
+use lib.ListN.{length}
 use lib.Pow.{pow-add}
 use borrow.Author.Tests.{eq-eqb}
 use Rattle.columns.specs.Lists.{up, joined, span}
@@ -48,15 +48,12 @@ module _ (f : Figures) (ready : Ready f) (one : f .layout ≡ 1) where
       (h .0, omega (arith, h .1, l .low), l .high)
 
   module _ (level : ℕ) (low : 1 ≤ level) (high : level ≤ f .copies + 1) where
-    pub power : getD (f .powers) (f .copies + 1 - level) 0 ≡ f .n ^ (f .copies + 1 - level)
-    power = ready .shaped .powers-are (f .copies + 1 - level) (omega (arith, few-copies .0))
+    pub power-some : (x : ℕ) → x ≡ f .n ^ (f .copies + 1 - level) → 0 < x
+    power-some x e = rw e (one-le-pow (f .copies + 1 - level) (f .n) pos)
 
-    pub power-some : 0 < getD (f .powers) (f .copies + 1 - level) 0
-    power-some = rw power (one-le-pow (f .copies + 1 - level) (f .n) pos)
-
-    pub place-over : (ls : List Line) (b : ℕ) → b / getD (f .powers) (f .copies + 1 - level) 0 ≡ placeOver (planOf f ls) b level
+    pub place-over : (ls : List Line) (b x : ℕ) → x ≡ f .n ^ (f .copies + 1 - level) → b / x ≡ placeOver (planOf f ls) b level
     unfolding placeOver planOf
-    place-over ls b = ap (λ z. b / z) power ∙ sym (above-div (f .n) (f .copies + 1 - level) b)
+    place-over ls b x e = ap (λ z. b / z) e ∙ sym (above-div (f .n) (f .copies + 1 - level) b)
 
     pub over-inside : (ls : List Line) (b : ℕ) → InTree f (f .k - f .copies) b → InTree f (f .k + 1 - level) (placeOver (planOf f ls) b level)
     unfolding InTree placeOver planOf

@@ -7,7 +7,7 @@ use native.Mathlib.Omega.{arith}
 use mathlib.Core.Option.{Option, none}
 use mathlib.Core.List.{List, [], _∷_, _++_, map, append-assoc}
 use lib.ListN.{length, take, drop, getD, length-append}
-use lib.Seq.{take-at, drop-at, split-at, length-take-le}
+use lib.Seq.{take-at, drop-at, split-at, length-take-le, getD-append-seam}
 use Rattle.buckets.specs.Bucket.{indexBody, dataBody}
 use Rattle.buckets.specs.Held.{headOf}
 use Rattle.cycle.specs.Tree.{Plan, lastTag, linesOf}
@@ -103,6 +103,10 @@ module _ {t : Plan} {x i j : ℕ} {xs : List Slot} (a : At t x i j xs) where
       let l : length front ≡ length (a .before) + 1 = length-append (a .before) (a .it ∷ []) in
       ap (drop (suc x)) e ∙ drop-at front (a .next ++ a .behind) (suc x) (omega (arith, a .here))
 
+  pub at-slot : (z : Slot) → getD (slots t) x z ≡ a .it
+  at-slot z =
+      ap₂ (λ ys p. getD ys p z) (a .splits) (sym (a .here)) ∙ getD-append-seam (a .before) (a .it) (a .next ++ a .behind) z
+
   pub at-last : lastSentBefore t x ≡ lastSentIn t none (a .before)
   unfolding lastSentBefore
   at-last = ap (lastSentIn t none) at-before
@@ -149,3 +153,10 @@ module _ {t : Plan} {x i j : ℕ} {xs : List Slot} (a : At t x i j xs) where
       { position = x; «to_cycle» = length (slots t) - x; «to_segment» = toNextSegment (drop (suc x) (slots t) ++ slots t) }
   unfolding headOf bucketOf
   head-at = rw (bucket-at, at-rest)
+
+-- one bucket stands there
+pub at-same :
+    {t : Plan} {x i j l m : ℕ} {xs ys : List Slot} → At t x i j xs → At t x l m ys → (i ≡ l) × (j ≡ m)
+at-same a b =
+    let same : a .it ≡ b .it = sym (at-slot a (slot 0 0)) ∙ at-slot b (slot 0 0) in
+    (sym (a .level-is) ∙ (ap (λ y. y .level) same ∙ b .level-is), sym (a .place-is) ∙ (ap (λ y. y .place) same ∙ b .place-is))

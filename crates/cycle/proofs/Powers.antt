@@ -51,9 +51,9 @@ pub power-reaches : (n h : ℕ) → 2 ≤ n → 16 ≤ h → 65536 ≤ n ^ h
 power-reaches n h low g =
     le-trans (pow-le-pow-left {n = 2} {m = n} low 16) (pow-le-pow-right {n = n} (omega arith) {i = 16} {j = h} g)
 
--- n^h for a height h within the tables
-pub power-table : (n h : ℕ) → n ≤ 8 → h ≤ 16 → n ^ h ≤ 2 ^ 48
-power-table n h low g =
+-- n^h for a height h up to 16
+pub power-high : (n h : ℕ) → n ≤ 8 → h ≤ 16 → n ^ h ≤ 2 ^ 48
+power-high n h low g =
     le-trans (pow-le-pow-left {n = n} {m = 8} low h) (pow-le-pow-right {n = 8} (lit< tt) {i = h} {j = 16} g)
 
 -- the number of levels: enough of them, and not more than are needed

@@ -1,27 +1,29 @@
 -- Figures within their ranges, and of a cycle that can be sent: what follows of the plan that they stand for.
 -- Assumes nothing.
-use mathlib.Core.Path.{_≡_, refl, sym, _∙_}
+use mathlib.Core.Path.{_≡_, refl, sym, ap, _∙_}
 use mathlib.Core.Logic.{⊎-elim}
 use mathlib.Core.Bool.{Bool, true, false, _&&_, false≢true}
 use mathlib.Core.List.{List, []}
-use Prim.Native.Nat.{ℕ, _+_, _-_, _*_, _^_, _≤_, _<_, min, max}
-use native.Mathlib.Nat.{zero-mul, mul-le-mul, mul-le-mul-left, suc-mul, one-le-pow}
+use Prim.Native.Nat.{ℕ, suc, _+_, _-_, _*_, _^_, _≤_, _<_, min, max}
+use native.Mathlib.Nat.{mul-le-mul, mul-le-mul-left, suc-mul, one-le-pow, eq-zero-or-pos}
 use native.Mathlib.Numerals.{add-one}
+use native.Mathlib.Decide.{ℕ-discrete}
 use native.Mathlib.Omega.{arith}
 use lib.Dec.{leb, ltb}
-use lib.ListN.{length, getD}
+use lib.ListN.{length}
 use borrow.Author.Tests.{leb-true, le-leb, lt-leb, lt-ltb, le-ltb, eq-eqb, ne-eqb}
 use Rattle.columns.specs.Lists.{up}
 use Rattle.buckets.specs.declared.Line.{Line}
 use Rattle.cycle.specs.Tree.{Plan, levels}
 use Rattle.cycle.specs.Building.{copiesFit}
 use Rattle.cycle.specs.declared.Figures.{Figures}
-use Rattle.cycle.specs.Held.{planOf, fullSize, Shaped, InTree, treeAt}
+use Rattle.cycle.specs.Held.{planOf, fullSize, Shaped, InTree, treeAt, treeHeight, lastPlace, lastTree, sized, Trees}
 use Rattle.cycle.proofs.Ranges.{le-or-lt}
 use Rattle.cycle.proofs.TreeLaws.{up-least}
 use Rattle.cycle.proofs.Powers.{Levels, least-found, levels-fit, power-below}
 use Rattle.cycle.proofs.Fulls.{full-below}
 use Rattle.cycle.proofs.TreeSizes.{tree-small}
+use Rattle.cycle.proofs.PathSizes.{up-is, up-none, last-part}
 use Rattle.cycle.proofs.Sequence.{Sound}
 
 -- ---- tests on numbers
@@ -86,19 +88,74 @@ sound f ls s fit =
       parts-fit = λ other. parts-facts (planOf f []) fit other .1;
     }
 
+-- ---- figures with their size
+
+pub sized-shaped : (f : Figures) (c : ℕ) → Shaped f → Shaped (sized f c)
+unfolding sized
+sized-shaped f c h =
+    record {
+      n-low = h .n-low;
+      n-high = h .n-high;
+      p-low = h .p-low;
+      p-high = h .p-high;
+      layout-low = h .layout-low;
+      layout-high = h .layout-high;
+      lines-high = h .lines-high;
+      d-is = h .d-is;
+      k-is = h .k-is;
+    }
+
+pub sized-trees : (f : Figures) (c : ℕ) → Trees (sized f c)
+unfolding sized planOf
+sized-trees f c = record { span-is = refl; full-is = refl; last-is = refl }
+
+-- ---- the height of a segment's tree
+
+pub tree-height : (f : Figures) → Shaped f → copiesFit (planOf f []) ≡ true → (1 ≤ treeHeight (planOf f [])) × (treeHeight (planOf f []) ≤ f .k)
+unfolding planOf
+tree-height f s fit =
+    let l = levels-are f s in
+    elim (ℕ-discrete (f .layout) 1) [
+      | yes one ↦ rw (eq-eqb (f .layout) 1 one) (let c = path-facts (planOf f []) fit one in (omega (arith, l .low, c .1), omega arith))
+      | no other ↦ rw (ne-eqb (f .layout) 1 other) (l .low, omega arith)
+    ]
+
+-- ---- the last tree
+
+-- the tree that holds the data buckets' end is the last
+pub last-place : (d m b : ℕ) → 1 ≤ m → b * m < max 1 d → d ≤ suc b * m → lastPlace d m ≡ b
+unfolding lastPlace
+last-place d m b some starts ends =
+    ⊎-elim
+    (λ (z : d ≡ 0).
+    let low : b * 1 ≤ b * m = mul-le-mul-left b some in
+    let none : up d m ≡ 0 = rw z (up-none m some) in
+    omega arith)
+    (λ (l : 0 < d). let e = up-is d m b some (omega arith) ends in omega arith)
+    (eq-zero-or-pos d)
+
+pub last-starts : (d m : ℕ) → 1 ≤ m → lastPlace d m * m < max 1 d
+unfolding lastPlace
+last-starts d m some =
+    ⊎-elim
+    (λ (z : d ≡ 0). let none : up d m ≡ 0 = rw z (up-none m some) in rw none (omega arith))
+    (λ (l : 0 < d).
+    let p = last-part d m l some in
+    let e : max 1 (up d m) - 1 ≡ up d m - 1 = omega (arith, p .some) in
+    rw e (omega (arith, p .starts)))
+    (eq-zero-or-pos d)
+
 -- ---- places in the tree
 
--- bucket j of height e, and the tables' entries up to it
+-- bucket j of height e, and the powers of n up to it
 pub record Reached (f : Figures) (e j : ℕ) : Type 0 where
   pub height : e ≤ 16
   pub few : f .d ≤ 40000
   pub place : j ≤ 40000
   pub start : j * f .n ^ e ≤ 40000
   pub end : (j + 1) * f .n ^ e ≤ 360000
-  pub power : (h : ℕ) → h ≤ e → getD (f .powers) h 0 ≡ f .n ^ h
   pub some : (h : ℕ) → h ≤ e → 1 ≤ f .n ^ h
   pub small : (h : ℕ) → h ≤ e → f .n ^ h ≤ 320000
-  pub full : (h : ℕ) → h ≤ e → getD (f .fulls) h 0 ≡ fullSize (f .n) h
   pub full-small : (h : ℕ) → h ≤ e → fullSize (f .n) h ≤ 320000
 
 pub reached : (f : Figures) (e j : ℕ) → Shaped f → InTree f e j → Reached f e j
@@ -116,10 +173,8 @@ reached f e j s inside =
           omega (arith, inside .1));
       start = omega (arith, inside .1);
       end = rw (add-one j, suc-mul) (omega (arith, inside .1, small e (omega arith)));
-      power = λ h u. s .powers-are h (omega (arith, l .high, inside .0));
       some = λ h u. one-le-pow h (f .n) (omega (arith, s .n-low));
       small = small;
-      full = λ h u. s .fulls-are h (omega (arith, l .high, inside .0));
       full-small = λ h u. let b = full-below (f .n) h (s .n-low) in omega (arith, small h u);
     }
 
@@ -137,10 +192,8 @@ pub record Block (f : Figures) : Type 0 where
   pub fits : f .copies + 1 ≤ f .k
   pub high : f .k ≤ 16
   pub some : f .d ≤ 40000
-  pub power : getD (f .powers) (f .k - f .copies) 0 ≡ f .n ^ (f .k - f .copies)
   pub power-low : 1 ≤ f .n ^ (f .k - f .copies)
   pub power-high : f .n ^ (f .k - f .copies) ≤ 320000
-  pub full : getD (f .fulls) (f .k - f .copies) 0 ≡ fullSize (f .n) (f .k - f .copies)
   pub full-high : fullSize (f .n) (f .k - f .copies) ≤ 320000
 
 pub block : (f : Figures) → Shaped f → f .layout ≡ 1 → copiesFit (planOf f []) ≡ true → Block f
@@ -157,18 +210,33 @@ block f s one fit =
       fits = omega (arith, l .low, c .1);
       high = l .high;
       some = data-high f s;
-      power = s .powers-are e (omega (arith, l .high));
       power-low = one-le-pow e (f .n) (omega (arith, s .n-low));
       power-high = omega (arith, l .small);
-      full = s .fulls-are e (omega (arith, l .high));
       full-high = omega (arith, l .small);
     }
 
--- ---- layout 2's parts
+-- the figures of its tree
+pub record BlockTrees (f : Figures) : Type 0 where
+  pub span : f .span ≡ f .n ^ (f .k - f .copies)
+  pub full : f .full ≡ fullSize (f .n) (f .k - f .copies)
+  pub last : (b : ℕ) → b * f .n ^ (f .k - f .copies) < max 1 (f .d) → f .d ≤ suc b * f .n ^ (f .k - f .copies) → f .last ≡ length (treeAt (planOf f []) (f .k - f .copies) b)
 
-pub root-in : (f : Figures) → InTree f (f .k) 0
-unfolding InTree
-root-in f = (omega arith, rw (zero-mul (f .n ^ f .k)) (omega arith))
+pub block-trees : (f : Figures) → Shaped f → Trees f → f .layout ≡ 1 → BlockTrees f
+unfolding planOf lastTree
+block-trees f s t one =
+    let height : treeHeight (planOf f []) ≡ f .k - f .copies = rw (eq-eqb (f .layout) 1 one) in
+    let m : ℕ = f .n ^ (f .k - f .copies) in
+    record {
+      span = t .span-is ∙ ap (λ h. f .n ^ h) height;
+      full = t .full-is ∙ ap (λ h. fullSize (f .n) h) height;
+      last = λ b starts ends.
+          t .last-is
+          ∙ ap (λ h. length (treeAt (planOf f []) h (lastPlace (f .d) (f .n ^ h)))) height
+          ∙ ap (λ j. length (treeAt (planOf f []) (f .k - f .copies) j))
+          (last-place (f .d) m b (one-le-pow (f .k - f .copies) (f .n) (omega (arith, s .n-low))) starts ends);
+    }
+
+-- ---- layout 2's parts
 
 -- what figures of layout 2 say
 pub record Parts (f : Figures) : Type 0 where
@@ -196,3 +264,15 @@ parts f s other fit =
       some = few;
       tree = omega (arith, l .small);
     }
+
+-- the whole tree is the last
+pub whole-last : (f : Figures) → Shaped f → Trees f → (f .layout ≡ 1 → ⊥) → f .last ≡ length (treeAt (planOf f []) (f .k) 0)
+unfolding planOf lastTree
+whole-last f s t other =
+    let height : treeHeight (planOf f []) ≡ f .k = rw (ne-eqb (f .layout) 1 other) in
+    let l = levels-are f s in
+    let m : ℕ = f .n ^ f .k in
+    t .last-is
+    ∙ ap (λ h. length (treeAt (planOf f []) h (lastPlace (f .d) (f .n ^ h)))) height
+    ∙ ap (λ j. length (treeAt (planOf f []) (f .k) j))
+    (last-place (f .d) m 0 (one-le-pow (f .k) (f .n) (omega (arith, s .n-low))) (omega arith) (omega (arith, l .holds)))

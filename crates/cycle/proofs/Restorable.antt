@@ -1,4 +1,4 @@
--- An image whose buckets are those of the lines read off it, with no tag falling, is built by the list of those lines.
+-- An image that matches the cycle of the lines read off it is built by the list of those lines.
 -- Assumes nothing.
 use mathlib.Core.Path.{_≡_, refl, sym, ap, _∙_, subst}
 use Prim.Native.Nat.{ℕ, zero, suc, _+_, _*_, _/_, _%_, _≤_, _<_}
@@ -28,7 +28,7 @@ use Rattle.cycle.specs.declared.Built.the-variants.{Cycle}
 use Rattle.cycle.specs.declared.Figures.{Figures}
 use Rattle.cycle.specs.declared.Source.the-variants.{Image as InImage}
 use Rattle.cycle.specs.Held.{planOf, Ready, firstPlace, linesHeld, planIn, cycleBucket, noBucket}
-use Rattle.cycle.specs.Comparing.{bucketBytes, Matches, NoFall}
+use Rattle.cycle.specs.Comparing.{bucketBytes, RisesAt, Matches}
 use Rattle.cycle.proofs.TreeLaws.{up-covers, up-lt}
 use Rattle.cycle.proofs.Sequence.{Sound}
 use Rattle.cycle.proofs.Rising.{Rising, lastFrom, rising-tags, tags-rising}
@@ -74,6 +74,12 @@ module _ (t : Plan) (sound : Sound t) (image-is : List ℕ) (whole : Matches t i
       rw (data-at there refl) at (bucket-good b (bytes-are x (at-below there) .1) .good-rest) in
       (told .lines-fit, rising-tags 0 (linesOf t q) (told .in-order))
 
+  -- no tag falls from it to the next
+  pub in-order : (q : ℕ) → RisesAt t q
+  in-order q h =
+      let there = data-placed t (keeps t sound) q (omega arith) in
+      whole .each (firstPlace t (t .k + 1) q) (omega arith) (at-below there) .rises q refl h
+
   -- the image is that of the plan
   pub image-same : length image-is ≡ 240 * cycleSize t → image t ≡ image-is
   unfolding image bucketBytes cycleBucket
@@ -95,7 +101,7 @@ module _ (t : Plan) (sound : Sound t) (image-is : List ℕ) (whole : Matches t i
       joined-map [] = refl
       joined-map (b ∷ bs) = ap (λ s. printBucket b ++ s) (joined-map bs)
 
-  module _ (full : length (t .lines) ≤ t .d * t .p) (low : (q : ℕ) → q < t .d → q * t .p < length (t .lines)) (order : NoFall t) where
+  module _ (full : length (t .lines) ≤ t .d * t .p) (low : (q : ℕ) → q < t .d → q * t .p < length (t .lines)) where
     pub lines-good : every fits (t .lines) ≡ true
     lines-good =
         ap (every fits) (sym (lines-joined t full)) ∙ every-joined fits (linesOf t) 0 (t .d) (λ q l h. data-good q (omega arith) .0)
@@ -107,7 +113,6 @@ module _ (t : Plan) (sound : Sound t) (image-is : List ℕ) (whole : Matches t i
     -- from a first tag of at least m on
     pub rises-from :
         (m a c : ℕ) → a + c ≡ t .d → (0 < c → m ≤ firstTag t a) → Rising m (joined (linesOf t) (span a c))
-    unfolding NoFall
     rises-from m a zero e h = tt
     rises-from m a (suc c) e h =
         let g : Filled t a = has-line a (omega arith) in
@@ -118,7 +123,7 @@ module _ (t : Plan) (sound : Sound t) (image-is : List ℕ) (whole : Matches t i
         let one : a + 1 ≡ suc a = omega arith in
         rising-append m (linesOf t a) (joined (linesOf t) (span (suc a) c)) own
         (rw last-same
-        (rises-from (lastTag t a) (suc a) c (omega arith) (λ some-left. rw one at (order a (omega arith)))))
+        (rises-from (lastTag t a) (suc a) c (omega arith) (λ some-left. rw one at (in-order a (omega arith)))))
 
     pub lines-rise : Rising 0 (t .lines)
     lines-rise = subst (Rising 0) (lines-joined t full) (rises-from 0 0 (t .d) (omega arith) (λ h. omega arith))
@@ -126,7 +131,7 @@ module _ (t : Plan) (sound : Sound t) (image-is : List ℕ) (whole : Matches t i
 -- ---- the list that builds the image
 
 module _ (s : Settings) (f : Figures) (bytes : List ℕ) (fit : settingsFit s ≡ true) (g : Figured s f) (ready : Ready f)
-    (long : length bytes ≡ 240 * f .size) (whole : Matches (planIn f InImage bytes) bytes 0 (f .size)) (order : NoFall (planIn f InImage bytes)) where
+    (long : length bytes ≡ 240 * f .size) (whole : Matches (planIn f InImage bytes) bytes 0 (f .size)) where
   pub restored-builds : Builds s (joined printLine (linesHeld f InImage bytes)) bytes
   unfolding planIn planOf wholeLines
   restored-builds =
@@ -143,8 +148,8 @@ module _ (s : Settings) (f : Figures) (bytes : List ℕ) (fit : settingsFit s �
       let covers : length ls ≤ up (length ls) (f .p) * f .p = up-covers (length ls) (f .p) (shaped .p-low) in
       let full : length ls ≤ f .d * f .p = subst (λ d. length ls ≤ d * f .p) (sym d-is) covers in
       let low : (q : ℕ) → q < f .d → q * f .p < length ls = λ q h. up-lt (length ls) (f .p) q (shaped .p-low) (omega (arith, d-is)) in
-      let good-lines : every fits ls ≡ true = lines-good t fine bytes same full low order in
-      let rises : Rising 0 ls = lines-rise t fine bytes same full low order in
+      let good-lines : every fits ls ≡ true = lines-good t fine bytes same full low in
+      let rises : Rising 0 ls = lines-rise t fine bytes same full low in
       let lines-back : listLines list ≡ ls = lines-of-printed ls good-lines in
       let size-bytes : length list ≡ length ls * 27 = length-printed ls in
       let lines-count : length list / 27 ≡ length ls = rw size-bytes (mul-div-cancel (length ls) {n = 27} (lit< tt)) in

@@ -21,8 +21,9 @@ use Rattle.cycle.specs.declared.Restored.{Restored}
 use Rattle.cycle.specs.declared.Restored.the-variants.{Lines, Refused}
 use Rattle.cycle.specs.declared.Figures.{Figures}
 use Rattle.cycle.specs.declared.Source.the-variants.{Image as InImage}
-use Rattle.cycle.specs.Held.{planOf, Shaped, sized, linesHeld, planIn}
-use Rattle.cycle.specs.Comparing.{Matches, NoFall, counted, listText, Holding}
+use Rattle.cycle.specs.Held.{planOf, Shaped, sized, Trees, linesHeld, planIn}
+use Rattle.cycle.specs.Comparing.{Matches, counted, listText, Holding}
+use Rattle.cycle.proofs.Readiness.{sized-shaped, sized-trees}
 use Rattle.cycle.proofs.Sending.{size-shape}
 use Rattle.cycle.proofs.Matching.{matches-to}
 use Rattle.cycle.proofs.ImageLines.{length-held}
@@ -85,18 +86,15 @@ module _ (s : Settings) (f : Figures) (bytes : List ℕ) (g : Figured s f) (coun
   cycle-refused size h list b =
       h (matches-to (size-shape f (listLines list) [] ∙ sym size) (found list b .matches))
 
-  pub fall-refused : (NoFall (planIn f InImage bytes) → ⊥) → (list : List ℕ) → Builds s list bytes → ⊥
-  fall-refused h list b = h (found list b .rises)
-
 pub many-refused : (s : Settings) (bytes : List ℕ) → 40000 < counted (s .p) bytes → (list : List ℕ) → Builds s list bytes → ⊥
 many-refused s bytes h list b = omega (arith, built-lines s bytes list b, few-lines s bytes list b)
 
 -- ---- condition 7, and the list
 
 module _ (s : Settings) (f : Figures) (bytes : List ℕ) (fit : settingsFit s ≡ true) (whole : wholeBuckets (length bytes) ≡ true)
-    (g : Figured s f) (w : Holding f bytes) (same : Matches (planIn f InImage bytes) bytes 0 (f .size)) (order : NoFall (planIn f InImage bytes)) where
+    (g : Figured s f) (w : Holding f bytes) (same : Matches (planIn f InImage bytes) bytes 0 (f .size)) where
   pub built : Builds s (joined printLine (linesHeld f InImage bytes)) bytes
-  built = restored-builds s f bytes fit g (w .ready) (w .long) same order
+  built = restored-builds s f bytes fit g (w .ready) (w .long) same
 
   pub length-list : length (joined printLine (linesHeld f InImage bytes)) ≡ 27 * f .lines
   length-list =
@@ -107,7 +105,7 @@ module _ (s : Settings) (f : Figures) (bytes : List ℕ) (fit : settingsFit s �
   room-refused room h = noRoom fit whole (joined printLine (linesHeld f InImage bytes)) built (omega (arith, length-list))
 
   pub list-written :
-      (d out : List ℕ) → 27 * f .lines ≤ length d → out ≡ put d 0 (listText f bytes (f .lines)) → ReadsBack s bytes d out (Lines (f .lines))
+      (d out : List ℕ) → 27 * f .lines ≤ length d → out ≡ put d 0 (listText f bytes 0 (f .lines)) → ReadsBack s bytes d out (Lines (f .lines))
   unfolding put onto
   list-written d out h e =
       let list : List ℕ = joined printLine (linesHeld f InImage bytes) in
@@ -122,26 +120,10 @@ module _ (s : Settings) (f : Figures) (bytes : List ℕ) (fit : settingsFit s �
 
 -- ---- figures with their size
 
-pub sized-shaped : (f : Figures) (c : ℕ) → Shaped f → Shaped (sized f c)
-unfolding sized
-sized-shaped f c h =
-    record {
-      n-low = h .n-low;
-      n-high = h .n-high;
-      p-low = h .p-low;
-      p-high = h .p-high;
-      layout-low = h .layout-low;
-      layout-high = h .layout-high;
-      lines-high = h .lines-high;
-      d-is = h .d-is;
-      k-is = h .k-is;
-      powers-are = h .powers-are;
-      fulls-are = h .fulls-are;
-    }
-
 -- what is known of figures with their size
 pub record Sized (f g : Figures) : Type 0 where
   pub figured : Figured (settings (f .n) (f .p) (f .layout) (f .copies)) g
+  pub trees : Trees g
   pub size-is : g .size ≡ cycleSize (planOf g [])
   pub same-size : g .size ≡ cycleSize (planOf f [])
   pub copies-same : copiesFit (planOf g []) ≡ copiesFit (planOf f [])
@@ -160,6 +142,7 @@ sized-facts f h =
             layout-is = refl;
             copies-is = refl;
           };
+      trees = sized-trees f (cycleSize (planOf f []));
       size-is = refl;
       same-size = refl;
       copies-same = refl;
@@ -179,6 +162,7 @@ holding f g bytes h z copies size torn short =
       ready =
           record {
             shaped = z .figured .shaped;
+            trees = z .trees;
             copies-fit = z .copies-same ∙ copies;
             size-is = z .size-is;
             size-high = omega (arith, size);

@@ -9,7 +9,7 @@ use mathlib.Core.List.{List, [], _∷_, _++_}
 use lib.Dec.{eqb, ltb}
 use lib.ListN.{length, take, drop, getD, replicate}
 use Rattle.columns.specs.Lists.{pick, parts, joined, range}
-use Rattle.buckets.specs.Bucket.{readBucket}
+use Rattle.buckets.specs.Bucket.{readBucket, followOn}
 use Rattle.buckets.specs.declared.Line.{Line}
 use Rattle.buckets.specs.declared.Head.{Head}
 use Rattle.buckets.specs.declared.Index.{Index}
@@ -19,7 +19,7 @@ use Rattle.cycle.specs.Tree.{Plan, firstTag, lastTag}
 use Rattle.cycle.specs.declared.Figures.{Figures}
 use Rattle.cycle.specs.declared.Segment.{Segment}
 use Rattle.cycle.specs.declared.Source.the-variants.{Image as InImage}
-use Rattle.cycle.specs.Held.{planOf, Ready, Placed, lineAt, cycleBucket}
+use Rattle.cycle.specs.Held.{planOf, Ready, Placed, firstPlace, lineAt, cycleBucket}
 
 -- the test's answer decides whether P holds
 pub record Decides (P : Type 0) (answer : Bool) : Type 0 where
@@ -58,26 +58,36 @@ counted p image = countedFrom p 0 48 (parts (length image / 240) 240 image)
 unfoldable pub bucketBytes : List ℕ → ℕ → List ℕ
 bucketBytes image x = take 240 (drop (240 * x) image)
 
--- bucket x of the image is bucket x of the cycle
+-- no tag falls from data bucket q to the next
+abbrev pub RisesAt : Plan → ℕ → Type 0
+RisesAt t q = q + 1 < t .d → lastTag t q ≤ firstTag t (q + 1)
+
+-- bucket x of the image is bucket x of the cycle, and no tag falls from a data bucket there to the next
 pub record MatchesAt (t : Plan) (image : List ℕ) (x : ℕ) : Type 0 where
   pub reads : readBucket (bucketBytes image x) ≡ some (cycleBucket t x)
+  pub rises : (q : ℕ) → firstPlace t (t .k + 1) q ≡ x → RisesAt t q
 
 -- the same of those from x up to but without y
 pub record Matches (t : Plan) (image : List ℕ) (x y : ℕ) : Type 0 where
   pub each : (z : ℕ) → x ≤ z → z < y → MatchesAt t image z
 
--- no tag falls from one data bucket to the next
-unfoldable pub NoFall : Plan → Type 0
-NoFall t = (q : ℕ) → q + 1 < t .d → lastTag t q ≤ firstTag t (q + 1)
+-- data bucket q, which stands at x, has this follow-on, and no tag falls from it to the next
+pub record Followed (t : Plan) (q x follow : ℕ) : Type 0 where
+  pub follow-is : follow ≡ followOn (cycleBucket t x .body)
+  pub in-order : RisesAt t q
 
 -- what a strict reading finds in the index bucket with this head and index
 unfoldable pub indexReading : Head → Index → Reading
 indexReading h i =
     record { kind = KindIndex; head = h; «follow_on» = 0; index = i; lines = 0; tags = replicate 8 0 }
 
--- the first c lines of the image as list lines
-unfoldable pub listText : Figures → List ℕ → ℕ → List ℕ
-listText f image c = joined (λ i. take 26 (drop (lineAt (planOf f []) InImage i) image) ++ 10 ∷ []) (range 0 c)
+-- lines that stand side by side, from a place of the image on, as list lines
+unfoldable pub linesText : List ℕ → ℕ → ℕ → List ℕ
+linesText image from c = joined (λ i. take 26 (drop (from + 26 * i) image) ++ 10 ∷ []) (range 0 c)
+
+-- the lines of the image from a up to but without b as list lines
+unfoldable pub listText : Figures → List ℕ → ℕ → ℕ → List ℕ
+listText f image a b = joined (λ i. take 26 (drop (lineAt (planOf f []) InImage i) image) ++ 10 ∷ []) (range a b)
 
 -- figures for which an image has the right length
 pub record Holding (f : Figures) (image : List ℕ) : Type 0 where

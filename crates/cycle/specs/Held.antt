@@ -49,8 +49,6 @@ pub record Shaped (f : Figures) : Type 0 where
   pub lines-high : f .lines ≤ 40000
   pub d-is : f .d ≡ up (f .lines) (f .p)
   pub k-is : f .k ≡ levels (f .n) (f .d)
-  pub powers-are : (h : ℕ) → h < 17 → getD (f .powers) h 0 ≡ f .n ^ h
-  pub fulls-are : (h : ℕ) → h < 17 → getD (f .fulls) h 0 ≡ fullSize (f .n) h
 
 -- bucket j of height e is one of the tree's
 unfoldable pub InTree : Figures → ℕ → ℕ → Type 0
@@ -60,7 +58,23 @@ InTree f e j = (e ≤ f .k) × (j * f .n ^ e < max 1 (f .d))
 unfoldable pub segmentCount : Plan → ℕ
 segmentCount t = pick (eqb (t .layout) 1) (max 1 (width t (t .copies + 1))) (t .copies)
 
--- figures with their N
+-- the subtree of bucket j of height e
+unfoldable pub treeAt : Plan → ℕ → ℕ → List Slot
+treeAt t e j = subtree t e (t .k + 1 - e) j
+
+-- the height of a segment's tree
+abbrev pub treeHeight : Plan → ℕ
+treeHeight t = pick (eqb (t .layout) 1) (t .k - t .copies) (t .k)
+
+-- the place of the last tree, `span` data buckets under each full one
+unfoldable pub lastPlace : ℕ → ℕ → ℕ
+lastPlace d span = max 1 (up d span) - 1
+
+-- the index buckets of the last segment's tree
+unfoldable pub lastTree : Plan → ℕ
+lastTree t = length (treeAt t (treeHeight t) (lastPlace (t .d) (t .n ^ treeHeight t)))
+
+-- figures with those of a segment's tree and with their N
 unfoldable pub sized : Figures → ℕ → Figures
 sized f size =
     record {
@@ -72,13 +86,21 @@ sized f size =
       d = f .d;
       k = f .k;
       size = size;
-      powers = f .powers;
-      fulls = f .fulls;
+      span = f .n ^ treeHeight (planOf f []);
+      full = fullSize (f .n) (treeHeight (planOf f []));
+      last = lastTree (planOf f []);
     }
+
+-- the figures of a segment's tree are set
+pub record Trees (f : Figures) : Type 0 where
+  pub span-is : f .span ≡ f .n ^ treeHeight (planOf f [])
+  pub full-is : f .full ≡ fullSize (f .n) (treeHeight (planOf f []))
+  pub last-is : f .last ≡ lastTree (planOf f [])
 
 -- figures of a cycle that can be sent
 pub record Ready (f : Figures) : Type 0 where
   pub shaped : Shaped f
+  pub trees : Trees f
   pub copies-fit : copiesFit (planOf f []) ≡ true
   pub size-is : f .size ≡ cycleSize (planOf f [])
   pub size-high : f .size ≤ 99999
@@ -114,10 +136,6 @@ pathOf t b = pick (eqb (t .layout) 1) (path t b) []
 unfoldable pub segmentSlots : Plan → ℕ → List Slot
 segmentSlots t b = pick (eqb (t .layout) 1) (distributedSegment t b) (wholeSegment t b)
 
--- the subtree of bucket j of height e
-unfoldable pub treeAt : Plan → ℕ → ℕ → List Slot
-treeAt t e j = subtree t e (t .k + 1 - e) j
-
 -- the tag of the last line sent before position x
 abbrev pub lastSentIn : Plan → Option ℕ → List Slot → Option ℕ
 lastSentIn t last [] = last
@@ -141,7 +159,7 @@ pub record Placed (t : Plan) (s : Segment) : Type 0 where
   pub root-is : t .layout ≡ 1 → s .root ≡ s .number
   pub low : 1 ≤ s .height
   pub high : s .height ≤ t .k
-  pub height-is : s .height ≡ pick (eqb (t .layout) 1) (t .k - t .copies) (t .k)
+  pub height-is : s .height ≡ treeHeight t
   pub tree-stands : Stand t (s .«tree_at») (treeAt t (s .height) (s .root))
   pub tree-length : s .«data_at» ≡ s .«tree_at» + length (treeAt t (s .height) (s .root))
   pub first-last : s .first ≤ s .last

@@ -7,6 +7,7 @@ use super::places::first_place;
 use super::places::largest_tag;
 use super::places::tag_of;
 use super::sizes::lesser;
+use super::sizes::power;
 use super::sizes::tree_size;
 use super::sizes::up;
 use buckets::Head;
@@ -84,7 +85,7 @@ pub fn child_count(f: Figures, e: usize, j: u64) -> usize
 {
     let below = e - 1;
     let from = j * f.n;
-    let to = lesser(from + f.n, up(f.d, f.powers[below]));
+    let to = lesser(from + f.n, up(f.d, power(f.n, below)));
     if to < from {
         return 0;
     }
@@ -214,7 +215,7 @@ fn pair_tags(text: &[u8], f: Figures, source: Source, b: u64, i: u64, first: u64
         let h = (f.copies + 1 - level) as usize;
         let e = (f.k + 1 - level) as usize;
         let at = (level - 1) as usize;
-        tags[at] = largest_tag(text, f, source, e, b / f.powers[h]);
+        tags[at] = largest_tag(text, f, source, e, b / power(f.n, h));
         level += 1;
     }
     tags
@@ -230,7 +231,7 @@ fn pair_distance(f: Figures, level: u64, place: u64, x: u64) -> u64
     if sibling % f.n == 0 {
         return f.size + first_place(f, level - 1, place / f.n) - x;
     }
-    if sibling < up(f.d, f.powers[e]) {
+    if sibling < up(f.d, power(f.n, e)) {
         return first_place(f, level, sibling) - 1 - x;
     }
     f.size + first_place(f, level - 1, place / f.n) - x
@@ -246,7 +247,7 @@ fn pair_distances(f: Figures, b: u64, i: u64, x: u64) -> [u64; 4]
     while level <= i {
         let h = (f.copies + 1 - level) as usize;
         let at = (level - 1) as usize;
-        distances[at] = pair_distance(f, level, b / f.powers[h], x);
+        distances[at] = pair_distance(f, level, b / power(f.n, h), x);
         level += 1;
     }
     distances
@@ -260,7 +261,7 @@ pub fn path_index(text: &[u8], f: Figures, source: Source, s: Segment, i: u64, x
     let b = s.number;
     let h = (f.copies + 1 - i) as usize;
     let e = (f.k + 1 - i) as usize;
-    let j = b / f.powers[h];
+    let j = b / power(f.n, h);
     let first = last_sent_tag(text, f, source, s.first);
     let count = child_count(f, e, j);
     Index {

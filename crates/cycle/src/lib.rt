@@ -31,10 +31,12 @@ pub struct Figures {
     pub k: u64,
     // N
     pub size: u64,
-    // powers[h] = n^h: the data buckets under a full bucket of height h
-    pub powers: [u64; 17],
-    // fulls[h]: the index buckets of a full subtree of height h
-    pub fulls: [u64; 17],
+    // the data buckets under a full tree of a segment
+    pub span: u64,
+    // the index buckets of a full tree of a segment
+    pub full: u64,
+    // the index buckets of the last segment's tree
+    pub last: u64,
 }
 
 // A segment of the cycle: its path, its tree and its data buckets, and where they stand.

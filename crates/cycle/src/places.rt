@@ -3,12 +3,13 @@ use super::Figures;
 use super::Source;
 use super::segments::distributed_start;
 use super::segments::path_top;
+use super::segments::segment_tree;
 use super::sizes::lesser;
 use super::sizes::paths_before;
-use super::sizes::tree_size;
+use super::sizes::power;
 ghost use mathlib.Core.Path.{_≡_};
 ghost use mathlib.Core.List.{[]};
-ghost use Prim.Native.Nat.{_+_, _-_, _*_, _^_, _≤_, _<_};
+ghost use Prim.Native.Nat.{_+_, _-_, _*_, _≤_, _<_};
 ghost use lib.ListN.{length, take, drop};
 ghost use Rattle.columns.specs.PrintedNumbers.{value};
 ghost use Rattle.cycle.specs.Tree.{largestTag};
@@ -20,7 +21,7 @@ pub fn first_place(f: Figures, level: u64, j: u64) -> u64
     ensures { λ r. ⌜ r ≡ firstPlace (planOf f []) level j ⌝ }
 {
     let h = (f.copies + 1 - level) as usize;
-    let b = j * f.powers[h];
+    let b = j * power(f.n, h);
     let start = distributed_start(f, b);
     start + (level - path_top(f, b))
 }
@@ -30,9 +31,8 @@ fn distributed_data_place(f: Figures, q: u64) -> u64
     requires { ⌜ Ready f × (f .layout ≡ 1) × (q < f .d) ⌝ }
     ensures { λ r. ⌜ r ≡ firstPlace (planOf f []) (f .k + 1) q ⌝ }
 {
-    let e = (f.k - f.copies) as usize;
-    let b = q / f.powers[e];
-    q + b * f.fulls[e] + tree_size(f, e, b) + paths_before(f, b + 1)
+    let b = q / f.span;
+    q + b * f.full + segment_tree(f, b) + paths_before(f, b + 1)
 }
 
 // The position of data bucket q in layout 2.
@@ -40,9 +40,8 @@ fn one_m_data_place(f: Figures, q: u64) -> u64
     requires { ⌜ Ready f × (f .layout ≡ 2) × (q < f .d) ⌝ }
     ensures { λ r. ⌜ r ≡ firstPlace (planOf f []) (f .k + 1) q ⌝ }
 {
-    let e = f.k as usize;
     let part = ((q + 1) * f.copies - 1) / f.d;
-    q + (part + 1) * tree_size(f, e, 0)
+    q + (part + 1) * f.last
 }
 
 // The position of data bucket q.
@@ -90,7 +89,7 @@ pub fn largest_tag(text: &[u8], f: Figures, source: Source, e: usize, j: u64) ->
     requires { ⌜ Ready f × (1 ≤ f .d) × InTree f e j × TextFits f source (length (now text)) ⌝ }
     ensures { λ r. ⌜ r ≡ largestTag (planIn f source (now (text .entry))) (f .k + 1 - e) j ⌝ }
 {
-    let behind = lesser(f.lines, (j + 1) * f.powers[e] * f.p);
+    let behind = lesser(f.lines, (j + 1) * power(f.n, e) * f.p);
     tag_of(text, f, source, behind - 1)
 }
 

@@ -5,12 +5,11 @@ use super::Segment;
 use super::Source;
 use super::build::settings_fit;
 use super::index::child_count;
-use super::index::follow_on_at;
 use super::index::head_at;
 use super::index::path_index;
 use super::index::tree_index;
-use super::places::line_place;
-use super::places::tag_of;
+use super::places::data_place;
+use super::places::spelled_tag;
 use super::segments::segment_count;
 use super::segments::segment_of;
 use super::sizes::copies_fit;
@@ -25,15 +24,15 @@ use buckets::reader::read_bucket;
 use columns::copy_columns;
 ghost use mathlib.Core.Path.{_≡_};
 ghost use mathlib.Core.List.{[], _∷_, _++_};
-ghost use Prim.Native.Nat.{_+_, _-_, _*_, _/_, _%_, _≤_, _<_};
+ghost use Prim.Native.Nat.{_+_, _-_, _*_, _/_, _%_, _≤_, _<_, min};
 ghost use lib.ListN.{length, take, drop};
 ghost use Rattle.columns.specs.Lists.{put};
 ghost use Rattle.buckets.specs.Bucket.{readBucket};
 ghost use Rattle.buckets.specs.Held.{asReading};
-ghost use Rattle.cycle.specs.Tree.{settings};
+ghost use Rattle.cycle.specs.Tree.{settings, lastTag};
 ghost use Rattle.cycle.specs.ReadingBack.{ReadsBack};
-ghost use Rattle.cycle.specs.Held.{planOf, Shaped, treeAt, planIn, TreePlace};
-ghost use Rattle.cycle.specs.Comparing.{Decides, SamePairs, SameEntries, counted, bucketBytes, MatchesAt, Matches, NoFall, indexReading, listText, Holding, Comparing};
+ghost use Rattle.cycle.specs.Held.{planOf, Shaped, Ready, Placed, firstPlace, treeAt, planIn, TreePlace};
+ghost use Rattle.cycle.specs.Comparing.{Decides, SamePairs, SameEntries, counted, bucketBytes, MatchesAt, Matches, Followed, indexReading, linesText, listText, Holding, Comparing};
 ghost use Rattle.cycle.specs.declared.Source.the-variants as Source;
 
 fn same_head(a: Head, b: Head) -> bool
@@ -187,7 +186,49 @@ fn is_path(image: &[u8], f: Figures, s: Segment) -> bool
     true
 }
 
-// Whether data bucket q stands at x. Its lines are read off the image, so that only their number is compared.
+// The position of the data bucket behind data bucket q, which stands at x in its segment.
+fn next_data(f: Figures, s: Segment, q: u64, x: u64) -> u64
+    requires { ⌜ Ready f × Placed (planOf f []) s × (s .first ≤ q) × (q < s .last) × (x ≡ s .«data_at» + (q - s .first)) × (q + 1 < f .d) ⌝ }
+    ensures { λ r. ⌜ r ≡ firstPlace (planOf f []) (f .k + 1) (q + 1) ⌝ }
+{
+    let next = q + 1;
+    if next < s.last {
+        return x + 1;
+    }
+    data_place(f, next)
+}
+
+// Whether data bucket q at x, with this last tag, has the right follow-on, and the next data bucket no lower tag.
+fn is_followed(
+    image: &[u8],
+    f: Figures,
+    s: Segment,
+    q: u64,
+    x: u64,
+    last: u64,
+    follow_on: u64,
+) -> bool
+    requires { ⌜ Comparing f (now image) s × (s .first ≤ q) × (q < s .last) × (x ≡ s .«data_at» + (q - s .first)) × (last ≡ lastTag (planIn f Source.Image (now image)) q) ⌝ }
+    ensures { λ r. ⌜ Decides (Followed (planIn f Source.Image (now (image .entry))) q x «follow_on») r ⌝ }
+{
+    let next = q + 1;
+    if next == f.d {
+        return follow_on == 0;
+    }
+    let place = next_data(f, s, q, x);
+    let at = (240 * place + 29) as usize;
+    let first = spelled_tag(image, at);
+    if first < last {
+        return false;
+    }
+    if first == last {
+        return follow_on == place - x;
+    }
+    follow_on == 0
+}
+
+// Whether data bucket q stands at x, and the next data bucket has no lower tag. Its lines are read off the image, so that
+// only their number is compared.
 fn is_data(image: &[u8], f: Figures, s: Segment, q: u64, x: u64) -> bool
     requires { ⌜ Comparing f (now image) s × (s .first ≤ q) × (q < s .last) × (x ≡ s .«data_at» + (q - s .first)) ⌝ }
     ensures { λ r. ⌜ Decides (MatchesAt (planIn f Source.Image (now (image .entry))) (now (image .entry)) x) r ⌝ }
@@ -208,7 +249,8 @@ fn is_data(image: &[u8], f: Figures, s: Segment, q: u64, x: u64) -> bool
             if r.lines as u64 != lesser(f.p, f.lines - from) {
                 return false;
             }
-            r.follow_on == follow_on_at(image, f, Source::Image, q, x)
+            let i = r.lines - 1;
+            is_followed(image, f, s, q, x, r.tags[i], r.follow_on)
         }
     }
 }
@@ -260,24 +302,6 @@ fn is_cycle(image: &[u8], f: Figures) -> bool
     true
 }
 
-// Whether no tag falls from a data bucket to the next.
-fn tags_rise(image: &[u8], f: Figures) -> bool
-    requires { ⌜ Holding f (now image) ⌝ }
-    ensures { λ r. ⌜ Decides (NoFall (planIn f Source.Image (now (image .entry)))) r ⌝ }
-{
-    let mut q = 1;
-    while q < f.d {
-        let line = q * f.p;
-        let first = tag_of(image, f, Source::Image, line);
-        let last = tag_of(image, f, Source::Image, line - 1);
-        if first < last {
-            return false;
-        }
-        q += 1;
-    }
-    true
-}
-
 // How many lines the image has: p for each data bucket but the last, and what the last one's count says.
 fn line_count(image: &[u8], p: u64) -> u64
     requires { ⌜ (length (now image) ≤ 240 * 99999) × (p ≤ 8) ⌝ }
@@ -315,15 +339,45 @@ fn copy_line(out: &mut [u8], to: usize, image: &[u8], from: usize)
     out[end] = 10;
 }
 
+// Lines of a data bucket, which stand side by side from `from` on, as list lines.
+fn copy_lines(out: &mut [u8], to: usize, image: &[u8], from: usize, count: usize)
+    requires { ⌜ (to + 27 * count ≤ length (now out)) × (from + 26 * count ≤ length (now image)) ⌝ }
+    ensures { λ _. ⌜ now (out .exit) ≡ put (now (out .entry)) to (linesText (now (image .entry)) from count) ⌝ }
+{
+    let mut i = 0;
+    while i < count {
+        copy_line(out, to + 27 * i, image, from + 26 * i);
+        i += 1;
+    }
+}
+
+// The lines of a segment's data buckets, each at its place in the list.
+fn write_lines(out: &mut [u8], image: &[u8], f: Figures, s: Segment)
+    requires { ⌜ Comparing f (now image) s × (27 * f .lines ≤ length (now out)) ⌝ }
+    ensures { λ _. ⌜ now (out .exit) ≡ put (now (out .entry)) (27 * (s .first * f .p)) (listText f (now (image .entry)) (s .first * f .p) (min (f .lines) (s .last * f .p))) ⌝ }
+{
+    let mut x = s.data_at;
+    let mut q = s.first;
+    while q < s.last {
+        let line = q * f.p;
+        let count = lesser(f.p, f.lines - line) as usize;
+        let to = (27 * line) as usize;
+        let from = (240 * x + 29) as usize;
+        copy_lines(out, to, image, from, count);
+        x += 1;
+        q += 1;
+    }
+}
+
 // The lines of the image as a list, at the front of the buffer.
 fn write_list(out: &mut [u8], image: &[u8], f: Figures)
     requires { ⌜ Holding f (now image) × (27 * f .lines ≤ length (now out)) ⌝ }
-    ensures { λ _. ⌜ now (out .exit) ≡ put (now (out .entry)) 0 (listText f (now (image .entry)) (f .lines)) ⌝ }
+    ensures { λ _. ⌜ now (out .exit) ≡ put (now (out .entry)) 0 (listText f (now (image .entry)) 0 (f .lines)) ⌝ }
 {
+    let count = segment_count(f);
     let mut i = 0;
-    while i < f.lines {
-        let to = (27 * i) as usize;
-        copy_line(out, to, image, line_place(f, Source::Image, i));
+    while i < count {
+        write_lines(out, image, f, segment_of(f, i));
         i += 1;
     }
 }
@@ -342,9 +396,6 @@ fn restore_figures(image: &[u8], f: Figures, out: &mut [u8]) -> Restored
         return Restored::Refused(13, 0);
     }
     if !is_cycle(image, sized) {
-        return Restored::Refused(13, 0);
-    }
-    if !tags_rise(image, sized) {
         return Restored::Refused(13, 0);
     }
     let room = out.len() as u64;

@@ -3,16 +3,15 @@ use super::Figures;
 use super::Segment;
 use super::sizes::lesser;
 use super::sizes::paths_before;
-use super::sizes::tree_size;
 use super::sizes::up;
 ghost use mathlib.Core.Path.{_≡_};
 ghost use mathlib.Core.List.{List, []};
-ghost use Prim.Native.Nat.{_+_, _*_, _^_, _≤_, _<_};
+ghost use Prim.Native.Nat.{_+_, _-_, _*_, _<_};
 ghost use lib.ListN.{length};
 ghost use Rattle.columns.specs.Lists.{joined, range};
 ghost use Rattle.buckets.specs.declared.Line.{Line};
 ghost use Rattle.cycle.specs.Layouts.{pathTop, distributedSegment};
-ghost use Rattle.cycle.specs.Held.{planOf, Ready, Placed, segmentCount};
+ghost use Rattle.cycle.specs.Held.{planOf, Ready, Placed, segmentCount, treeAt};
 
 // How many segments there are.
 pub fn segment_count(f: Figures) -> u64
@@ -23,8 +22,7 @@ pub fn segment_count(f: Figures) -> u64
         if f.d == 0 {
             return 1;
         }
-        let e = (f.k - f.copies) as usize;
-        return up(f.d, f.powers[e]);
+        return up(f.d, f.span);
     }
     f.copies
 }
@@ -54,8 +52,18 @@ pub fn distributed_start(f: Figures, b: u64) -> u64
     requires { ⌜ Ready f × (f .layout ≡ 1) × (b < segmentCount (planOf f [])) ⌝ }
     ensures { λ r. ⌜ r ≡ length (joined (distributedSegment (planOf f [])) (range 0 b)) ⌝ }
 {
-    let e = (f.k - f.copies) as usize;
-    b * (f.powers[e] + f.fulls[e]) + paths_before(f, b)
+    b * (f.span + f.full) + paths_before(f, b)
+}
+
+// The index buckets of the tree of segment b of layout 1.
+pub fn segment_tree(f: Figures, b: u64) -> u64
+    requires { ⌜ Ready f × (f .layout ≡ 1) × (b < segmentCount (planOf f [])) ⌝ }
+    ensures { λ r. ⌜ r ≡ length (treeAt (planOf f []) (f .k - f .copies) b) ⌝ }
+{
+    if (b + 1) * f.span <= f.d {
+        return f.full;
+    }
+    f.last
 }
 
 // Segment b of layout 1.
@@ -67,9 +75,9 @@ fn distributed_segment(f: Figures, b: u64) -> Segment
     let e = (f.k - f.copies) as usize;
     let top = path_top(f, b);
     let tree_at = start + (f.copies + 1 - top);
-    let data_at = tree_at + tree_size(f, e, b);
-    let first = b * f.powers[e];
-    let last = lesser(f.d, first + f.powers[e]);
+    let data_at = tree_at + segment_tree(f, b);
+    let first = b * f.span;
+    let last = lesser(f.d, first + f.span);
     Segment {
         number: b,
         start,
@@ -89,8 +97,7 @@ fn whole_segment(f: Figures, i: u64) -> Segment
     requires { ⌜ Ready f × (f .layout ≡ 2) × (i < f .copies) ⌝ }
     ensures { λ r. ⌜ ((ls : List Line) → Placed (planOf f ls) r) × (r .number ≡ i) ⌝ }
 {
-    let e = f.k as usize;
-    let tree = tree_size(f, e, 0);
+    let tree = f.last;
     let first = i * f.d / f.copies;
     let last = (i + 1) * f.d / f.copies;
     let start = i * tree + first;
@@ -100,7 +107,7 @@ fn whole_segment(f: Figures, i: u64) -> Segment
         start,
         top: f.copies + 1,
         tree_at: start,
-        height: e,
+        height: f.k as usize,
         root: 0,
         data_at,
         first,

@@ -3,15 +3,15 @@ use super::Figures;
 ghost use mathlib.Core.Path.{_≡_};
 ghost use mathlib.Core.Bool.{true};
 ghost use mathlib.Core.List.{[]};
-ghost use Prim.Native.Nat.{ℕ, _+_, _*_, _^_, _≤_, _<_, min};
-ghost use lib.ListN.{length, getD};
+ghost use Prim.Native.Nat.{_+_, _*_, _^_, _≤_, _<_, min};
+ghost use lib.ListN.{length};
 ghost use Rattle.columns.specs.Lists;
 ghost use Rattle.columns.specs.Lists.{joined, range};
 ghost use Rattle.cycle.specs.Tree.{levels};
 ghost use Rattle.cycle.specs.Layouts.{path};
 ghost use Rattle.cycle.specs.Cycle.{cycleSize};
 ghost use Rattle.cycle.specs.Building.{copiesFit};
-ghost use Rattle.cycle.specs.Held.{planOf, fullSize, Shaped, InTree, sized, treeAt};
+ghost use Rattle.cycle.specs.Held.{planOf, fullSize, Shaped, InTree, treeAt, treeHeight, lastPlace, Trees, sized};
 
 // a divided by b, rounded up
 pub fn up(a: u64, b: u64) -> u64
@@ -45,30 +45,32 @@ fn levels_of(n: u64, d: u64) -> u64
     k
 }
 
-fn powers_of(n: u64) -> [u64; 17]
-    requires { ⌜ (2 ≤ n) × (n ≤ 8) ⌝ }
-    ensures { λ r. ⌜ ((h : ℕ) → h < 17 → getD r h 0 ≡ n ^ h) ⌝ }
+// n to the power h: the data buckets under a full bucket of height h.
+pub fn power(n: u64, h: usize) -> u64
+    requires { ⌜ (2 ≤ n) × (n ≤ 8) × (h ≤ 16) ⌝ }
+    ensures { λ r. ⌜ r ≡ n ^ h ⌝ }
 {
-    let mut a = [1u64; 17];
-    let mut h = 1;
-    while h < 17 {
-        a[h] = a[h - 1] * n;
-        h += 1;
+    let mut x = 1;
+    let mut i = 0;
+    while i < h {
+        x = x * n;
+        i += 1;
     }
-    a
+    x
 }
 
-fn fulls_of(n: u64) -> [u64; 17]
-    requires { ⌜ (2 ≤ n) × (n ≤ 8) ⌝ }
-    ensures { λ r. ⌜ ((h : ℕ) → h < 17 → getD r h 0 ≡ fullSize n h) ⌝ }
+// The index buckets of a full subtree of height h.
+fn full_size(n: u64, h: usize) -> u64
+    requires { ⌜ (2 ≤ n) × (n ≤ 8) × (h ≤ 16) ⌝ }
+    ensures { λ r. ⌜ r ≡ fullSize n h ⌝ }
 {
-    let mut a = [0u64; 17];
-    let mut h = 1;
-    while h < 17 {
-        a[h] = a[h - 1] * n + 1;
-        h += 1;
+    let mut x = 0;
+    let mut i = 0;
+    while i < h {
+        x = x * n + 1;
+        i += 1;
     }
-    a
+    x
 }
 
 // The figures of settings within their ranges and of a number of lines, N left 0.
@@ -86,8 +88,9 @@ pub fn figures_of(n: u64, p: u64, layout: u64, copies: u64, lines: u64) -> Figur
         d,
         k: levels_of(n, d),
         size: 0,
-        powers: powers_of(n),
-        fulls: fulls_of(n),
+        span: 0,
+        full: 0,
+        last: 0,
     }
 }
 
@@ -123,7 +126,7 @@ fn last_tree_size(f: Figures, e: usize, j: u64) -> u64
     let mut sum = 0;
     while h <= e {
         let rest = e - h;
-        sum += up(f.d, f.powers[h]) - j * f.powers[rest];
+        sum += up(f.d, power(f.n, h)) - j * power(f.n, rest);
         h += 1;
     }
     sum
@@ -134,8 +137,8 @@ pub fn tree_size(f: Figures, e: usize, j: u64) -> u64
     requires { ⌜ Shaped f × (1 ≤ e) × InTree f e j ⌝ }
     ensures { λ r. ⌜ r ≡ length (treeAt (planOf f []) e j) ⌝ }
 {
-    if (j + 1) * f.powers[e] <= f.d {
-        return f.fulls[e];
+    if (j + 1) * power(f.n, e) <= f.d {
+        return full_size(f.n, e);
     }
     last_tree_size(f, e, j)
 }
@@ -145,49 +148,86 @@ pub fn paths_before(f: Figures, b: u64) -> u64
     requires { ⌜ Shaped f × (f .layout ≡ 1) × (copiesFit (planOf f []) ≡ true) × (b ≤ 40000) ⌝ }
     ensures { λ r. ⌜ r ≡ length (joined (path (planOf f [])) (range 0 b)) ⌝ }
 {
-    let r = f.copies as usize;
-    let mut h = 0;
+    let mut left = f.copies;
+    let mut count = b;
     let mut sum = 0;
-    while h < r {
-        sum += up(b, f.powers[h]);
-        h += 1;
+    while 0 < left {
+        sum += count;
+        count = up(count, f.n);
+        left -= 1;
     }
     sum
 }
 
+// The height of a segment's tree.
+fn tree_height(f: Figures) -> usize
+    requires { ⌜ Shaped f × (copiesFit (planOf f []) ≡ true) ⌝ }
+    ensures { λ r. ⌜ r ≡ treeHeight (planOf f []) ⌝ }
+{
+    if f.layout == 1 {
+        return (f.k - f.copies) as usize;
+    }
+    f.k as usize
+}
+
+// The place of the last segment's tree, `span` data buckets under each full one.
+fn last_root(f: Figures, span: u64) -> u64
+    requires { ⌜ Shaped f × (1 ≤ span) × (span ≤ 320000) ⌝ }
+    ensures { λ r. ⌜ r ≡ lastPlace (f .d) span ⌝ }
+{
+    if f.d == 0 {
+        return 0;
+    }
+    up(f.d, span) - 1
+}
+
+// The figures with those of a segment's tree.
+fn with_trees(f: Figures) -> Figures
+    requires { ⌜ Shaped f × (copiesFit (planOf f []) ≡ true) ⌝ }
+    ensures { λ r. ⌜ r ≡ sized f (f .size) ⌝ }
+{
+    let e = tree_height(f);
+    let span = power(f.n, e);
+    let full = full_size(f.n, e);
+    let last = tree_size(f, e, last_root(f, span));
+    Figures {
+        span,
+        full,
+        last,
+        ..f
+    }
+}
+
 // N in layout 1.
 fn distributed_size(f: Figures) -> u64
-    requires { ⌜ Shaped f × (f .layout ≡ 1) × (copiesFit (planOf f []) ≡ true) ⌝ }
+    requires { ⌜ Shaped f × (f .layout ≡ 1) × (copiesFit (planOf f []) ≡ true) × Trees f ⌝ }
     ensures { λ r. ⌜ r ≡ cycleSize (planOf f []) ⌝ }
 {
     if f.d == 0 {
         return 1;
     }
-    let e = (f.k - f.copies) as usize;
-    let count = up(f.d, f.powers[e]);
-    let last = count - 1;
-    f.d + paths_before(f, count) + last * f.fulls[e] + tree_size(f, e, last)
+    let count = up(f.d, f.span);
+    f.d + paths_before(f, count) + (count - 1) * f.full + f.last
 }
 
 // N in layout 2.
 fn one_m_size(f: Figures) -> u64
-    requires { ⌜ Shaped f × (f .layout ≡ 2) × (copiesFit (planOf f []) ≡ true) ⌝ }
+    requires { ⌜ Shaped f × (f .layout ≡ 2) × (copiesFit (planOf f []) ≡ true) × Trees f ⌝ }
     ensures { λ r. ⌜ r ≡ cycleSize (planOf f []) ⌝ }
 {
-    let k = f.k as usize;
-    f.d + f.copies * tree_size(f, k, 0)
+    f.d + f.copies * f.last
 }
 
-// The figures with N.
+// The figures with those of a segment's tree and with N.
 pub fn with_size(f: Figures) -> Figures
     requires { ⌜ Shaped f × (copiesFit (planOf f []) ≡ true) ⌝ }
     ensures { λ r. ⌜ r ≡ sized f (cycleSize (planOf f [])) ⌝ }
 {
-    let mut next = f;
+    let next = with_trees(f);
     if f.layout == 1 {
-        next.size = distributed_size(f);
-        return next;
+        let size = distributed_size(next);
+        return Figures { size, ..next };
     }
-    next.size = one_m_size(f);
-    next
+    let size = one_m_size(next);
+    Figures { size, ..next }
 }

@@ -16,7 +16,7 @@ use Rattle.buckets.specs.Bucket.{Pair, Entry, Bucket, pairFits, entryFits}
 use Rattle.buckets.specs.Held.{entriesOf, filled, tagOr0, heldIndex, headOf}
 use Rattle.buckets.proofs.Holding.{length-filled}
 use Rattle.buckets.proofs.Good.{Good, GoodIndex, Reaches, pair-fits, entry-fits}
-use Rattle.listener.specs.OnReading.{pairsHeld, entriesHeld, near, SoundHead, SoundIndex, tagged, taggedLines}
+use Rattle.listener.specs.OnReading.{held, pairsHeld, entriesHeld, near, SoundHead, SoundIndex, tagged, taggedLines}
 use Rattle.listener.proofs.TagsAlone.{bare}
 
 -- a pair's numbers, 0 for a blank tag
@@ -38,7 +38,7 @@ length-held w f xs h = length-filled w (map f xs) (rw (length-map xs f) h)
 
 module _ (ps : List Pair) (es : List Entry) where
   pub pairs-held : pairsHeld (heldIndex ps es) ≡ map inNumbers ps
-  unfolding pairsHeld heldIndex filled inNumbers
+  unfolding pairsHeld held heldIndex filled inNumbers
   pairs-held =
       entries-filled (λ (p : Pair). tagOr0 (p .tag)) (λ (p : Pair). p .distance)
       (replicate (4 - length (map (λ (p : Pair). tagOr0 (p .tag)) ps)) 0)
@@ -46,7 +46,7 @@ module _ (ps : List Pair) (es : List Entry) where
       ps
 
   pub entries-held : entriesHeld (heldIndex ps es) ≡ es
-  unfolding entriesHeld heldIndex filled
+  unfolding entriesHeld held heldIndex filled
   entries-held =
       entries-filled (λ (e : Entry). e .tag) (λ (e : Entry). e .distance)
       (replicate (8 - length (map (λ (e : Entry). e .tag) es)) 0)

@@ -16,7 +16,7 @@ use Rattle.buckets.specs.declared.Index.{Index}
 use Rattle.buckets.specs.Bucket.{Entry}
 use Rattle.buckets.specs.Held.{entriesOf}
 use Rattle.listener.specs.Listener.{before, matching}
-use Rattle.listener.specs.OnReading.{chosen, firstChosen, pairsHeld, entriesHeld, SoundIndex, tagged, taggedLines}
+use Rattle.listener.specs.OnReading.{held, pairsHeld, chosen, firstChosen, SoundIndex, tagged, taggedLines}
 
 unfoldable pub entry : ℕ → ℕ → Entry
 entry t d = record { tag = t; distance = d }
@@ -51,9 +51,9 @@ entry-at (suc i) (t ∷ ts) (d ∷ ds) h g = entry-at i ts ds (omega arith) (ome
 module _ (f : Entry → Bool) (ts ds : List ℕ) (n i : ℕ) where
   pub chosen-more :
       i < n → n ≤ length ts → n ≤ length ds →
-      chosen f (drop i (take n (entriesOf ts ds))) ≡
-      pick (f (entry (getD ts i 0) (getD ds i 0))) (getD ds i 0) (chosen f (drop (i + 1) (take n (entriesOf ts ds))))
-  unfolding entry
+      chosen f (drop i (held n ts ds)) ≡
+      pick (f (entry (getD ts i 0) (getD ds i 0))) (getD ds i 0) (chosen f (drop (i + 1) (held n ts ds)))
+  unfolding entry held
   chosen-more h g k =
       let l : length (take n (entriesOf ts ds)) ≡ n =
       length-take-le n (entriesOf ts ds) (length-entries n ts ds g k) in
@@ -61,7 +61,8 @@ module _ (f : Entry → Bool) (ts ds : List ℕ) (n i : ℕ) where
       getD-take n (entriesOf ts ds) i (entry 0 0) h ∙ entry-at i ts ds (omega arith) (omega arith) in
       rw (next (take n (entriesOf ts ds)) i (entry 0 0) (omega arith), e)
 
-  pub chosen-end : n ≤ i → chosen f (drop i (take n (entriesOf ts ds))) ≡ 0
+  pub chosen-end : n ≤ i → chosen f (drop i (held n ts ds)) ≡ 0
+  unfolding held
   chosen-end h =
       let l : length (take n (entriesOf ts ds)) ≤ i = simp length-take (omega arith) in
       rw (drop-of-length-le (take n (entriesOf ts ds)) l)
@@ -69,8 +70,8 @@ module _ (f : Entry → Bool) (ts ds : List ℕ) (n i : ℕ) where
 module _ (tag : ℕ) (blank : Bool) (ts ds : List ℕ) where
   first-entry :
       (n : ℕ) → 0 < n → n ≤ length ts → n ≤ length ds →
-      firstChosen tag blank (take n (entriesOf ts ds)) ≡ pick blank 0 (pick (leb tag (getD ts 0 0)) (getD ds 0 0) 0)
-  unfolding entry
+      firstChosen tag blank (held n ts ds) ≡ pick blank 0 (pick (leb tag (getD ts 0 0)) (getD ds 0 0) 0)
+  unfolding entry held
   first-entry n h g k =
       let l : length (take n (entriesOf ts ds)) ≡ n =
       length-take-le n (entriesOf ts ds) (length-entries n ts ds g k) in
@@ -78,34 +79,9 @@ module _ (tag : ℕ) (blank : Bool) (ts ds : List ℕ) where
       getD-take n (entriesOf ts ds) 0 (entry 0 0) h ∙ entry-at 0 ts ds (omega arith) (omega arith) in
       ap (firstChosen tag blank) (next (take n (entriesOf ts ds)) 0 (entry 0 0) (omega arith)) ∙ rw e
 
-module _ (f : Entry → Bool) (x : Index) (i : ℕ) (s : SoundIndex x) where
-  pub pairs-more :
-      i < x .pairs →
-      chosen f (drop i (pairsHeld x)) ≡
-      pick (f (entry (getD (x .«pair_tags») i 0) (getD (x .«pair_distances») i 0))) (getD (x .«pair_distances») i 0)
-      (chosen f (drop (i + 1) (pairsHeld x)))
-  unfolding pairsHeld
-  pairs-more h = chosen-more f (x .«pair_tags») (x .«pair_distances») (x .pairs) i h (omega arith) (omega arith)
-
-  pub pairs-end : x .pairs ≤ i → chosen f (drop i (pairsHeld x)) ≡ 0
-  unfolding pairsHeld
-  pairs-end h = chosen-end f (x .«pair_tags») (x .«pair_distances») (x .pairs) i h
-
-  pub entries-more :
-      i < x .entries →
-      chosen f (drop i (entriesHeld x)) ≡
-      pick (f (entry (getD (x .«entry_tags») i 0) (getD (x .«entry_distances») i 0))) (getD (x .«entry_distances») i 0)
-      (chosen f (drop (i + 1) (entriesHeld x)))
-  unfolding entriesHeld
-  entries-more h = chosen-more f (x .«entry_tags») (x .«entry_distances») (x .entries) i h (omega arith) (omega arith)
-
-  pub entries-end : x .entries ≤ i → chosen f (drop i (entriesHeld x)) ≡ 0
-  unfolding entriesHeld
-  entries-end h = chosen-end f (x .«entry_tags») (x .«entry_distances») (x .entries) i h
-
 module _ (tag : ℕ) (x : Index) (s : SoundIndex x) where
   pub first-none : x .pairs ≡ 0 → firstChosen tag (x .blank) (pairsHeld x) ≡ 0
-  unfolding pairsHeld
+  unfolding pairsHeld held
   first-none e = rw e
 
   pub first-some :

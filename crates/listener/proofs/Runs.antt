@@ -1,7 +1,7 @@
--- A lookup's run, step by step: what is left of it, and that the lines got only grow.
+-- A lookup's run, bucket by bucket: what is left of it, and that the lines got only grow.
 -- Assumes nothing.
-use mathlib.Core.Path.{_≡_, refl, sym, _∙_, ap}
-use mathlib.Core.List.{List, [], _++_}
+use mathlib.Core.Path.{_≡_, refl, sym, _∙_, ap, subst}
+use mathlib.Core.List.{List, [], _∷_, _++_}
 use Prim.Native.Nat.{ℕ, zero, suc, _+_, _-_, _*_, _≤_, _<_, _%_}
 use native.Mathlib.Omega.{arith}
 use native.Mathlib.Nat.{mod-lt}
@@ -10,97 +10,118 @@ use Rattle.buckets.specs.declared.Line.{Line}
 use Rattle.listener.specs.Listener.{start, step, named}
 use Rattle.listener.specs.Hearing.{bucketAt}
 use Rattle.listener.specs.Lookup.{Finish, found, refused, afterAnswer, run}
-use Rattle.listener.specs.OnRun.{wholeRun}
+use Rattle.listener.specs.OnRun.{wholeRun, WasHeard, heardNext, runOn}
 use Rattle.listener.specs.declared.Listener.{Listener}
 use Rattle.listener.specs.declared.Answer.{Answer}
 use Rattle.listener.specs.declared.Answer.the-variants.{Doze, Found, Absent, Refused}
 use Rattle.listener.specs.declared.Stepped.{Stepped}
+use Rattle.listener.specs.declared.lookup.Heard.{Heard}
 use Rattle.listener.proofs.StepBounds.{length-named, few-named, doze-near}
 
--- a run that has come from `goal`'s start to the bucket at x, with so many lines got
-pub record SoFar (image : List ℕ) (count : ℕ) (goal : Finish) (s : Listener) (x lines budget : ℕ) : Type 0 where
+-- a run that has come from `goal`'s start to a bucket heard, with so many lines got before it
+pub record SoFar (image : List ℕ) (count : ℕ) (goal : Finish) (h : Heard) (lines : ℕ) : Type 0 where
+  pub heard : WasHeard image count h
   pub got : List Line
   pub counted : length got ≡ lines
-  pub left : goal ≡ run image count budget x s got
-  pub inside : x < count
-  pub few : lines + 8 * budget ≤ 1600000
-
--- such a run takes a step, which hands back r
-pub record Turn (image : List ℕ) (count : ℕ) (goal : Finish) (s : Listener) (x lines budget : ℕ) (r : Stepped) : Type 0 where
-  pub so-far : SoFar image count goal s x lines budget
-  pub more : 0 < budget
-  pub is : r ≡ step s (bucketAt image x)
+  pub rest : goal ≡ runOn image count h got
+  pub few : lines + 8 * h .left < 1600000
 
 module _ (image : List ℕ) (count : ℕ) where
-  -- what a run makes of one step
-  one-step :
-      (budget x : ℕ) (s : Listener) (got : List Line) {r : Stepped} {a : Answer} → 0 < budget →
-      r ≡ step s (bucketAt image x) → r .answer ≡ a →
-      run image count budget x s got ≡
-      afterAnswer (run image count (budget - 1)) count x (got ++ named (bucketAt image x) r) (r .listener) a
-  one-step zero x s got h e f = absurd (omega arith)
-  one-step (suc budget) x s got {r} h e f =
-      let less : suc budget - 1 ≡ budget = omega arith in
-      rw (less, ← f, e)
+  -- a run with steps left hears a bucket
+  pub hears :
+      (left x : ℕ) (s : Listener) (got : List Line) {r : Stepped} → 0 < left → r ≡ step s (bucketAt image x) →
+      run image count left x s got ≡ runOn image count (record { x = x; left = left - 1; step = r }) got
+  unfolding runOn
+  hears zero x s got h e = absurd (omega arith)
+  hears (suc left) x s got {r} h e =
+      let less : suc left - 1 ≡ left = omega arith in
+      rw (less, e)
 
   pub at-start :
-      (tag t : ℕ) {s : Listener} → s ≡ start tag → t < count →
-      SoFar image count (wholeRun image count tag t) s t 0 200000
+      (tag t : ℕ) {s : Listener} {r : Stepped} → s ≡ start tag → r ≡ step s (bucketAt image t) → t < count →
+      SoFar image count (wholeRun image count tag t) (record { x = t; left = 199999; step = r }) 0
   unfolding wholeRun
-  at-start tag t e h =
+  at-start tag t {s} e k h =
       record {
+        heard = record { listener = s; is = k; inside = h; few = omega arith };
         got = [];
         counted = refl;
-        left = ap (λ z. run image count 200000 t z []) (sym e);
-        inside = h;
+        rest = ap (λ z. run image count 200000 t z []) (sym e) ∙ hears 200000 t s [] (omega arith) k;
         few = omega arith;
       }
 
-module _ {image : List ℕ} {count : ℕ} {goal : Finish} {s : Listener} {x lines budget : ℕ} {r : Stepped}
-    (t : Turn image count goal s x lines budget r) where
-  -- the lines got with this step
-  unfoldable pub gotWith : List Line
-  gotWith = t .so-far .got ++ named (bucketAt image x) r
+  -- the rest of a run, at the bucket heard that it starts from
+  unfoldable pub at-heard : {h : Heard} → WasHeard image count h → SoFar image count (runOn image count h []) h 0
+  at-heard w = record { heard = w; got = []; counted = refl; rest = refl; few = omega (arith, w .few) }
 
-  pub counted-with : length gotWith ≡ lines + r .count
+none-got : (got : List Line) → length got ≡ 0 → got ≡ []
+none-got [] e = refl
+none-got (l ∷ ls) e = absurd (omega arith)
+
+module _ {image : List ℕ} {count : ℕ} {goal : Finish} {h : Heard} {lines : ℕ} (f : SoFar image count goal h lines) where
+  -- the lines got with this bucket
+  unfoldable pub gotWith : List Line
+  gotWith = f .got ++ named (bucketAt image (h .x)) (h .step)
+
+  pub counted-with : length gotWith ≡ lines + h .step .count
   unfolding gotWith
   counted-with =
-      length-append (t .so-far .got) (named (bucketAt image x) r) ∙
-      rw (t .so-far .counted, t .is, length-named s (bucketAt image x))
+      length-append (f .got) (named (bucketAt image (h .x)) (h .step)) ∙
+      rw (f .counted, f .heard .is, length-named (f .heard .listener) (bucketAt image (h .x)))
 
-  pub named-few : r .first + r .count ≤ 8
-  named-few = rw (t .is) (few-named s (bucketAt image x))
+  pub named-few : h .step .first + h .step .count ≤ 8
+  named-few = rw (f .heard .is) (few-named (f .heard .listener) (bucketAt image (h .x)))
 
-  pub lines-few : lines + r .count ≤ 1600000
-  lines-few = omega (arith, named-few, t .so-far .few, t .more)
+  pub lines-few : lines + h .step .count ≤ 1600008
+  lines-few = omega (arith, named-few, f .few)
 
   pub after :
-      {a : Answer} → r .answer ≡ a →
-      goal ≡ afterAnswer (run image count (budget - 1)) count x gotWith (r .listener) a
-  unfolding gotWith
-  after k = t .so-far .left ∙ one-step image count budget x s (t .so-far .got) (t .more) (t .is) k
+      {a : Answer} → h .step .answer ≡ a →
+      goal ≡ afterAnswer (run image count (h .left)) count (h .x) gotWith (h .step .listener) a
+  unfolding gotWith runOn
+  after k = f .rest ∙ ap (afterAnswer (run image count (h .left)) count (h .x) gotWith (h .step .listener)) k
 
-  pub doze-few : {d : ℕ} → r .answer ≡ Doze d → d ≤ 99999
-  doze-few k = doze-near s (bucketAt image x) (ap (λ z. z .answer) (sym (t .is)) ∙ k)
+  pub doze-few : {d : ℕ} → h .step .answer ≡ Doze d → d ≤ 99999
+  doze-few k =
+      doze-near (f .heard .listener) (bucketAt image (h .x)) (ap (λ z. z .answer) (sym (f .heard .is)) ∙ k)
 
   unfoldable pub onward :
-      (d : ℕ) → r .answer ≡ Doze d →
-      SoFar image count goal (r .listener) ((x + d) % count) (lines + r .count) (budget - 1)
-  onward d k =
+      (d : ℕ) → h .step .answer ≡ Doze d → 0 < h .left →
+      SoFar image count goal (heardNext image count h d) (lines + h .step .count)
+  unfolding heardNext
+  onward d k more =
       record {
+        heard =
+            record {
+              listener = h .step .listener;
+              is = refl;
+              inside = mod-lt (h .x + d) {m = count} (omega (arith, f .heard .inside));
+              few = omega (arith, f .heard .few);
+            };
         got = gotWith;
         counted = counted-with;
-        left = after k;
-        inside = mod-lt (x + d) {m = count} (omega (arith, t .so-far .inside));
-        few = omega (arith, t .so-far .few, named-few, t .more);
+        rest = after k ∙ hears image count (h .left) ((h .x + d) % count) (h .step .listener) gotWith more refl;
+        few = omega (arith, f .few, named-few, more);
       }
 
-pub run-out :
-    {image : List ℕ} {count : ℕ} {goal : Finish} {s : Listener} {x lines budget : ℕ} →
-    SoFar image count goal s x lines budget → budget ≤ 0 → goal ≡ refused 10 x
-run-out {image} {count} {goal} {s} {x} {lines} {budget} f h =
-    let e : budget ≡ 0 = omega arith in
-    f .left ∙ ap (λ b. run image count b x s (f .got)) e
+  pub fewer-left : (d : ℕ) {h′ : Heard} → 0 < h .left → h′ ≡ heardNext image count h d → h′ .left < h .left
+  unfolding heardNext
+  fewer-left d more next = omega (arith, ap (λ z. z .left) next)
+
+  pub run-out : {d : ℕ} → h .step .answer ≡ Doze d → h .left ≡ 0 → goal ≡ refused 10 ((h .x + d) % count)
+  run-out {d} k e = after k ∙ ap (λ left. run image count left ((h .x + d) % count) (h .step .listener) gotWith) e
+
+-- a run that has got no lines yet
+module _ {image : List ℕ} {count : ℕ} {goal : Finish} {h : Heard} (f : SoFar image count goal h 0) where
+  pub none-onward :
+      (d : ℕ) {h′ : Heard} → h .step .answer ≡ Doze d → 0 < h .left → h .step .count ≡ 0 →
+      h′ ≡ heardNext image count h d → SoFar image count goal h′ 0
+  none-onward d k more e next =
+      let none : 0 + h .step .count ≡ 0 = omega arith in
+      rw next (subst (SoFar image count goal (heardNext image count h d)) none (onward f d k more))
+
+  pub sought : WasHeard image count h × (goal ≡ runOn image count h [])
+  sought = (f .heard, f .rest ∙ ap (runOn image count h) (none-got (f .got) (f .counted)))
 
 -- ---- the lines got only grow
 

@@ -1,7 +1,7 @@
 -- Listener's states: those that fit, and what follows for the tune-in position.
 -- Assumes nothing.
-use mathlib.Core.Path.{_≡_, ap}
-use mathlib.Core.Bool.{Bool, true, false, _&&_}
+use mathlib.Core.Path.{_≡_, refl, sym, _∙_, ap}
+use mathlib.Core.Bool.{Bool, true, false, _&&_, true≢false}
 use mathlib.Core.List.{List}
 use Prim.Native.Nat.{ℕ, _≤_}
 use native.Mathlib.Omega.{arith}
@@ -9,8 +9,8 @@ use lib.Dec.{leb}
 use borrow.Author.Tests.{leb-true}
 use Rattle.columns.proofs.Strict.{both}
 use Rattle.buckets.specs.Bucket.{Bucket, readBucket}
-use Rattle.listener.specs.Listener.{countsFit, tunedWith, awaited, choice, decided, refused, refusedEnded, isEnded, take, takeRead, step}
-use Rattle.listener.specs.OnReading.{Counts}
+use Rattle.listener.specs.Listener.{dozes, countsFit, tunedWith, letterAwaited, placeAwaited, awaited, bodyChoice, choice, decided, refused, refusedEnded, isEnded, take, takeRead, step}
+use Rattle.listener.specs.OnReading.{isTuneIn, Counts}
 use Rattle.listener.specs.declared.Phase.{Phase}
 use Rattle.listener.specs.declared.Phase.the-variants.{TuneIn, Index, Either, Data, Ended}
 use Rattle.listener.specs.declared.Listener.{Listener}
@@ -37,12 +37,38 @@ tuned-small Either s b c h = omega arith
 tuned-small Data s b c h = omega arith
 tuned-small Ended s b c h = omega arith
 
--- 9 does not hold, or does
-pub take-awaited :
+-- 9 does not hold, at tune-in or later, or does
+take-awaited :
     (s : Listener) (b : Bucket) {p : Phase} → awaited s b ≡ true → s .phase ≡ p →
     take s b ≡ decided s b (choice p (s .tag) b)
 unfolding take
 take-awaited s b h e = rw h (ap (λ q. decided s b (choice q (s .tag) b)) e)
+
+pub take-tune-in :
+    (s : Listener) (b : Bucket) → awaited s b ≡ true → isTuneIn (s .phase) ≡ true →
+    take s b ≡ decided s b (dozes (b .toSegment) Index 0 0)
+take-tune-in s b h = by-phase (s .phase) refl
+  where
+    by-phase : (p : Phase) → s .phase ≡ p → isTuneIn p ≡ true → take s b ≡ decided s b (dozes (b .toSegment) Index 0 0)
+    by-phase TuneIn e k = take-awaited s b h e
+    by-phase Index e k = absurd (true≢false (sym k))
+    by-phase Either e k = absurd (true≢false (sym k))
+    by-phase Data e k = absurd (true≢false (sym k))
+    by-phase Ended e k = absurd (true≢false (sym k))
+
+pub take-later :
+    (s : Listener) (b : Bucket) → awaited s b ≡ true → isTuneIn (s .phase) ≡ false →
+    take s b ≡ decided s b (bodyChoice (s .tag) (b .body))
+unfolding awaited
+take-later s b h = by-phase (s .phase) refl
+  where
+    by-phase : (p : Phase) → s .phase ≡ p → isTuneIn p ≡ false → take s b ≡ decided s b (bodyChoice (s .tag) (b .body))
+    by-phase TuneIn e k = absurd (true≢false k)
+    by-phase Index e k = take-awaited s b h e
+    by-phase Either e k = take-awaited s b h e
+    by-phase Data e k = take-awaited s b h e
+    by-phase Ended e k =
+        absurd (true≢false (sym h ∙ ap (λ p. letterAwaited p (b .body) && placeAwaited p s b) e))
 
 pub take-other : (s : Listener) (b : Bucket) → awaited s b ≡ false → take s b ≡ refused s 9
 unfolding take

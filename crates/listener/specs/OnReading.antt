@@ -3,7 +3,7 @@
 -- Assumes nothing.
 use Prim.Native.Nat.{ℕ, _+_, _≤_}
 use mathlib.Core.Path.{_≡_}
-use mathlib.Core.Bool.{Bool, true, _&&_}
+use mathlib.Core.Bool.{Bool, true, false, _&&_}
 use mathlib.Core.List.{List, [], _∷_, map}
 use lib.Dec.{leb, ltb}
 use lib.ListN.{length, take}
@@ -14,16 +14,22 @@ use Rattle.buckets.specs.declared.Index.{Index}
 use Rattle.buckets.specs.declared.Reading.{Reading}
 use Rattle.buckets.specs.Bucket.{Entry, readBucket}
 use Rattle.buckets.specs.Held.{entriesOf, asReading}
+use Rattle.listener.specs.declared.Phase.{Phase}
+use Rattle.listener.specs.declared.Phase.the-variants
 use Rattle.listener.specs.declared.Listener.{Listener}
 
 -- ---- index buckets
 
+-- the first c entries, by their tags and their distances
+unfoldable pub held : ℕ → List ℕ → List ℕ → List Entry
+held c ts ds = take c (entriesOf ts ds)
+
 -- the control pairs, and the entries
 unfoldable pub pairsHeld : Index → List Entry
-pairsHeld x = take (x .pairs) (entriesOf (x .«pair_tags») (x .«pair_distances»))
+pairsHeld x = held (x .pairs) (x .«pair_tags») (x .«pair_distances»)
 
 unfoldable pub entriesHeld : Index → List Entry
-entriesHeld x = take (x .entries) (entriesOf (x .«entry_tags») (x .«entry_distances»))
+entriesHeld x = held (x .entries) (x .«entry_tags») (x .«entry_distances»)
 
 -- the distance of the first entry that passes f, 0 if none does
 abbrev pub chosen : (Entry → Bool) → List Entry → ℕ
@@ -51,6 +57,15 @@ tagged t = record { tag = t; tare = 0; code = 0; weighing = 0 }
 -- the first c lines, by their tags
 unfoldable pub taggedLines : ℕ → List ℕ → List Line
 taggedLines c ts = map tagged (take c ts)
+
+-- ---- what is awaited
+
+abbrev pub isTuneIn : Phase → Bool
+isTuneIn the-variants.TuneIn = true
+isTuneIn the-variants.Index = false
+isTuneIn the-variants.Either = false
+isTuneIn the-variants.Data = false
+isTuneIn the-variants.Ended = false
 
 -- ---- what a well printed bucket keeps, and a state that fits
 

@@ -4,7 +4,7 @@ ghost use mathlib.Core.Path.{_≡_};
 ghost use Prim.Native.Nat.{_≤_};
 ghost use lib.ListN.{drop, length};
 ghost use Rattle.listener.specs.Listener.{before, matching};
-ghost use Rattle.listener.specs.OnReading.{SoundIndex, chosen, below, reached, firstChosen, pairsHeld, entriesHeld, taggedLines};
+ghost use Rattle.listener.specs.OnReading.{SoundIndex, held, pairsHeld, chosen, below, reached, firstChosen, taggedLines};
 
 // The distance of the first control pair if its tag is printed and ours is at most it, else 0.
 pub fn first_pair(tag: u64, x: Index) -> u64
@@ -23,38 +23,36 @@ pub fn first_pair(tag: u64, x: Index) -> u64
     x.pair_distances[0]
 }
 
-// The distance of the first later control pair whose tag is below ours, 0 if there is none.
-pub fn pair_below(tag: u64, x: Index) -> u64
-    requires { ⌜ SoundIndex x ⌝ }
-    ensures { λ r. ⌜ r ≡ chosen (below tag) (drop 1 (pairsHeld x)) ⌝ }
+// The distance of the first of count control pairs, behind the first one, whose tag is below ours, 0 if there is none.
+pub fn pair_below(tag: u64, count: usize, tags: [u64; 4], distances: [u64; 4]) -> u64
+    requires { ⌜ count ≤ 4 ⌝ }
+    ensures { λ r. ⌜ r ≡ chosen (below tag) (drop 1 (held count tags distances)) ⌝ }
 {
-    let count = x.pairs;
     let mut i = 1;
     let distance = loop {
         if count <= i {
             break 0;
         }
-        if x.pair_tags[i] < tag {
-            break x.pair_distances[i];
+        if tags[i] < tag {
+            break distances[i];
         }
         i += 1;
     };
     distance
 }
 
-// The distance of the first entry whose tag is at least ours, 0 if there is none.
-pub fn entry_from(tag: u64, x: Index) -> u64
-    requires { ⌜ SoundIndex x ⌝ }
-    ensures { λ r. ⌜ r ≡ chosen (reached tag) (entriesHeld x) ⌝ }
+// The distance of the first of count entries whose tag is at least ours, 0 if there is none.
+pub fn entry_from(tag: u64, count: usize, tags: [u64; 8], distances: [u64; 8]) -> u64
+    requires { ⌜ count ≤ 8 ⌝ }
+    ensures { λ r. ⌜ r ≡ chosen (reached tag) (held count tags distances) ⌝ }
 {
-    let count = x.entries;
     let mut i = 0;
     let distance = loop {
         if count <= i {
             break 0;
         }
-        if tag <= x.entry_tags[i] {
-            break x.entry_distances[i];
+        if tag <= tags[i] {
+            break distances[i];
         }
         i += 1;
     };

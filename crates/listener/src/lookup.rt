@@ -15,7 +15,7 @@ ghost use Rattle.cycle.specs.ReadingBack.{wholeBuckets};
 ghost use Rattle.listener.specs.Listener.{step};
 ghost use Rattle.listener.specs.Hearing.{bucketAt};
 ghost use Rattle.listener.specs.Lookup.{lookup};
-ghost use Rattle.listener.specs.OnRun.{wholeRun, asFinish, Finds, gotBy, endedLines};
+ghost use Rattle.listener.specs.OnRun.{wholeRun, heardNext, WasHeard, runOn, asFinish, Finds, gotBy, endedLines};
 
 // How a run ends: the listener and the number of lines got, or a refusal's number and place.
 enum Finish {
@@ -24,8 +24,15 @@ enum Finish {
     Refused(u64, u64),
 }
 
+// A bucket that a run heard: its place in the image, the steps left after it, and what its step handed back.
+struct Heard {
+    x: u64,
+    left: u64,
+    step: Stepped,
+}
+
 // The steps that a run may take.
-const BUDGET: u64 = 200000;
+const STEPS: u64 = 200000;
 
 // Whether len bytes are 1 to 99,999 whole buckets.
 fn whole_buckets(len: usize) -> bool
@@ -50,38 +57,92 @@ fn hear(image: &[u8], x: u64, l: Listener) -> Stepped
     l.step(&image[at..to])
 }
 
-// The run that counts the lines.
-fn run(image: &[u8], count: u64, tag: u64, t: u64) -> Finish
-    requires { ⌜ (t < count) × ((count ≤ 99999) × (240 * count ≤ length (now image))) ⌝ }
-    ensures { λ r. ⌜ r ≡ asFinish (wholeRun (now (image .entry)) count tag t) ⌝ }
+// Hears the bucket d places on from one heard, counted round by the image.
+fn hear_next(image: &[u8], count: u64, h: Heard, d: u64) -> Heard
+    requires { ⌜ (count ≤ 99999) × (240 * count ≤ length (now image)) ⌝ }
+    requires { ⌜ (h .x < count) × ((0 < h .left) × (d ≤ 99999)) ⌝ }
+    ensures { λ r. ⌜ r ≡ heardNext (now (image .entry)) count h d ⌝ }
 {
-    let mut l = Listener::new(tag);
-    let mut x = t;
-    let mut lines: u64 = 0;
-    let mut budget = BUDGET;
-    while 0 < budget {
-        let r = hear(image, x, l);
-        let next = r.listener;
+    let x = (h.x + d) % count;
+    let r = h.step;
+    let l = r.listener;
+    let step = hear(image, x, l);
+    Heard {
+        x: x,
+        left: h.left - 1,
+        step: step,
+    }
+}
+
+// The run up to the first bucket whose lines are named, or to the last bucket heard if none are.
+fn seek(image: &[u8], count: u64, tag: u64, t: u64) -> Heard
+    requires { ⌜ (t < count) × ((count ≤ 99999) × (240 * count ≤ length (now image))) ⌝ }
+    ensures { λ r.
+        ⌜ WasHeard (now (image .entry)) count r ×
+        (wholeRun (now (image .entry)) count tag t ≡ runOn (now (image .entry)) count r []) ⌝ }
+{
+    let l = Listener::new(tag);
+    let step = hear(image, t, l);
+    let mut h = Heard {
+        x: t,
+        left: STEPS - 1,
+        step: step,
+    };
+    while 0 < h.left {
+        let r = h.step;
+        if r.count != 0 {
+            return h;
+        }
         let answer = r.answer;
-        l = next;
-        lines += r.count;
         match answer {
             Answer::Doze(d) => {
-                x = (x + d) % count;
+                h = hear_next(image, count, h, d);
             }
             Answer::Found => {
-                return Finish::Found(l, lines);
+                return h;
             }
             Answer::Absent => {
-                return Finish::Absent(l);
+                return h;
             }
-            Answer::Refused(number) => {
-                return Finish::Refused(number, x);
+            Answer::Refused(_) => {
+                return h;
             }
         }
-        budget -= 1;
     }
-    Finish::Refused(10, x)
+    h
+}
+
+// The rest of the run, which counts the lines.
+fn run(image: &[u8], count: u64, heard: Heard) -> Finish
+    requires { ⌜ (count ≤ 99999) × (240 * count ≤ length (now image)) ⌝ }
+    requires { ⌜ WasHeard (now image) count heard ⌝ }
+    ensures { λ r. ⌜ r ≡ asFinish (runOn (now (image .entry)) count heard []) ⌝ }
+{
+    let mut h = heard;
+    let mut lines: u64 = 0;
+    loop {
+        let r = h.step;
+        lines += r.count;
+        let next = r.listener;
+        let answer = r.answer;
+        match answer {
+            Answer::Doze(d) => {
+                if h.left == 0 {
+                    return Finish::Refused(10, (h.x + d) % count);
+                }
+                h = hear_next(image, count, h, d);
+            }
+            Answer::Found => {
+                return Finish::Found(next, lines);
+            }
+            Answer::Absent => {
+                return Finish::Absent(next);
+            }
+            Answer::Refused(number) => {
+                return Finish::Refused(number, h.x);
+            }
+        }
+    }
 }
 
 // The 26 columns of part from place `from` on, and a newline, to place `to` of out.
@@ -132,28 +193,28 @@ fn copy_named(image: &[u8], x: u64, first: u64, count: u64, out: &mut [u8], line
     );
 }
 
-// The same run again, which writes the lines.
-fn write_found(image: &[u8], count: u64, tag: u64, t: u64, out: &mut [u8])
-    requires { ⌜ (t < count) × ((count ≤ 99999) × (240 * count ≤ length (now image))) ⌝ }
-    requires { ⌜ Finds (wholeRun (now image) count tag t) (length (now out)) ⌝ }
+// The same rest of the run again, which writes the lines.
+fn write_found(image: &[u8], count: u64, heard: Heard, out: &mut [u8])
+    requires { ⌜ (count ≤ 99999) × (240 * count ≤ length (now image)) ⌝ }
+    requires { ⌜ WasHeard (now image) count heard ⌝ }
+    requires { ⌜ Finds (runOn (now image) count heard []) (length (now out)) ⌝ }
     ensures { λ _.
         ⌜ now (out .exit) ≡
-        put (now (out .entry)) 0 (joined printLine (gotBy (wholeRun (now (image .entry)) count tag t))) ⌝ }
+        put (now (out .entry)) 0 (joined printLine (gotBy (runOn (now (image .entry)) count heard []))) ⌝ }
 {
-    let mut l = Listener::new(tag);
-    let mut x = t;
+    let mut h = heard;
     let mut lines: u64 = 0;
-    let mut budget = BUDGET;
-    while 0 < budget {
-        let r = hear(image, x, l);
-        let next = r.listener;
-        let answer = r.answer;
-        copy_named(image, x, r.first, r.count, out, lines);
-        l = next;
+    loop {
+        let r = h.step;
+        copy_named(image, h.x, r.first, r.count, out, lines);
         lines += r.count;
+        let answer = r.answer;
         match answer {
             Answer::Doze(d) => {
-                x = (x + d) % count;
+                if h.left == 0 {
+                    return;
+                }
+                h = hear_next(image, count, h, d);
             }
             Answer::Found => {
                 return;
@@ -165,7 +226,6 @@ fn write_found(image: &[u8], count: u64, tag: u64, t: u64, out: &mut [u8])
                 return;
             }
         }
-        budget -= 1;
     }
 }
 
@@ -183,13 +243,14 @@ pub fn lookup(image: &[u8], tag: u64, t: u64, out: &mut [u8]) -> Looked
     if count <= t {
         return Looked::Refused(12, 0);
     }
-    let finish = run(image, count, tag, t);
+    let heard = seek(image, count, tag, t);
+    let finish = run(image, count, heard);
     match finish {
         Finish::Found(l, lines) => {
             if ((out.len() / Listener::LINE) as u64) < lines {
                 return Looked::Refused(7, 0);
             }
-            write_found(image, count, tag, t, out);
+            write_found(image, count, heard, out);
             Looked::Found {
                 heard: l.heard(),
                 elapsed: l.elapsed(),

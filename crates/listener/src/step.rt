@@ -18,10 +18,23 @@ ghost use Rattle.buckets.specs.Bucket.{Body, Bucket, dataBody, readBucket};
 ghost use Rattle.buckets.specs.Held.{bucketWith, indexOf, asReading};
 ghost use Rattle.listener.specs.Listener.{start, isEnded, isIndex, countsFit, ended, stepped, refused, refusedEnded, heardWith};
 ghost use Rattle.listener.specs.Listener.{elapsedWith, tunedWith, awaited, dozes, decided, bodyChoice, dataChoice, take, takeRead, step};
-ghost use Rattle.listener.specs.OnReading.{Counts, SoundHead, SoundIndex, WasRead, taggedLines};
+ghost use Rattle.listener.specs.OnReading.{isTuneIn, Counts, SoundHead, SoundIndex, WasRead, taggedLines};
 
 // The largest number that a listener's counts keep to.
 const LARGEST: u64 = 4294967295;
+
+// Whether the tune-in bucket is awaited.
+fn is_tune_in(phase: Phase) -> bool
+    ensures { λ r. ⌜ r ≡ isTuneIn phase ⌝ }
+{
+    match phase {
+        Phase::TuneIn => true,
+        Phase::Index => false,
+        Phase::Either => false,
+        Phase::Data => false,
+        Phase::Ended => false,
+    }
+}
 
 // Whether nothing is awaited any more.
 fn is_ended(phase: Phase) -> bool
@@ -217,11 +230,15 @@ impl Listener {
         if first != 0 {
             return self.doze_by(h, first, Phase::Index, 0, 0);
         }
-        let later = choose::pair_below(self.tag, x);
+        let pair_tags = x.pair_tags;
+        let pair_distances = x.pair_distances;
+        let later = choose::pair_below(self.tag, x.pairs, pair_tags, pair_distances);
         if later != 0 {
             return self.doze_by(h, later, Phase::Index, 0, 0);
         }
-        let entry = choose::entry_from(self.tag, x);
+        let entry_tags = x.entry_tags;
+        let entry_distances = x.entry_distances;
+        let entry = choose::entry_from(self.tag, x.entries, entry_tags, entry_distances);
         if entry != 0 {
             return self.doze_by(h, entry, Phase::Either, 0, 0);
         }
@@ -264,13 +281,10 @@ impl Listener {
             return self.refused(9);
         }
         let phase = self.phase;
-        match phase {
-            Phase::TuneIn => self.doze_by(h, h.to_segment, Phase::Index, 0, 0),
-            Phase::Index => self.index_step(h, x),
-            Phase::Either => self.index_step(h, x),
-            Phase::Data => self.index_step(h, x),
-            Phase::Ended => self.end_by(Answer::Absent, 0, 0),
+        if is_tune_in(phase) {
+            return self.doze_by(h, h.to_segment, Phase::Index, 0, 0);
         }
+        self.index_step(h, x)
     }
 
     // A data bucket that was read: 9, the tune-in, or its choice.
@@ -284,13 +298,10 @@ impl Listener {
             return self.refused(9);
         }
         let phase = self.phase;
-        match phase {
-            Phase::TuneIn => self.doze_by(h, h.to_segment, Phase::Index, 0, 0),
-            Phase::Index => self.data_step(h, follow_on, count, tags),
-            Phase::Either => self.data_step(h, follow_on, count, tags),
-            Phase::Data => self.data_step(h, follow_on, count, tags),
-            Phase::Ended => self.end_by(Answer::Absent, 0, 0),
+        if is_tune_in(phase) {
+            return self.doze_by(h, h.to_segment, Phase::Index, 0, 0);
         }
+        self.data_step(h, follow_on, count, tags)
     }
 
     // What was read: 8, or the bucket of its kind.

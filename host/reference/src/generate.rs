@@ -36,8 +36,8 @@ impl Random {
         self.below(limit.min(10u64.pow(digits as u32)))
     }
 
-    fn pick<'a, T>(&mut self, choices: &'a [T]) -> &'a T {
-        &choices[self.below(choices.len() as u64) as usize]
+    pub fn pick<T: Copy>(&mut self, choices: &[T]) -> T {
+        choices[self.below(choices.len() as u64) as usize]
     }
 }
 
@@ -78,7 +78,7 @@ pub fn alter(random: &mut Random, bytes: &mut [u8]) {
     while bytes[at] == old {
         bytes[at] = match random.below(8) {
             0 => random.below(256) as u8,
-            1 | 2 => *random.pick(b" \nID0\0:/"),
+            1 | 2 => random.pick(b" \nID0\0:/"),
             3 => b' ',
             _ => b'0' + random.below(10) as u8,
         };
@@ -97,7 +97,7 @@ pub fn damaged_list(random: &mut Random, list: &[u8]) -> Vec<u8> {
     match random.below(8) {
         // A cut or a longer list.
         0 => list.truncate(list.len() - 1 - random.below(LINE as u64 - 1) as usize),
-        1 => list.push(*random.pick(b" 0\n")),
+        1 => list.push(random.pick(b" 0\n")),
         // Two lines change places.
         2 | 3 => (0..LINE).for_each(|i| list.swap(at + i, other + i)),
         // A field that is too large, blank, or not right-justified.
@@ -106,7 +106,7 @@ pub fn damaged_list(random: &mut Random, list: &[u8]) -> Vec<u8> {
             list[at..at + LINE].copy_from_slice(large.as_bytes());
         }
         5 => {
-            let &(from, to) = random.pick(&[(0, 10), (10, 16), (16, 20), (20, 26)]);
+            let (from, to) = random.pick(&[(0, 10), (10, 16), (16, 20), (20, 26)]);
             match random.below(3) {
                 0 => list[at + from..at + to].fill(b' '),
                 1 => list[at + from..at + to].fill(b'0'),
@@ -151,7 +151,7 @@ pub fn damaged_image(random: &mut Random, image: &[u8]) -> Vec<u8> {
         }
         8 => {
             let number = format!("{:>6}", random.below(2 * buckets + 2));
-            let &field = random.pick(&[0, 6, 12, 18, 39, 55, 71, 103, 119, 135, 151]);
+            let field = random.pick(&[0, 6, 12, 18, 39, 55, 71, 103, 119, 135, 151]);
             image[at + field..at + field + 6].copy_from_slice(number.as_bytes());
         }
         // A few bytes are altered.

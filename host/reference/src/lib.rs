@@ -14,6 +14,7 @@ pub mod literal;
 mod lookup;
 mod print;
 mod read_back;
+pub mod yards;
 
 pub use bucket::BUCKET;
 pub use build::build;

@@ -2,8 +2,9 @@
 
 mod common;
 
-use common::{build_into, image_of, legal_copies, levels};
-use reference::generate::{damaged_list, list, list_from, Random};
+use common::build_into;
+use reference::generate::{list, Random};
+use reference::yards::{damaged_building, image_of, legal_copies, levels};
 use reference::{literal, Cycle, Refusal};
 
 const ROOM: usize = 240 * 99_999;
@@ -21,7 +22,7 @@ fn small_lists_and_all_settings() {
         for n in 2..=8 {
             for p in 1..=8 {
                 for settings in legal_copies(lines, n, p) {
-                    let spread = [0, 1, 1, 2, 100, 100_000_000][random.below(6) as usize];
+                    let spread = random.pick(&[0, 1, 1, 2, 100, 100_000_000]);
                     let list = list(random, lines, spread);
                     // Room to spare, just enough, one byte too little.
                     let length = image_of(&list, settings).len();
@@ -74,13 +75,7 @@ fn damaged_lists() {
     let random = &mut Random::new(4);
     let mut refused = [0; 15];
     for _ in 0..20_000 {
-        let lines = random.below(12);
-        let start = [0, 0, 4_294_967_290][random.below(3) as usize];
-        let spread = random.below(3);
-        let good = list_from(random, lines, start, spread);
-        let list = damaged_list(random, &good);
-        let settings = [2 + random.below(8), 1 + random.below(9), random.below(4), random.below(4)];
-        let room = 240 * random.below(20) as usize;
+        let (list, settings, room) = damaged_building(random);
         compare(&list, settings, room);
         if let Err(refusal) = build_into(&list, settings, room) {
             refused[refusal.number as usize] += 1;

@@ -2,8 +2,9 @@
 
 mod common;
 
-use common::{image_of, legal_copies, levels, lookup_into, tags};
-use reference::generate::{damaged_image, list, list_from, list_of, Random};
+use common::lookup_into;
+use reference::generate::{list, list_from, list_of, Random};
+use reference::yards::{damaged_cycle, image_of, legal_copies, levels, tags, tags_around};
 use reference::{literal, Answer, Listener, Looked, Refusal};
 
 /// One hearing over a cycle, held against the list.
@@ -59,17 +60,6 @@ fn hear(list: &[u8], image: &[u8], [n, p, ..]: [u64; 4], tag: u64, tune_in: u64)
         let short = lookup_into(image, tag, tune_in, ours.len() - 1);
         assert_eq!(short, Err(Refusal { number: 7, place: 0 }));
     }
-}
-
-/// Every tag of the list, those next to it, 0, and tags above all.
-fn tags_around(list: &[u8]) -> Vec<u64> {
-    let mut around = vec![0, 4_294_967_295, 4_294_967_296, u64::MAX];
-    for tag in tags(list) {
-        around.extend([tag.saturating_sub(1), tag, tag + 1]);
-    }
-    around.sort();
-    around.dedup();
-    around
 }
 
 fn hear_all(list: &[u8], settings: [u64; 4]) {
@@ -144,18 +134,7 @@ fn damaged_images() {
     let random = &mut Random::new(4);
     let mut ends = [0; 15];
     for _ in 0..20_000 {
-        let lines = random.below(16);
-        let spread = random.below(3);
-        let list = list(random, lines, spread);
-        let (n, p) = (2 + random.below(7), 1 + random.below(4));
-        let legal = legal_copies(lines, n, p);
-        let settings = legal[random.below(legal.len() as u64) as usize];
-        let mut image = image_of(&list, settings);
-        for _ in 0..random.below(4) {
-            if !image.is_empty() {
-                image = damaged_image(random, &image);
-            }
-        }
+        let image = damaged_cycle(random, 16, 4);
         let buckets = (image.len() / 240) as u64;
         for _ in 0..3 {
             let tag = random.below(20);

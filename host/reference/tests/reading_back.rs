@@ -2,8 +2,9 @@
 
 mod common;
 
-use common::{image_of, legal_copies, read_back_into};
+use common::read_back_into;
 use reference::generate::{damaged_image, list, Random};
+use reference::yards::{image_of, legal_copies, legal_settings, SMALL};
 use reference::{literal, Refusal};
 
 /// More than the lines of any image here need.
@@ -16,7 +17,7 @@ fn inverts_building() {
         for n in 2..=8 {
             for p in 1..=8 {
                 for settings in legal_copies(lines, n, p) {
-                    let spread = [0, 1, 3, 1_000_000][random.below(4) as usize];
+                    let spread = random.pick(&[0, 1, 3, 1_000_000]);
                     let list = list(random, lines, spread);
                     let image = image_of(&list, settings);
                     for room in [list.len(), list.len() + 100] {
@@ -54,16 +55,7 @@ fn compare(image: &[u8], [n, p, layout, copies]: [u64; 4], room: usize) -> bool 
 fn single_bytes() {
     let random = &mut Random::new(3);
     let mut accepted = 0;
-    for (lines, settings) in [
-        (0, [2, 1, 1, 0]),
-        (0, [5, 3, 2, 1]),
-        (1, [2, 1, 1, 0]),
-        (5, [2, 1, 1, 1]),
-        (5, [2, 2, 2, 2]),
-        (9, [2, 1, 1, 2]),
-        (23, [3, 3, 1, 1]),
-        (17, [8, 8, 2, 3]),
-    ] {
+    for (lines, settings) in SMALL {
         let list = list(random, lines, 2);
         let image = image_of(&list, settings);
         for place in 0..image.len() {
@@ -86,9 +78,7 @@ fn damaged_images_and_other_settings() {
     for _ in 0..6_000 {
         let lines = random.below(20);
         let list = list(random, lines, 1);
-        let (n, p) = (2 + random.below(7), 1 + random.below(8));
-        let legal = legal_copies(lines, n, p);
-        let settings = legal[random.below(legal.len() as u64) as usize];
+        let settings = legal_settings(random, lines);
         let mut image = image_of(&list, settings);
         if random.below(2) == 0 {
             image = damaged_image(random, &image);

@@ -70,21 +70,7 @@ fn table() {
         assert!(found);
         table += &format!("{tune_in:>6}{heard:>6}{elapsed:>6}{lines:>6}\n");
     }
-    let expected = "
-     0     7    19     2
-     1     7    18     2
-     2     7    17     2
-     3     7    16     2
-     4     7    15     2
-     5     7    14     2
-     6     7    13     2
-     7     7    12     2
-     8     6    11     2
-     9     6    10     2
-    10     6     9     2
-    11     6     8     2
-";
-    assert_eq!(table, expected[1..]);
+    assert_eq!(table, include_str!("../../sample/table"));
 }
 
 #[test]

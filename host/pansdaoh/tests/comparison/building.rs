@@ -1,6 +1,7 @@
-use reference::generate::{damaged_list, list, list_from, list_of, Random};
+use reference::generate::{list, list_of, Random};
+use reference::yards::{damaged_building, image_of, legal_copies};
 
-use crate::compare::{build, each_alteration, image_of, legal_copies, pick};
+use crate::compare::{build, each_alteration};
 
 #[test]
 fn small_lists_and_all_settings() {
@@ -9,7 +10,7 @@ fn small_lists_and_all_settings() {
         for n in 2..=8 {
             for p in 1..=8 {
                 for settings in legal_copies(lines, n, p) {
-                    let spread = pick(random, &[0, 1, 1, 2, 100, 100_000_000]);
+                    let spread = random.pick(&[0, 1, 1, 2, 100, 100_000_000]);
                     let list = list(random, lines, spread);
                     let length = image_of(&list, settings).len();
                     // Room to spare, just enough, one byte too little, none.
@@ -56,7 +57,7 @@ fn any_settings() {
         for n in numbers {
             for p in numbers {
                 for layout in [0, 1, 2, 3, (1 << 32) + 1, u64::MAX] {
-                    build(&list, [n, p, layout, pick(random, &numbers)], 240 * 400);
+                    build(&list, [n, p, layout, random.pick(&numbers)], 240 * 400);
                 }
             }
         }
@@ -74,13 +75,7 @@ fn damaged_lists() {
     let random = &mut Random::new(4);
     let mut refused = [0; 15];
     for _ in 0..20_000 {
-        let lines = random.below(12);
-        let start = pick(random, &[0, 0, 4_294_967_290]);
-        let spread = random.below(3);
-        let good = list_from(random, lines, start, spread);
-        let list = damaged_list(random, &good);
-        let settings = [2 + random.below(8), 1 + random.below(9), random.below(4), random.below(4)];
-        let room = 240 * random.below(20) as usize;
+        let (list, settings, room) = damaged_building(random);
         refused[build(&list, settings, room).number as usize] += 1;
     }
     for number in [0, 1, 2, 3, 4, 5, 7] {

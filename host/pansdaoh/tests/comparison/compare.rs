@@ -1,11 +1,8 @@
 //! Calls made of both sides, with lent buffers that show what was touched.
 
 use pansdaoh::calls::{self, Answer, Found};
-use reference::generate::Random;
-use reference::{Cycle, Refusal};
-
-/// Settings: n, p, layout, copies.
-pub type Settings = [u64; 4];
+use reference::yards::Settings;
+use reference::Refusal;
 
 /// Bytes before and behind a lent buffer.
 const AROUND: usize = 41;
@@ -107,55 +104,6 @@ pub fn lookup_lent(image: &[u8], tag: u64, tune_in: u64, room: usize) -> Found {
     assert_eq!(found, expected_found, "tag {tag}, tune-in {tune_in}");
     assert!(lent.holds(&expected), "tag {tag}, tune-in {tune_in}");
     found
-}
-
-/// The image of a valid list, by the reference.
-pub fn image_of(list: &[u8], [n, p, layout, copies]: Settings) -> Vec<u8> {
-    let cycle = Cycle::new((list.len() / 27) as u64, n, p, layout, copies).unwrap();
-    let mut image = vec![0; 240 * cycle.buckets() as usize];
-    reference::build(list, n, p, layout, copies, &mut image).unwrap();
-    image
-}
-
-/// All legal settings of n and p for so many lines; of the (1,m) cycles those
-/// with few parts, with parts of one data bucket, and some between.
-pub fn legal_copies(lines: u64, n: u64, p: u64) -> Vec<Settings> {
-    let data = lines.div_ceil(p);
-    let levels = (1..).find(|&k| n.pow(k) >= data).unwrap() as u64;
-    let mut settings: Vec<Settings> = (0..=4.min(levels - 1)).map(|r| [n, p, 1, r]).collect();
-    let mut parts = vec![1, 2, 3, 5, data / 2, data.saturating_sub(1), data];
-    parts.retain(|&m| 1 <= m && m <= data.max(1));
-    parts.sort();
-    parts.dedup();
-    settings.extend(parts.iter().map(|&m| [n, p, 2, m]));
-    settings
-}
-
-/// One of the legal settings for so many lines.
-pub fn legal_settings(random: &mut Random, lines: u64) -> Settings {
-    let (n, p) = (2 + random.below(7), 1 + random.below(8));
-    pick(random, &legal_copies(lines, n, p))
-}
-
-pub fn pick<T: Copy>(random: &mut Random, choices: &[T]) -> T {
-    choices[random.below(choices.len() as u64) as usize]
-}
-
-/// The tags of a list.
-pub fn tags(list: &[u8]) -> Vec<u64> {
-    let tag = |line: &[u8]| std::str::from_utf8(&line[..10]).unwrap().trim().parse().unwrap();
-    list.chunks(27).map(tag).collect()
-}
-
-/// Every tag of the list, those next to it, 0, and tags above all.
-pub fn tags_around(list: &[u8]) -> Vec<u64> {
-    let mut around = vec![0, 4_294_967_295, 4_294_967_296, u64::MAX];
-    for tag in tags(list) {
-        around.extend([tag.saturating_sub(1), tag, tag + 1]);
-    }
-    around.sort();
-    around.dedup();
-    around
 }
 
 /// Every byte of some bytes, altered in turn to each of 256 and set back.

@@ -1,8 +1,9 @@
 //! The longest lists and cycles.
 
 use reference::generate::{alter, damaged_image, list, list_of, Random};
+use reference::yards::{image_of, tags, Settings};
 
-use crate::compare::{build, image_of, lookup_lent, pick, read_back, tags, Settings};
+use crate::compare::{build, lookup_lent, read_back};
 
 const IMAGE_ROOM: usize = 240 * 99_999;
 const LIST_ROOM: usize = 27 * 40_000;
@@ -51,9 +52,9 @@ fn check(random: &mut Random, list: &[u8], settings: Settings) {
     let tags = tags(list);
     let buckets = (image.len() / 240) as u64;
     for _ in 0..500 {
-        let tag = pick(random, &tags) + random.below(2);
+        let tag = random.pick(&tags) + random.below(2);
         let any = random.below(buckets);
-        let tune_in = pick(random, &[0, buckets - 1, any, any]);
+        let tune_in = random.pick(&[0, buckets - 1, any, any]);
         assert_eq!(lookup_lent(&image, tag, tune_in, 27 * 60).number, 0);
     }
     let mut altered = image.clone();
@@ -63,7 +64,7 @@ fn check(random: &mut Random, list: &[u8], settings: Settings) {
         read_back(&image, settings, LIST_ROOM);
         let buckets = (image.len() / 240) as u64;
         for _ in 0..100 {
-            lookup_lent(&image, pick(random, &tags), random.below(buckets), 27 * 60);
+            lookup_lent(&image, random.pick(&tags), random.below(buckets), 27 * 60);
         }
     }
 }

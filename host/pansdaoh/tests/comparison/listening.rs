@@ -1,8 +1,9 @@
 use pansdaoh::calls::{self, State, Step};
-use reference::generate::{alter, damaged_image, list, Random};
+use reference::generate::{alter, list, Random};
+use reference::yards::{damaged_cycle, image_of};
 use reference::{Answer, Listener};
 
-use crate::compare::{each_alteration, image_of, legal_settings, pick};
+use crate::compare::each_alteration;
 
 /// A listener of each side.
 #[derive(Clone)]
@@ -70,16 +71,7 @@ fn hearings() {
     let random = &mut Random::new(1);
     let mut refused = [0; 15];
     for _ in 0..30_000 {
-        let lines = random.below(20);
-        let spread = random.below(3);
-        let list = list(random, lines, spread);
-        let settings = legal_settings(random, lines);
-        let mut image = image_of(&list, settings);
-        for _ in 0..random.below(3) {
-            if !image.is_empty() {
-                image = damaged_image(random, &image);
-            }
-        }
+        let image = damaged_cycle(random, 20, 3);
         let buckets = image.len() / 240;
         if buckets == 0 {
             continue;
@@ -198,7 +190,7 @@ fn any_state() {
 fn any_number(random: &mut Random) -> u64 {
     let large = random.below(1 << 32) << 32 | random.below(1 << 32);
     let small = random.below(30);
-    pick(random, &[small, small, small, large, u64::MAX - small, (1 << 32) - 2 + small % 4])
+    random.pick(&[small, small, small, large, u64::MAX - small, (1 << 32) - 2 + small % 4])
 }
 
 /// The wrapper says what the calls say.

@@ -1,8 +1,7 @@
-use reference::generate::{damaged_image, list, list_from, Random};
+use reference::generate::{list, list_from, Random};
+use reference::yards::{damaged_cycle, image_of, legal_copies, legal_settings, tags_around};
 
-use crate::compare::{
-    image_of, legal_copies, legal_settings, lookup, lookup_lent, pick, tags_around,
-};
+use crate::compare::{lookup, lookup_lent};
 
 /// Every tag around and every tune-in.
 #[test]
@@ -12,8 +11,8 @@ fn small_lists() {
         for n in [2, 3, 4, 8] {
             for p in [1, 2, 3, 8] {
                 for settings in legal_copies(lines, n, p) {
-                    let spread = pick(random, &[0, 1, 1, 2]);
-                    let start = pick(random, &[0, 0, 7, 4_294_967_290]);
+                    let spread = random.pick(&[0, 1, 1, 2]);
+                    let start = random.pick(&[0, 0, 7, 4_294_967_290]);
                     let list = list_from(random, lines, start, spread);
                     let image = image_of(&list, settings);
                     for tag in tags_around(&list) {
@@ -57,16 +56,7 @@ fn damaged_images() {
     let random = &mut Random::new(3);
     let mut refused = [0; 15];
     for _ in 0..20_000 {
-        let lines = random.below(16);
-        let spread = random.below(3);
-        let list = list(random, lines, spread);
-        let settings = legal_settings(random, lines);
-        let mut image = image_of(&list, settings);
-        for _ in 0..random.below(4) {
-            if !image.is_empty() {
-                image = damaged_image(random, &image);
-            }
-        }
+        let mut image = damaged_cycle(random, 16, 4);
         if random.below(40) == 0 {
             image.truncate(random.below(image.len() as u64 + 1) as usize);
         }
@@ -75,7 +65,7 @@ fn damaged_images() {
             let tag = random.below(20);
             let mut tune_in = random.below(10 * buckets + 1) % (buckets + 1);
             if random.below(50) == 0 {
-                tune_in = pick(random, &[buckets, buckets + 1, 1 << 32, 1 << 63, u64::MAX]);
+                tune_in = random.pick(&[buckets, buckets + 1, 1 << 32, 1 << 63, u64::MAX]);
             }
             let room = 27 * random.below(8) as usize;
             refused[lookup(&image, tag, tune_in, room).number as usize] += 1;

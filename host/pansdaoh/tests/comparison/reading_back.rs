@@ -1,6 +1,7 @@
 use reference::generate::{damaged_image, list, Random};
+use reference::yards::{image_of, legal_copies, legal_settings, SMALL};
 
-use crate::compare::{image_of, legal_copies, legal_settings, pick, read_back};
+use crate::compare::read_back;
 
 /// More than the lines of any image here need.
 const ROOM: usize = 27 * 3_000;
@@ -12,7 +13,7 @@ fn inverts_building() {
         for n in 2..=8 {
             for p in 1..=8 {
                 for settings in legal_copies(lines, n, p) {
-                    let spread = pick(random, &[0, 1, 3, 1_000_000]);
+                    let spread = random.pick(&[0, 1, 3, 1_000_000]);
                     let list = list(random, lines, spread);
                     let image = image_of(&list, settings);
                     assert_eq!(read_back(&image, settings, list.len()).number, 0);
@@ -32,16 +33,7 @@ fn inverts_building() {
 fn single_bytes() {
     let random = &mut Random::new(2);
     let mut accepted = 0;
-    for (lines, settings) in [
-        (0, [2, 1, 1, 0]),
-        (0, [5, 3, 2, 1]),
-        (1, [2, 1, 1, 0]),
-        (5, [2, 1, 1, 1]),
-        (5, [2, 2, 2, 2]),
-        (9, [2, 1, 1, 2]),
-        (23, [3, 3, 1, 1]),
-        (17, [8, 8, 2, 3]),
-    ] {
+    for (lines, settings) in SMALL {
         let image = image_of(&list(random, lines, 2), settings);
         let mut altered = image.clone();
         for place in 0..image.len() {
@@ -74,7 +66,7 @@ fn damaged_images_and_other_settings() {
         let room = 27 * random.below(22) as usize;
         refused[read_back(&image, settings, room).number as usize] += 1;
         let mut other = settings;
-        other[random.below(4) as usize] = pick(random, &[0, 1, 2, 3, 4, 5, 8, 9, u64::MAX]);
+        other[random.below(4) as usize] = random.pick(&[0, 1, 2, 3, 4, 5, 8, 9, u64::MAX]);
         refused[read_back(&image, other, room).number as usize] += 1;
     }
     for number in [0, 1, 7, 11, 13] {

@@ -2,20 +2,8 @@ use reference::generate::{list, list_of, Random};
 
 use crate::run::{Folder, R1};
 
-const TABLE: &str = "
-     0     7    19     2
-     1     7    18     2
-     2     7    17     2
-     3     7    16     2
-     4     7    15     2
-     5     7    14     2
-     6     7    13     2
-     7     7    12     2
-     8     6    11     2
-     9     6    10     2
-    10     6     9     2
-    11     6     8     2
-";
+/// Document 01's table of tag 5.
+const TABLE: &str = include_str!("../../../sample/table");
 
 #[test]
 fn builds() {
@@ -86,7 +74,7 @@ fn looks_up() {
 #[test]
 fn prints_the_table() {
     let folder = Folder::sample_yard("prints_the_table");
-    assert_eq!(folder.tares("table image 5").done(), TABLE[1..]);
+    assert_eq!(folder.tares("table image 5").done(), TABLE);
     let absent = folder.tares("table image 10").done();
     assert_eq!(absent.lines().count(), 12);
     assert_eq!(absent.lines().nth(3), Some("     3     2     6     0"));
@@ -107,7 +95,7 @@ fn standard_input_and_output() {
     assert!(read.out == list);
     let found = folder.tares_given("lookup - 9 --tune-in 0", &built.out).done();
     assert_eq!(found.lines().next(), Some("found, heard 5, elapsed 12, lines 1"));
-    assert_eq!(folder.tares_given("table - 5", &built.out).done(), TABLE[1..]);
+    assert_eq!(folder.tares_given("table - 5", &built.out).done(), TABLE);
     assert!(folder.names().is_empty());
 }
 

@@ -19,56 +19,56 @@ use Rattle.cycle.proofs.index.pair_distances.Statement.{statement}
 use Rattle.cycle.proofs.index.pair_distances.Tie as tie
 
 abbrev Inv-loop : tie.InvT-loop
-Inv-loop b i x f distances₀ level₀ distances level =
+Inv-loop f b i x distances₀ level₀ distances level =
     (2 ≤ level)
     × (level ≤ i + 1)
     × (distances
     ≡ filled 4 ((f .size - x) ∷ map (λ j. pairReach (planOf f []) (f .size) x j (placeOver (planOf f []) b j)) (range 2 level)))
 
 abbrev μ-loop : tie.MeasureT-loop
-μ-loop b i x f distances₀ level₀ distances level = i + 1 - level
+μ-loop f b i x distances₀ level₀ distances level = i + 1 - level
 
-one : (c : tie.Start Inv-loop μ-loop) → c .args .t1 .layout ≡ 1
+one : (c : tie.Start Inv-loop μ-loop) → c .args .f .layout ≡ 1
 unfolding planOf
 one c = c .pre .3 .distributed
 
-bounds : (c : tie.Start Inv-loop μ-loop) → (c .args .t1 .copies ≤ 4) × (c .args .t1 .copies + 1 ≤ c .args .t1 .k) × (c .args .t1 .k ≤ 16)
-bounds c = few-copies (c .args .t1) (c .pre .0) (one c)
+bounds : (c : tie.Start Inv-loop μ-loop) → (c .args .f .copies ≤ 4) × (c .args .f .copies + 1 ≤ c .args .f .k) × (c .args .f .k ≤ 16)
+bounds c = few-copies (c .args .f) (c .pre .0) (one c)
 
-high : (c : tie.Start Inv-loop μ-loop) → c .args .i ≤ c .args .t1 .copies
+high : (c : tie.Start Inv-loop μ-loop) → c .args .i ≤ c .args .f .copies
 unfolding planOf
 high c = c .pre .3 .high
 
-sub-t11 : tie.Need-sub-t11 Inv-loop μ-loop
-sub-t11 c = omega arith
+sub-t9 : tie.Need-sub-t9 Inv-loop μ-loop
+sub-t9 c = omega arith
 
 loop-holds : tie.Need-loop-holds Inv-loop μ-loop
 unfolding filled planOf
-loop-holds c = (
-  omega arith,
-  omega (arith, c .pre .3 .top, pathTop-low (c .args .t1 .n) (c .args .t1 .copies) (c .args .b)),
-  refl,
-)
+loop-holds c =
+    let s = c .before in (
+      omega arith,
+      omega (arith, s .pre .3 .top, pathTop-low (s .args .f .n) (s .args .f .copies) (s .args .b)),
+      refl,
+    )
 
 add-h : tie.Need-add-h Inv-loop μ-loop
-add-h c = omega (arith, bounds (c .before .before) .0)
+add-h c = omega (arith, bounds (c .before .before .before .before) .0)
 
 sub-h : tie.Need-sub-h Inv-loop μ-loop
-sub-h c = omega (arith, high (c .before .before))
+sub-h c = omega (arith, high (c .before .before .before .before))
 
 sub-at : tie.Need-sub-at Inv-loop μ-loop
 sub-at c = omega arith
 
-mul-pair-distance : tie.Need-mul-pair-distance Inv-loop μ-loop
-mul-pair-distance c = omega (arith, bounds (c .before .before) .0)
-
-element-copy-out-pair-distance : tie.Need-element-copy-out-pair-distance Inv-loop μ-loop
-element-copy-out-pair-distance c = omega (arith, bounds (c .before .before) .0)
+power-requires : tie.Need-power-requires Inv-loop μ-loop
+power-requires c κs =
+    let s = c .before .before .before .before in
+    (s .pre .0 .shaped .n-low, s .pre .0 .shaped .n-high, omega (arith, bounds s .0))
 
 div-pair-distance : tie.Need-div-pair-distance Inv-loop μ-loop
 div-pair-distance c =
-    let s = c .before .before .before in
-    power-some (s .args .t1) (s .pre .0) (one s) (c .before .before .loop .level) (omega arith) (omega (arith, high s))
+    let s = c .before .before .before .before .before in
+    power-some (s .args .f) (s .pre .0) (one s) (c .before .before .before .loop .level) (omega arith) (omega (arith, high s)) (c .power .result) (c .power .ensures)
 
 -- the next bucket of the pair's level is ahead
 reaches :
@@ -84,13 +84,13 @@ reaches f ready d b i x j p low to more apart =
 
 pair-distance-requires : tie.Need-pair-distance-requires Inv-loop μ-loop
 pair-distance-requires c κs =
-    let s = c .before .before .before in
-    let f = s .args .t1 in
+    let s = c .before .before .before .before .before in
+    let f = s .args .f in
     let b : ℕ = s .args .b in
-    let level : ℕ = c .before .before .loop .level in
+    let level : ℕ = c .before .before .before .loop .level in
     let low : 1 ≤ level = omega arith in
     let end : level ≤ f .copies + 1 = omega (arith, high s) in
-    let over = place-over f (s .pre .0) (one s) level low end [] b in (
+    let over = place-over f (s .pre .0) (one s) level low end [] b (c .power .result) (c .power .ensures) in (
       s .pre .0,
       s .pre .1,
       one s,
@@ -102,38 +102,39 @@ pair-distance-requires c κs =
     )
 
 mul-distances : tie.Need-mul-distances Inv-loop μ-loop
-mul-distances c = omega (arith, bounds (c .before .before .before .before) .0, high (c .before .before .before .before))
+mul-distances c = let s = c .before .before .before .before .before .before in omega (arith, bounds s .0, high s)
 
 array-write-distances : tie.Need-array-write-distances Inv-loop μ-loop
-array-write-distances c = omega (arith, bounds (c .before .before .before .before) .0, high (c .before .before .before .before))
+array-write-distances c = let s = c .before .before .before .before .before .before in omega (arith, bounds s .0, high s)
 
 add-level : tie.Need-add-level Inv-loop μ-loop
-add-level c = omega (arith, bounds (c .before .before .before .before) .0, high (c .before .before .before .before))
+add-level c = let s = c .before .before .before .before .before .before in omega (arith, bounds s .0, high s)
 
 loop-less : tie.Need-loop-less Inv-loop μ-loop
 loop-less c = omega arith
 
 loop-again : tie.Need-loop-again Inv-loop μ-loop
 loop-again c =
-    let s = c .before .before .before .before in
-    let l = c .before .before .before .loop in
-    let f = s .args .t1 in
+    let s = c .before .before .before .before .before .before in
+    let l = c .before .before .before .before .loop in
+    let f = s .args .f in
     let t = planOf f [] in
     let level : ℕ = l .level in (
       omega arith,
       omega arith,
       fill-turn-behind 4 (λ j. pairReach t (f .size) (s .args .x) j (placeOver t (s .args .b) j)) (f .size - s .args .x) level (c .pair-distance .result) (l .distances) (l .inv .2)
           (c .pair-distance .ensures
-          ∙ ap (pairReach t (f .size) (s .args .x) level) (place-over f (s .pre .0) (one s) level (omega arith) (omega (arith, high s)) [] (s .args .b)))
+          ∙ ap (pairReach t (f .size) (s .args .x) level)
+          (place-over f (s .pre .0) (one s) level (omega arith) (omega (arith, high s)) [] (s .args .b) (c .before .power .result) (c .before .power .ensures)))
           (omega arith) (omega (arith, bounds s .0, high s)),
     )
 
 returns : tie.Need-returns Inv-loop μ-loop
 unfolding pairDistances
 returns c =
-    let s = c .before .before in
+    let s = c .before .before .before in
     let l = c .before .loop in
-    let f = s .args .t1 in
+    let f = s .args .f in
     let t = planOf f [] in
     let all : l .level ≡ s .args .i + 1 = omega arith in
     l .inv .2
@@ -145,13 +146,12 @@ pair-distances-spec =
     (tie.spec
     Inv-loop
     μ-loop
-    sub-t11
+    sub-t9
     loop-holds
     add-h
     sub-h
     sub-at
-    mul-pair-distance
-    element-copy-out-pair-distance
+    power-requires
     div-pair-distance
     pair-distance-requires
     mul-distances

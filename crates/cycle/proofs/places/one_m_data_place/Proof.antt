@@ -1,10 +1,11 @@
 -- `cycle::places::one_m_data_place` meets its contract.
 -- Assumes nothing.
-use mathlib.Core.Path.{sym}
+use mathlib.Core.Path.{_≡_, sym, ap, _∙_}
 use Prim.Native.Nat.{_+_, _-_, _*_, _/_, _≤_}
 use native.Mathlib.Nat.{mul-le-mul}
 use native.Mathlib.Omega.{arith}
-use Rattle.cycle.proofs.Readiness.{Parts, parts, root-in}
+use Rattle.cycle.proofs.PlacedParts.{wholeTree}
+use Rattle.cycle.proofs.Readiness.{Parts, parts, whole-last}
 use Rattle.cycle.proofs.DataHeld.{InPart, data-in-part}
 use Rattle.cycle.proofs.places.one_m_data_place.Statement.{statement}
 use Rattle.cycle.proofs.places.one_m_data_place.Tie as tie
@@ -12,6 +13,9 @@ use Rattle.cycle.proofs.places.one_m_data_place.Tie as tie
 -- what is known at the start
 known : (c : tie.Start) → Parts (c .args .f)
 known c = parts (c .args .f) (c .pre .0 .shaped) (λ e. omega arith) (c .pre .0 .copies-fit)
+
+tree : (c : tie.Start) → c .args .f .last ≡ wholeTree (c .args .f)
+tree c = whole-last (c .args .f) (c .pre .0 .shaped) (c .pre .0 .trees) (λ e. omega arith)
 
 found : (c : tie.Start) → InPart (c .args .f) (c .args .q) (c .pre .0) (c .pre .2) (((c .args .q + 1) * c .args .f .copies - 1) / c .args .f .d)
 found c = data-in-part (c .args .f) (c .args .q) (c .pre .0) (c .pre .2) (λ e. omega arith)
@@ -38,34 +42,25 @@ div-part c = omega arith
 add-result : tie.Need-add-result
 add-result c = omega (arith, found (c .before .before) .among, known (c .before .before) .few)
 
-tree-size-requires : tie.Need-tree-size-requires
-tree-size-requires c κs = let start = c .before .before in (start .pre .0 .shaped, known start .low, root-in (start .args .f))
-
 mul-result : tie.Need-mul-result
 mul-result c =
     let start = c .before .before .before in
     let p = found start in
-    rw (c .tree-size .ensures) (omega (arith, p .is, p .ends, start .pre .0 .size-high))
+    rw (tree start) (omega (arith, p .is, p .ends, start .pre .0 .size-high))
 
 add-result-2 : tie.Need-add-result-2
 add-result-2 c =
     let start = c .before .before .before in
     let p = found start in
-    rw (c .tree-size .ensures) (omega (arith, p .is, p .ends, start .pre .0 .size-high))
+    rw (tree start) (omega (arith, p .is, p .ends, start .pre .0 .size-high))
 
 returns : tie.Need-returns
-returns c = rw (c .tree-size .ensures) (sym (found (c .before .before .before) .is))
+returns c =
+    let start = c .before .before .before in
+    let f = start .args .f in
+    ap (λ x. start .args .q + (((start .args .q + 1) * f .copies - 1) / f .d + 1) * x) (tree start) ∙ sym (found start .is)
 
 pub one-m-data-place-spec : {M : Type 1} → statement M
 one-m-data-place-spec =
     tie.close
-    (tie.spec
-    add-part
-    mul-part
-    sub-part
-    div-part
-    add-result
-    tree-size-requires
-    mul-result
-    add-result-2
-    returns)
+    (tie.spec add-part mul-part sub-part div-part add-result mul-result add-result-2 returns)

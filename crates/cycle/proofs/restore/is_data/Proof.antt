@@ -1,5 +1,5 @@
--- `cycle::restore::is_data` meets its contract: kind, head, number of lines and follow-on are those of the cycle's bucket x; the
--- lines are those that stand there.
+-- `cycle::restore::is_data` meets its contract: kind, head, number of lines and follow-on are those of the cycle's bucket x, and
+-- no tag falls from it to the next; the lines are those that stand there.
 -- Assumes nothing.
 use Prim.Native.Nat.{ℕ, _+_, _-_, _*_, _≤_, _<_, min}
 use mathlib.Core.Path.{_≡_, refl, sym, ap, _∙_}
@@ -8,23 +8,24 @@ use mathlib.Core.Option.{Option}
 use mathlib.Core.List.{[]}
 use native.Mathlib.Omega.{arith}
 use borrow.Author.Needs.{needs}
-use lib.ListN.{length}
+use lib.ListN.{length, getD}
 use Rattle.buckets.specs.declared.Head.{Head}
 use Rattle.buckets.specs.declared.Kind.{Kind}
 use Rattle.buckets.specs.declared.Kind.the-variants.{Index as KindIndex, Data as KindData, Misprinted as KindMisprinted}
 use Rattle.buckets.specs.declared.Reading.{Reading}
 use Rattle.buckets.specs.Bucket.{Bucket, readBucket, followOn}
 use Rattle.buckets.specs.Held.{headOf, asReading}
+use Rattle.cycle.specs.Tree.{lastTag}
 use Rattle.cycle.specs.declared.Source.the-variants.{Image as InImage}
 use Rattle.cycle.specs.Held.{planOf, planIn, cycleBucket}
-use Rattle.cycle.specs.Comparing.{Decides, bucketBytes, MatchesAt}
+use Rattle.cycle.specs.Comparing.{Decides, bucketBytes, RisesAt, MatchesAt}
 use Rattle.cycle.proofs.TreeLaws.{up-lt}
-use Rattle.cycle.proofs.SegmentParts.{Seated, data-there}
+use Rattle.cycle.proofs.SegmentParts.{Seated}
 use Rattle.cycle.proofs.TreePlaces.{head-asked, data-in}
 use Rattle.cycle.proofs.ImageLines.{part-bytes}
-use Rattle.cycle.proofs.Deciding.{decides-no, decides-not, decides-told, decides-by, decides-eqb}
-use Rattle.cycle.proofs.BucketsCompared.{DataFacts}
-use Rattle.cycle.proofs.Comparisons.{seats, room-at, data-below, data-bucket-decided}
+use Rattle.cycle.proofs.Deciding.{decides-no, decides-not, decides-told, decides-by}
+use Rattle.cycle.proofs.BucketsCompared.{DataFacts, last-known}
+use Rattle.cycle.proofs.Comparisons.{seats, room-at, data-below, data-bucket-decided, stands-here}
 use Rattle.cycle.proofs.restore.is_data.Statement.{statement}
 use Rattle.cycle.proofs.restore.is_data.Tie as tie
 
@@ -56,7 +57,9 @@ read-is c = c .read-bucket .ensures ∙ ap (λ s. asReading (readBucket s)) (par
 -- the facts decide
 abbrev wanted : tie.Start → Head → ℕ → ℕ → Bool → Type 0
 wanted c head count follow r =
-    Decides (DataFacts (asReading (readBucket (bucketBytes (c .args .image .now) (c .args .x)))) head count follow) r →
+    Decides
+    (DataFacts (asReading (readBucket (bucketBytes (c .args .image .now) (c .args .x)))) head count follow
+    × RisesAt (planIn (c .args .f) InImage (c .args .image .now)) (c .args .q)) r →
     Decides (MatchesAt (planIn (c .args .f) InImage (c .args .image .now)) (c .args .image .now) (c .args .x)) r
 
 by-facts :
@@ -67,9 +70,9 @@ by-facts c head count follow r a b d =
     data-bucket-decided (c .args .f) (c .args .image .now) (c .args .s) (c .pre .0) (c .args .q) (c .args .x) (c .pre .1) (c .pre .2) (c .pre .3)
     head count follow r a b d
 
-other-kind : (o : Option Bucket) (g : Reading) (k : Kind) (head : Head) (count follow : ℕ) → g ≡ asReading o → g .kind ≡ k →
-    (k ≡ KindData → ⊥) → Decides (DataFacts (asReading o) head count follow) false
-other-kind o g k head count follow is e f = decides-no (λ d. f (sym e ∙ (ap (λ r. r .kind) is ∙ d .kind-is)))
+other-kind : {R : Type 0} (o : Option Bucket) (g : Reading) (k : Kind) (head : Head) (count follow : ℕ) → g ≡ asReading o → g .kind ≡ k →
+    (k ≡ KindData → ⊥) → Decides (DataFacts (asReading o) head count follow × R) false
+other-kind o g k head count follow is e f = decides-no (λ d. f (sym e ∙ (ap (λ r. r .kind) is ∙ d .0 .kind-is)))
 
 index-apart : KindIndex ≡ KindData → ⊥
 index-apart e = let z : _≡_ {A = ℕ} 0 1 = cc in omega arith
@@ -106,7 +109,7 @@ returns c =
     let called = c .before .before in
     let at = met (called .before) in
     by-facts (entry at) _ _ _ false (called .head-at .ensures) refl refl
-    (decides-not (c .if1 .taken) (λ g. ap (λ r. r .head) (read-is at) ∙ g .head-is) (c .before .same-head .ensures))
+    (decides-not (c .if1 .taken) (λ g. ap (λ r. r .head) (read-is at) ∙ g .0 .head-is) (c .before .same-head .ensures))
 
 abbrev headed : tie.Else1 → tie.After-head-at
 headed c = c .before .before
@@ -126,14 +129,39 @@ returns-2 c =
     let called = headed (c .before .before .before .before) in
     let at = met (called .before) in
     by-facts (entry at) _ _ _ false (called .head-at .ensures) (c .before .lesser .ensures) refl
-    (decides-no (λ g. c .if2 .taken (ap (λ r. r .lines) (read-is at) ∙ g .count-is)))
+    (decides-no (λ g. c .if2 .taken (ap (λ r. r .lines) (read-is at) ∙ g .0 .count-is)))
 
-follow-on-at-requires : tie.Need-follow-on-at-requires
-follow-on-at-requires c κs =
-    let s = entry (met (headed (c .before .before .before .before) .before)) in
-    let there = data-there (s .args .f) (s .args .s) (s .pre .0 .holding .ready) (s .pre .0 .placed) [] (s .args .q) (s .pre .1) (s .pre .2) in
-    let is = s .pre .3 in
-    (s .pre .0 .holding .ready, s .pre .0 .holding .long, in-d s, rw (← is) at there)
+-- behind the test of the number of lines
+abbrev told : tie.Else2 → tie.After-head-at
+told c = headed (c .before .before .before .before)
+
+some-lines : (c : tie.Else2) →
+    let r = met (told c .before) .read-bucket .result in
+    (1 ≤ r .lines) × (r .lines ≤ 8)
+some-lines c =
+    let s = entry (met (told c .before)) in
+    let shaped = s .pre .0 .holding .ready .shaped in
+    let least = c .before .lesser .ensures in (
+      omega (arith, c .if2 .left, least, lines-low s, shaped .p-low),
+      omega (arith, c .if2 .left, least, shaped .p-high),
+    )
+
+last-read : (c : tie.Else2) →
+    let at = met (told c .before) in
+    let s = entry at in
+    getD (at .read-bucket .result .tags) (at .read-bucket .result .lines - 1) 0 ≡ lastTag (planIn (s .args .f) InImage (s .args .image .now)) (s .args .q)
+last-read c =
+    let called = told c in
+    let at = met (called .before) in
+    let s = entry at in
+    last-known (s .args .f) (s .args .image .now) (s .pre .0 .holding .ready) (s .args .x) (s .args .q)
+    (stands-here (s .args .f) (s .args .image .now) (s .args .s) (s .pre .0) (s .args .q) (s .args .x) (s .pre .1) (s .pre .2) (s .pre .3))
+    (at .read-bucket .result) (read-is at) (called .before .before .enum-told3 .given .1) (c .if2 .left ∙ c .before .lesser .ensures) (some-lines c .0)
+
+is-followed-requires : tie.Need-is-followed-requires
+is-followed-requires c κs =
+    let s = entry (met (told (c .before) .before)) in
+    (s .pre .0, s .pre .1, s .pre .2, s .pre .3, last-read (c .before))
 
 returns-3 : tie.Need-returns-3
 returns-3 c =
@@ -149,24 +177,23 @@ returns-4 c =
 
 returns-5 : tie.Need-returns-5
 returns-5 c =
-    let followed = c .before in
-    let third = followed .before in
-    let counted = third .before in
-    let second = counted .before .before .before in
-    let called = headed second in
+    let third = c .before .before in
+    let second = third .before .before .before .before in
+    let called = told third in
     let at = met (called .before) in
-    let g : Reading = at .read-bucket .result in
-    by-facts (entry at) _ _ _ _ (called .head-at .ensures) (counted .lesser .ensures) (followed .follow-on-at .ensures)
+    by-facts (entry at) _ _ _ _ (called .head-at .ensures) (third .before .lesser .ensures) refl
     (decides-by
-    (λ e.
-    record {
-      kind-is = sym (ap (λ r. r .kind) (read-is at)) ∙ called .before .before .enum-told3 .given .1;
-      head-is = sym (ap (λ r. r .head) (read-is at)) ∙ decides-told (second .if1 .left) (second .before .same-head .ensures);
-      count-is = sym (ap (λ r. r .lines) (read-is at)) ∙ third .if2 .left;
-      follow-is = sym (ap (λ r. r .«follow_on») (read-is at)) ∙ e;
-    })
-    (λ f. ap (λ r. r .«follow_on») (read-is at) ∙ f .follow-is)
-    (decides-eqb (g .«follow_on») (followed .follow-on-at .result)))
+    (λ w. (
+      record {
+        kind-is = sym (ap (λ r. r .kind) (read-is at)) ∙ called .before .before .enum-told3 .given .1;
+        head-is = sym (ap (λ r. r .head) (read-is at)) ∙ decides-told (second .if1 .left) (second .before .same-head .ensures);
+        count-is = sym (ap (λ r. r .lines) (read-is at)) ∙ third .if2 .left;
+        follow-is = sym (ap (λ r. r .«follow_on») (read-is at)) ∙ w .follow-is;
+      },
+      w .in-order,
+    ))
+    (λ g. record { follow-is = ap (λ r. r .«follow_on») (read-is at) ∙ g .0 .follow-is; in-order = g .1 })
+    (c .is-followed .ensures))
 
 pub is-data-spec : {M : Type 1} → statement M
 is-data-spec =
@@ -188,7 +215,10 @@ is-data-spec =
     sub-lesser
     (λ c κs. search needs)
     returns-2
-    follow-on-at-requires
+    (λ c. some-lines c .0)
+    (λ c. omega (arith, some-lines c .1))
+    (λ c. omega (arith, some-lines c))
+    is-followed-requires
     returns-3
     returns-4
     returns-5)

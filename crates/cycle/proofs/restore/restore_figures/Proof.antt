@@ -17,7 +17,7 @@ use Rattle.cycle.specs.Comparing.{counted, Holding}
 use Rattle.cycle.proofs.Deciding.{decides-told}
 use Rattle.cycle.proofs.HeldImage.{Figured}
 use Rattle.cycle.proofs.Restoring
-use Rattle.cycle.proofs.Restoring.{Sized, shaped-fits, buckets-whole, refused, copies-refused, size-refused, cycle-refused, fall-refused, room-refused, list-written, holding}
+use Rattle.cycle.proofs.Restoring.{Sized, shaped-fits, buckets-whole, refused, copies-refused, size-refused, cycle-refused, room-refused, list-written, holding}
 use Rattle.cycle.proofs.restore.restore_figures.Statement.{statement}
 use Rattle.cycle.proofs.restore.restore_figures.Tie as tie
 
@@ -88,50 +88,35 @@ returns-3 c =
     (cycle-refused (set s) (sized .with-size .result) (bytes s) (sizes sized .figured) (count sized) (sizes sized .size-is)
     (c .before .is-cycle .ensures .no (not-true _ (c .if3 .taken))))
 
-tags-rise-requires : tie.Need-tags-rise-requires
-tags-rise-requires c κs = held (c .before .before)
+mul-if4 : tie.Need-mul-if4
+mul-if4 c =
+    let matched = c .before .before .before in
+    omega (arith, held matched .ready .shaped .lines-high)
 
 returns-4 : tie.Need-returns-4
 returns-4 c =
-    let sized = c .before .before .before .before .before .before in
-    let s = entry sized in
-    none-builds s
-    (fall-refused (set s) (sized .with-size .result) (bytes s) (sizes sized .figured) (count sized)
-    (c .before .tags-rise .ensures .no (not-true _ (c .if4 .taken))))
-
-mul-if5 : tie.Need-mul-if5
-mul-if5 c =
-    let matched = c .before .before .before .before .before in
-    omega (arith, held matched .ready .shaped .lines-high)
-
-returns-5 : tie.Need-returns-5
-returns-5 c =
-    let rises = c .before .before in
-    let same = rises .before .before in
+    let same = c .before .before in
     let sized = same .before .before .before .before in
     let s = entry sized in
     refused (set s) (bytes s) (s .args .out .now)
     (room-refused (set s) (sized .with-size .result) (bytes s) (fit s) (whole s) (sizes sized .figured) (held (same .before .before))
-    (decides-told (same .if3 .left) (same .before .is-cycle .ensures)) (decides-told (rises .if4 .left) (rises .before .tags-rise .ensures))
-    (length (s .args .out .now)) (c .if5 .taken))
+    (decides-told (same .if3 .left) (same .before .is-cycle .ensures)) (length (s .args .out .now)) (c .if4 .taken))
 
 write-list-requires : tie.Need-write-list-requires
 write-list-requires c κs =
     let roomy = c .before in
-    let matched = roomy .before .before .before .before .before .before in
-    (held matched, roomy .if5 .left)
+    let matched = roomy .before .before .before .before in
+    (held matched, roomy .if4 .left)
 
-returns-6 : tie.Need-returns-6
-returns-6 c =
+returns-5 : tie.Need-returns-5
+returns-5 c =
     let wrote = c .before .before in
     let roomy = wrote .before .before in
-    let rises = roomy .before .before in
-    let same = rises .before .before in
+    let same = roomy .before .before in
     let sized = same .before .before .before .before in
     let s = entry sized in
     list-written (set s) (sized .with-size .result) (bytes s) (fit s) (whole s) (sizes sized .figured) (held (same .before .before))
-    (decides-told (same .if3 .left) (same .before .is-cycle .ensures)) (decides-told (rises .if4 .left) (rises .before .tags-rise .ensures))
-    (s .args .out .now) _ (roomy .if5 .left) (wrote .write-list .ensures)
+    (decides-told (same .if3 .left) (same .before .is-cycle .ensures)) (s .args .out .now) _ (roomy .if4 .left) (wrote .write-list .ensures)
 
 pub restore-figures-spec : {M : Type 1} → statement M
 restore-figures-spec =
@@ -143,10 +128,8 @@ restore-figures-spec =
     returns-2
     is-cycle-requires
     returns-3
-    tags-rise-requires
+    mul-if4
     returns-4
-    mul-if5
-    returns-5
     write-list-requires
     (λ c. search needs)
-    returns-6)
+    returns-5)

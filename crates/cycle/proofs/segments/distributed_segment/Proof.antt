@@ -6,20 +6,22 @@ use Prim.Native.Nat.{ℕ, _+_, _-_, _*_, _^_, _≤_, _<_, min, max}
 use native.Mathlib.Nat.{suc-mul}
 use native.Mathlib.Numerals.{add-one}
 use native.Mathlib.Omega.{arith}
-use lib.ListN.{length, getD}
+use lib.ListN.{length}
 use Rattle.cycle.specs.Layouts.{pathTop}
 use Rattle.cycle.specs.declared.Figures.{Figures}
 use Rattle.cycle.specs.Held.{planOf, treeAt}
 use Rattle.cycle.proofs.Paths.{pathTop-high}
-use Rattle.cycle.proofs.Readiness.{Block, block}
-use Rattle.cycle.proofs.Segmented.{block-in}
+use Rattle.cycle.proofs.Readiness.{Block, block, BlockTrees, block-trees}
 use Rattle.cycle.proofs.PlacedBlocks.{blockAt, block-room, block-first, block-grows, placed-block}
 use Rattle.cycle.proofs.segments.distributed_segment.Statement.{statement}
 use Rattle.cycle.proofs.segments.distributed_segment.Tie as tie
 
 -- what is known at the start
-known : (c : tie.Start) → Block (c .args .t1)
-known c = block (c .args .t1) (c .pre .0 .shaped) (c .pre .1) (c .pre .0 .copies-fit)
+known : (c : tie.Start) → Block (c .args .f)
+known c = block (c .args .f) (c .pre .0 .shaped) (c .pre .1) (c .pre .0 .copies-fit)
+
+trees : (c : tie.Start) → BlockTrees (c .args .f)
+trees c = block-trees (c .args .f) (c .pre .0 .shaped) (c .pre .0 .trees) (c .pre .1)
 
 -- the places of the segment, as numbers
 record Room (f : Figures) (b : ℕ) : Type 0 where
@@ -32,9 +34,9 @@ record Room (f : Figures) (b : ℕ) : Type 0 where
       + (min (f .d) ((b + 1) * f .n ^ (f .k - f .copies)) - b * f .n ^ (f .k - f .copies))
       ≤ 99999
 
-room : (c : tie.Start) → Room (c .args .t1) (c .args .b)
+room : (c : tie.Start) → Room (c .args .f) (c .args .b)
 room c =
-    let f = c .args .t1 in
+    let f = c .args .f in
     let b = c .args .b in
     record {
       begins = block-first f b (c .pre .0) (c .pre .1) (c .pre .2);
@@ -48,57 +50,43 @@ distributed-start-requires : tie.Need-distributed-start-requires
 distributed-start-requires c κs = (c .pre .0, c .pre .1, c .pre .2)
 
 sub-e : tie.Need-sub-e
-sub-e c = omega (arith, known (c .before) .fits)
+sub-e c = omega (arith, known (c .before .before) .fits)
 
 path-top-requires : tie.Need-path-top-requires
-path-top-requires c κs = (c .before .pre .0, c .before .pre .1)
+path-top-requires c κs = (c .before .before .pre .0, c .before .before .pre .1)
 
 add-tree-at : tie.Need-add-tree-at
-add-tree-at c = omega (arith, known (c .before .before) .few)
+add-tree-at c = omega (arith, known (c .before .before .before .before) .few)
 
 sub-tree-at : tie.Need-sub-tree-at
-sub-tree-at c = omega (arith, room (c .before .before) .top, c .path-top .ensures)
+sub-tree-at c = omega (arith, room (c .before .before .before .before) .top, c .before .path-top .ensures)
 
 add-tree-at-2 : tie.Need-add-tree-at-2
 add-tree-at-2 c =
-    let r = room (c .before .before) in
-    let k = known (c .before .before) in
-    omega (arith, c .before .distributed-start .ensures)
+    let r = room (c .before .before .before .before) in
+    let k = known (c .before .before .before .before) in
+    omega (arith, c .before .before .before .distributed-start .ensures)
 
-tree-size-requires : tie.Need-tree-size-requires
-tree-size-requires c κs =
-    let start = c .before .before in
-    (start .pre .0 .shaped, omega (arith, known start .fits), block-in (start .args .t1) (start .args .b) (start .pre .0) (start .pre .1) (start .pre .2))
+segment-tree-requires : tie.Need-segment-tree-requires
+segment-tree-requires c κs = let start = c .before .before .before .before in (start .pre .0, start .pre .1, start .pre .2)
 
 add-data-at : tie.Need-add-data-at
 add-data-at c =
-    let r = room (c .before .before .before) in
-    rw (c .before .before .distributed-start .ensures, c .before .path-top .ensures, c .tree-size .ensures) (omega arith)
+    let r = room (c .before .before .before .before .before) in
+    rw (c .before .before .before .before .distributed-start .ensures, c .before .before .path-top .ensures, c .segment-tree .ensures) (omega arith)
 
 mul-first : tie.Need-mul-first
-mul-first c = omega (arith, known (c .before .before .before) .high)
-
-element-copy-out-first : tie.Need-element-copy-out-first
-element-copy-out-first c = omega (arith, known (c .before .before .before) .high)
-
-mul-first-2 : tie.Need-mul-first-2
-mul-first-2 c =
-    let start = c .before .before .before .before in
+mul-first c =
+    let start = c .before .before .before .before .before .before in
     let r = room start in
-    rw (known start .power) (omega (arith, known start .some))
-
-mul-lesser : tie.Need-mul-lesser
-mul-lesser c = omega (arith, known (c .before .before .before .before) .high)
-
-element-copy-out-lesser : tie.Need-element-copy-out-lesser
-element-copy-out-lesser c = omega (arith, known (c .before .before .before .before) .high)
+    rw (trees start .span) (omega (arith, known start .some))
 
 add-lesser : tie.Need-add-lesser
 add-lesser c =
-    let start = c .before .before .before .before .before in
+    let start = c .before .before .before .before .before .before .before in
     let r = room start in
     let k = known start in
-    rw (k .power) (omega arith)
+    rw (trees start .span) (omega arith)
 
 lesser-requires : tie.Need-lesser-requires
 lesser-requires c κs = tt
@@ -108,52 +96,54 @@ abbrev blockEnd : Figures → ℕ → ℕ
 blockEnd f b = min (f .d) ((b + 1) * f .n ^ (f .k - f .copies))
 
 abbrev begun : tie.After-lesser → tie.Start
-begun c = c .before .before .before .before .before .before
+begun c = c .before .before .before .before .before .before .before .before
 
 -- what `lesser` gave
 ended :
     (c : tie.After-lesser) →
-    c .lesser .result ≡ blockEnd (begun c .args .t1) (begun c .args .b)
+    c .lesser .result ≡ blockEnd (begun c .args .f) (begun c .args .b)
 ended c =
-    let start = c .before .before .before .before .before .before in
-    let f = start .args .t1 in
+    let start = begun c in
+    let f = start .args .f in
     let b = start .args .b in
-    let p = known start .power in
+    let p = trees start .span in
     c .lesser .ensures ∙ ap (min (f .d)) (ap₂ (λ x y. b * x + y) p p ∙ sym (room start .wide))
 
-sub-t13 : tie.Need-sub-t13
-sub-t13 c =
-    let start = c .before .before .before .before .before .before in
-    rw (known start .power, ended c) (room start .grows)
+sub-t10 : tie.Need-sub-t10
+sub-t10 c =
+    let start = c .before .before .before .before .before .before .before .before in
+    rw (trees start .span, ended c) (room start .grows)
 
-add-t14 : tie.Need-add-t14
-add-t14 c =
-    let start = c .before .before .before .before .before .before in
+add-t11 : tie.Need-add-t11
+add-t11 c =
+    let called = c .before .before .before in
+    let start = called .before .before .before .before .before in
     let r = room start in
     rw (
-      c .before .before .before .before .before .distributed-start .ensures,
-      c .before .before .before .before .path-top .ensures,
-      c .before .before .before .tree-size .ensures,
-      known start .power,
+      trees start .span,
+      called .before .before .before .before .distributed-start .ensures,
+      called .before .before .path-top .ensures,
+      called .segment-tree .ensures,
       ended c,
     )
     (omega arith)
 
 returns : tie.Need-returns
 returns c =
-    let start = c .before .before .before .before .before .before in
-    let f = start .args .t1 in
+    let called = c .before .before .before in
+    let start = called .before .before .before .before .before in
+    let f = start .args .f in
     let b = start .args .b in (
       placed-block f b (start .pre .0) (start .pre .1) (start .pre .2)
-          (c .before .before .before .before .before .distributed-start .result)
-          (c .before .before .before .before .path-top .result)
-          (c .before .before .before .tree-size .result)
-          (b * getD (f .powers) (f .k - f .copies) 0)
+          (called .before .before .before .before .distributed-start .result)
+          (called .before .before .path-top .result)
+          (called .segment-tree .result)
+          (b * f .span)
           (c .lesser .result)
-          (c .before .before .before .before .before .distributed-start .ensures)
-          (c .before .before .before .before .path-top .ensures)
-          (c .before .before .before .tree-size .ensures)
-          (ap (λ x. b * x) (known start .power))
+          (called .before .before .before .before .distributed-start .ensures)
+          (called .before .before .path-top .ensures)
+          (called .segment-tree .ensures)
+          (ap (λ x. b * x) (trees start .span))
           (ended c),
       refl,
     )
@@ -168,15 +158,11 @@ distributed-segment-spec =
     add-tree-at
     sub-tree-at
     add-tree-at-2
-    tree-size-requires
+    segment-tree-requires
     add-data-at
     mul-first
-    element-copy-out-first
-    mul-first-2
-    mul-lesser
-    element-copy-out-lesser
     add-lesser
     lesser-requires
-    sub-t13
-    add-t14
+    sub-t10
+    add-t11
     returns)

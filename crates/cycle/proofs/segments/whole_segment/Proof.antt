@@ -9,7 +9,7 @@ use native.Mathlib.Omega.{arith}
 use Rattle.cycle.specs.declared.Figures.{Figures}
 use Rattle.cycle.specs.Held.{planOf}
 use Rattle.cycle.proofs.OneM.{part-step}
-use Rattle.cycle.proofs.Readiness.{Parts, parts, root-in}
+use Rattle.cycle.proofs.Readiness.{Parts, parts, whole-last}
 use Rattle.cycle.proofs.PlacedParts.{wholeTree, partFrom, whole-room, placed-whole}
 use Rattle.cycle.proofs.segments.whole_segment.Statement.{statement}
 use Rattle.cycle.proofs.segments.whole_segment.Tie as tie
@@ -17,6 +17,9 @@ use Rattle.cycle.proofs.segments.whole_segment.Tie as tie
 -- what is known at the start
 known : (c : tie.Start) → Parts (c .args .f)
 known c = parts (c .args .f) (c .pre .0 .shaped) (λ e. omega arith) (c .pre .0 .copies-fit)
+
+tree : (c : tie.Start) → c .args .f .last ≡ wholeTree (c .args .f)
+tree c = whole-last (c .args .f) (c .pre .0 .shaped) (c .pre .0 .trees) (λ e. omega arith)
 
 -- the places of the part, as numbers
 record Room (f : Figures) (i : ℕ) : Type 0 where
@@ -43,57 +46,45 @@ room c =
       ends = ends;
     }
 
-tree-size-requires : tie.Need-tree-size-requires
-tree-size-requires c κs = (c .pre .0 .shaped, known c .low, root-in (c .args .f))
-
 mul-first : tie.Need-mul-first
-mul-first c = omega (arith, room (c .before .before) .data-before)
+mul-first c = omega (arith, room (c .before) .data-before)
 
 div-first : tie.Need-div-first
-div-first c = known (c .before .before .before) .parted
+div-first c = known (c .before .before) .parted
 
 add-last : tie.Need-add-last
-add-last c = omega (arith, known (c .before .before .before) .few)
+add-last c = omega (arith, known (c .before .before) .few)
 
 mul-last : tie.Need-mul-last
-mul-last c = omega (arith, room (c .before .before .before .before) .data-behind)
+mul-last c = omega (arith, room (c .before .before .before) .data-behind)
 
 div-last : tie.Need-div-last
-div-last c = known (c .before .before .before .before .before) .parted
+div-last c = known (c .before .before .before .before) .parted
 
 mul-start : tie.Need-mul-start
-mul-start c =
-    let r = room (c .before .before .before .before .before) in
-    rw (c .before .before .before .before .tree-size .ensures) (omega arith)
+mul-start c = let start = c .before .before .before .before in let r = room start in rw (tree start) (omega arith)
 
 add-start : tie.Need-add-start
-add-start c =
-    let r = room (c .before .before .before .before .before) in
-    rw (c .before .before .before .before .tree-size .ensures) (omega arith)
+add-start c = let start = c .before .before .before .before in let r = room start in rw (tree start) (omega arith)
 
 add-data-at : tie.Need-add-data-at
-add-data-at c =
-    let r = room (c .before .before .before .before .before) in
-    rw (c .before .before .before .before .tree-size .ensures) (omega arith)
+add-data-at c = let start = c .before .before .before .before in let r = room start in rw (tree start) (omega arith)
 
-add-t10 : tie.Need-add-t10
-add-t10 c = omega (arith, known (c .before .before .before .before .before .before) .few)
+add-t9 : tie.Need-add-t9
+add-t9 c = omega (arith, known (c .before .before .before .before .before) .few)
 
-sub-t9 : tie.Need-sub-t9
-sub-t9 c = let r = room (c .before .before .before .before .before .before) in rw (r .next) (r .grows)
+sub-t8 : tie.Need-sub-t8
+sub-t8 c = let r = room (c .before .before .before .before .before) in rw (r .next) (r .grows)
 
 add-t11 : tie.Need-add-t11
-add-t11 c =
-    let r = room (c .before .before .before .before .before .before) in
-    rw (c .before .before .before .before .before .tree-size .ensures, r .next) (omega arith)
+add-t11 c = let start = c .before .before .before .before .before in let r = room start in rw (tree start, r .next) (omega arith)
 
 returns : tie.Need-returns
 returns c =
-    let start = c .before .before .before .before .before .before in
+    let start = c .before .before .before .before .before in
     let f = start .args .f in
     let i = start .args .i in (
-      placed-whole f i (start .pre .0) (λ e. omega arith) (start .pre .2) (c .before .before .before .before .before .tree-size .result)
-          ((i + 1) * f .d / f .copies) (c .before .before .before .before .before .tree-size .ensures) (room start .next),
+      placed-whole f i (start .pre .0) (λ e. omega arith) (start .pre .2) (f .last) ((i + 1) * f .d / f .copies) (tree start) (room start .next),
       refl,
     )
 
@@ -101,7 +92,6 @@ pub whole-segment-spec : {M : Type 1} → statement M
 whole-segment-spec =
     tie.close
     (tie.spec
-    tree-size-requires
     mul-first
     div-first
     add-last
@@ -110,7 +100,7 @@ whole-segment-spec =
     mul-start
     add-start
     add-data-at
-    add-t10
-    sub-t9
+    add-t9
+    sub-t8
     add-t11
     returns)

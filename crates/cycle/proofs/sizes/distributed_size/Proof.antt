@@ -2,60 +2,73 @@
 -- Assumes nothing.
 use mathlib.Core.Path.{_≡_, sym, ap, subst, _∙_}
 use mathlib.Core.List.{[]}
-use Prim.Native.Nat.{ℕ, suc, _-_, _*_, _^_, _≤_}
+use Prim.Native.Nat.{suc, _-_, _*_, _^_, _≤_}
 use native.Mathlib.Nat.{mul-le-mul}
 use native.Mathlib.Omega.{arith}
-use lib.ListN.{getD}
+use lib.ListN.{length}
 use Rattle.columns.specs.Lists.{up}
 use Rattle.cycle.specs.declared.Figures.{Figures}
-use Rattle.cycle.specs.Held.{planOf, InTree}
+use Rattle.cycle.specs.Held.{planOf, treeAt}
 use Rattle.cycle.proofs.TreeSizes.{tree-small}
 use Rattle.cycle.proofs.PathSizes.{LastPart, last-part, climbs, climbs-small, length-paths}
 use Rattle.cycle.proofs.SegmentSizes.{size-blocks, size-empty}
-use Rattle.cycle.proofs.Readiness.{Block, block, one-level}
+use Rattle.cycle.proofs.Readiness.{Block, block, BlockTrees, block-trees, one-level}
 use Rattle.cycle.proofs.sizes.distributed_size.Statement.{statement}
 use Rattle.cycle.proofs.sizes.distributed_size.Tie as tie
 
 -- what is known at the start
-known : (c : tie.Start) → Block (c .args .t1)
-known c = block (c .args .t1) (c .pre .0) (c .pre .1) (c .pre .2)
+known : (c : tie.Start) → Block (c .args .f)
+known c = block (c .args .f) (c .pre .0) (c .pre .1) (c .pre .2)
+
+trees : (c : tie.Start) → BlockTrees (c .args .f)
+trees c = block-trees (c .args .f) (c .pre .0) (c .pre .3) (c .pre .1)
 
 returns : tie.Need-returns
 unfolding planOf
 returns c =
-    let f = c .before .args .t1 in
-    let b = known (c .before) in
-    let one = one-level f (c .before .pre .0) (omega arith) in
-    sym (size-empty (planOf f []) (b .pos) (b .fits) (c .before .pre .1) (omega arith) (omega (arith, b .fits)))
-
-sub-e : tie.Need-sub-e
-sub-e c = omega (arith, known (c .before) .fits)
-
-mul-up : tie.Need-mul-up
-mul-up c = omega (arith, known (c .before) .high)
-
-element-copy-out-up : tie.Need-element-copy-out-up
-element-copy-out-up c = omega (arith, known (c .before) .high)
+    let start = c .before .before in
+    let f = start .args .f in
+    let b = known start in
+    let one = one-level f (start .pre .0) (omega arith) in
+    sym (size-empty (planOf f []) (b .pos) (b .fits) (start .pre .1) (omega arith) (omega (arith, b .fits)))
 
 up-requires : tie.Need-up-requires
-up-requires c κs = let b = known (c .before .before) in (omega arith, omega arith)
+up-requires c κs =
+    let start = c .before .before in
+    let b = known start in
+    rw (trees start .span) (b .power-low, omega (arith, b .some, b .power-high))
 
 abbrev figures : tie.After-up → Figures
-figures c = c .before .before .before .args .t1
+figures c = c .before .before .before .args .f
 
 -- what `up` gave: how many segments
 counted :
     (c : tie.After-up) →
     LastPart (figures c .d) (figures c .n ^ (figures c .k - figures c .copies)) (c .up .result)
 counted c =
-    let f = c .before .before .before .args .t1 in
-    let b = known (c .before .before .before) in
-    let e : c .up .result ≡ up (f .d) (f .n ^ (f .k - f .copies)) = c .up .ensures ∙ ap (up (f .d)) (b .power) in
+    let f = figures c in
+    let start = c .before .before .before in
+    let e : c .up .result ≡ up (f .d) (f .n ^ (f .k - f .copies)) = c .up .ensures ∙ ap (up (f .d)) (trees start .span) in
     subst (LastPart (f .d) (f .n ^ (f .k - f .copies))) (sym e)
-    (last-part (f .d) (f .n ^ (f .k - f .copies)) (omega arith) (b .power-low))
+    (last-part (f .d) (f .n ^ (f .k - f .copies)) (omega arith) (known start .power-low))
 
-sub-last : tie.Need-sub-last
-sub-last c = counted c .some
+-- the trees of the segments before the last, and the last
+before-last : (c : tie.After-up) → (c .up .result - 1) * figures c .full ≤ 40000 * 320000
+before-last c =
+    let start = c .before .before .before in
+    let b = known start in
+    mul-le-mul {n₂ = 40000} {m₂ = 320000} (omega (arith, counted c .few, b .some)) (omega (arith, trees start .full, b .full-high))
+
+last-tree : (c : tie.After-up) → figures c .last ≡ length (treeAt (planOf (figures c) []) (figures c .k - figures c .copies) (c .up .result - 1))
+last-tree c = let n = counted c in trees (c .before .before .before) .last (c .up .result - 1) (omega (arith, n .starts)) (n .covers)
+
+last-small : (c : tie.After-up) → figures c .last ≤ 320000
+unfolding planOf
+last-small c =
+    let f = figures c in
+    let b = known (c .before .before .before) in
+    let small = tree-small (planOf f []) (b .pos) (f .k - f .copies) (c .up .result - 1) (omega arith) in
+    omega (arith, last-tree c, b .full-high)
 
 paths-before-requires : tie.Need-paths-before-requires
 paths-before-requires c κs =
@@ -65,11 +78,11 @@ paths-before-requires c κs =
 -- what `paths_before` gave
 climbed :
     (c : tie.After-paths-before) →
-    (c .paths-before .result ≡ climbs (c .before .before .before .before .args .t1 .n) (c .before .before .before .before .args .t1 .copies) (c .before .up .result))
+    (c .paths-before .result ≡ climbs (figures (c .before) .n) (figures (c .before) .copies) (c .before .up .result))
     × (c .paths-before .result ≤ 160000)
 unfolding planOf
 climbed c =
-    let f = c .before .before .before .before .args .t1 in
+    let f = figures (c .before) in
     let b = known (c .before .before .before .before) in
     let e : c .paths-before .result ≡ climbs (f .n) (f .copies) (c .before .up .result) =
     c .paths-before .ensures ∙ length-paths (planOf f []) (b .pos) (c .before .up .result) in
@@ -77,78 +90,51 @@ climbed c =
     (e, omega (arith, b .few))
 
 add-result : tie.Need-add-result
-add-result c = omega (arith, climbed c .1, known (c .before .before .before .before) .some)
+add-result c = omega (arith, climbed (c .before) .1, known (c .before .before .before .before .before) .some)
+
+sub-result : tie.Need-sub-result
+sub-result c = counted (c .before .before) .some
 
 mul-result : tie.Need-mul-result
-mul-result c = omega (arith, known (c .before .before .before .before) .high)
-
-element-copy-out-result : tie.Need-element-copy-out-result
-element-copy-out-result c = omega (arith, known (c .before .before .before .before) .high)
-
--- the trees of the segments before the last
-trees : (f : Figures) (count : ℕ) → Block f → count ≤ f .d → (count - 1) * getD (f .fulls) (f .k - f .copies) 0 ≤ 40000 * 320000
-trees f count b h = mul-le-mul {n₂ = 40000} {m₂ = 320000} (omega (arith, b .some)) (omega (arith, b .full, b .full-high))
-
-mul-result-2 : tie.Need-mul-result-2
-mul-result-2 c =
-    let start = c .before .before .before .before .before in
-    let x = trees (start .args .t1) (c .before .before .up .result) (known start) (counted (c .before .before) .few) in
-    omega arith
+mul-result c = let x = before-last (c .before .before .before) in omega arith
 
 add-result-2 : tie.Need-add-result-2
 add-result-2 c =
-    let start = c .before .before .before .before .before in
-    let x = trees (start .args .t1) (c .before .before .up .result) (known start) (counted (c .before .before) .few) in
-    omega (arith, climbed (c .before) .1, known start .some)
-
-tree-size-requires : tie.Need-tree-size-requires
-unfolding InTree
-tree-size-requires c κs =
-    let start = c .before .before .before .before .before in
-    let n = counted (c .before .before) in
-    (start .pre .0, omega (arith, known start .fits), (omega arith, omega (arith, n .starts)))
+    let x = before-last (c .before .before .before) in
+    omega (arith, climbed (c .before .before) .1, known (c .before .before .before .before .before .before) .some)
 
 add-result-3 : tie.Need-add-result-3
-unfolding planOf
 add-result-3 c =
-    let start = c .before .before .before .before .before .before in
-    let f = start .args .t1 in
-    let b = known start in
-    let count = c .before .before .before .up .result in
-    let x = trees f count b (counted (c .before .before .before) .few) in
-    let y = tree-small (planOf f []) (b .pos) (f .k - f .copies) (count - 1) (omega arith) in
-    omega (arith, climbed (c .before .before) .1, b .some, b .full-high, c .tree-size .ensures)
+    let n = c .before .before .before .before in
+    let x = before-last n in
+    let b = known (n .before .before .before) in
+    omega (arith, climbed (c .before .before .before) .1, b .some, last-small n)
 
 returns-2 : tie.Need-returns-2
 unfolding planOf
 returns-2 c =
-    let start = c .before .before .before .before .before .before in
-    let f = start .args .t1 in
+    let call = c .before .before .before .before in
+    let start = call .before .before .before in
+    let f = start .args .f in
     let b = known start in
-    let count = c .before .before .before .up .result in
-    let n = counted (c .before .before .before) in
+    let count = call .up .result in
+    let n = counted call in
     let whole : suc (count - 1) ≡ count = omega (arith, n .some) in
     let all = size-blocks (planOf f []) (b .pos) (b .fits) (start .pre .1) (omega (arith, n .some, n .few)) (count - 1) (n .starts) (n .covers) in
     let all′ = rw whole at all in
-    let way = climbed (c .before .before) .0 in
-    rw (b .full) (omega (arith, c .tree-size .ensures))
+    let way = climbed (c .before .before .before) .0 in
+    rw (trees start .full) (omega (arith, last-tree call))
 
 pub distributed-size-spec : {M : Type 1} → statement M
 distributed-size-spec =
     tie.close
     (tie.spec
     returns
-    sub-e
-    mul-up
-    element-copy-out-up
     up-requires
-    sub-last
     paths-before-requires
     add-result
+    sub-result
     mul-result
-    element-copy-out-result
-    mul-result-2
     add-result-2
-    tree-size-requires
     add-result-3
     returns-2)

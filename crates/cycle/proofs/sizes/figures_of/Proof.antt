@@ -14,16 +14,8 @@ levels-of-requires c κs =
     let few = few-data (c .before .args .lines) (c .before .args .p) (omega arith) (omega arith) in
     (omega arith, omega arith, rw (c .up .ensures) few)
 
-powers-of-requires : tie.Need-powers-of-requires
-powers-of-requires c κs = search needs
-
-fulls-of-requires : tie.Need-fulls-of-requires
-fulls-of-requires c κs = search needs
-
 returns : tie.Need-returns
 returns c = search needs
 
 pub figures-of-spec : {M : Type 1} → statement M
-figures-of-spec =
-    tie.close
-    (tie.spec up-requires levels-of-requires powers-of-requires fulls-of-requires returns)
+figures-of-spec = tie.close (tie.spec up-requires levels-of-requires returns)

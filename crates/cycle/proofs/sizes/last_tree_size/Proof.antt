@@ -4,7 +4,6 @@ use mathlib.Core.Path.{_≡_, refl, sym, ap, _∙_}
 use mathlib.Core.List.{[]}
 use Prim.Native.Nat.{ℕ, suc, _+_, _-_, _*_, _^_, _≤_}
 use native.Mathlib.Omega.{arith}
-use lib.ListN.{getD}
 use Rattle.columns.specs.Lists.{up}
 use Rattle.cycle.specs.declared.Figures.{Figures}
 use Rattle.cycle.specs.Held.{planOf, Shaped, InTree}
@@ -14,20 +13,18 @@ use Rattle.cycle.proofs.sizes.last_tree_size.Statement.{statement}
 use Rattle.cycle.proofs.sizes.last_tree_size.Tie as tie
 
 abbrev Inv-loop : tie.InvT-loop
-Inv-loop e j f h₀ sum₀ h sum = (1 ≤ h) × (h ≤ e + 1) × (sum ≡ lastRows (f .n) (f .d) e j (h - 1)) × (sum ≤ 40000 * h)
+Inv-loop f e j h₀ sum₀ h sum = (1 ≤ h) × (h ≤ e + 1) × (sum ≡ lastRows (f .n) (f .d) e j (h - 1)) × (sum ≤ 40000 * h)
 
 abbrev μ-loop : tie.MeasureT-loop
-μ-loop e j f h₀ sum₀ h sum = (e + 1) - h
+μ-loop f e j h₀ sum₀ h sum = (e + 1) - h
 
 -- one row: what the code reads, and what it adds
 record Row (f : Figures) (e j h : ℕ) : Type 0 where
   height : e ≤ 16
-  power : getD (f .powers) h 0 ≡ f .n ^ h
   low : 1 ≤ f .n ^ h
   small : f .n ^ h ≤ 320000
   few : f .d ≤ 40000
-  above : getD (f .powers) (e - h) 0 ≡ f .n ^ (e - h)
-  starts : j * getD (f .powers) (e - h) 0 ≤ up (f .d) (f .n ^ h)
+  starts : j * f .n ^ (e - h) ≤ up (f .d) (f .n ^ h)
   ends : up (f .d) (f .n ^ h) ≤ 40000
 
 row : (f : Figures) (e j h : ℕ) → Shaped f → InTree f e j → (f .d ≡ 0 → ⊥) → h ≤ e → Row f e j h
@@ -35,23 +32,21 @@ unfolding InTree
 row f e j h s inside some u =
     let r : Reached f e j = reached f e j s inside in
     let fits = row-fits (f .n) (f .d) e j h (omega (arith, s .n-low)) u (omega (arith, inside .1, some)) in
-    let here = r .power (e - h) (omega arith) in
     record {
       height = r .height;
-      power = r .power h u;
       low = r .some h u;
       small = r .small h u;
       few = r .few;
-      above = here;
-      starts = rw here (omega (arith, fits .0));
+      starts = omega (arith, fits .0);
       ends = omega (arith, fits .1, r .few);
     }
 
 returns : tie.Need-returns Inv-loop μ-loop
 unfolding planOf InTree
 returns c =
-    let s = c .before .pre in
-    sym (tree-empty (planOf (c .before .args .t1) []) (omega (arith, s .0 .n-low)) (c .before .args .e) (c .before .args .j) (s .2 .0) (omega arith) (s .1))
+    let start = c .before .before in
+    let s = start .pre in
+    sym (tree-empty (planOf (start .args .f) []) (omega (arith, s .0 .n-low)) (start .args .e) (start .args .j) (s .2 .0) (omega arith) (s .1))
 
 loop-holds : tie.Need-loop-holds Inv-loop μ-loop
 loop-holds c = (omega arith, omega arith, refl, omega arith)
@@ -59,41 +54,35 @@ loop-holds c = (omega arith, omega arith, refl, omega arith)
 -- the row of the turn
 now-row :
     (c : tie.In-loop Inv-loop μ-loop) →
-    Row (c .before .before .before .args .t1) (c .before .before .before .args .e) (c .before .before .before .args .j) (c .before .loop .h)
+    Row (c .before .before .before .before .args .f) (c .before .before .before .before .args .e) (c .before .before .before .before .args .j) (c .before .loop .h)
 now-row c =
-    let start = c .before .before .before in
-    row (start .args .t1) (start .args .e) (start .args .j) (c .before .loop .h) (start .pre .0) (start .pre .2) (λ z. omega arith) (omega arith)
+    let start = c .before .before .before .before in
+    row (start .args .f) (start .args .e) (start .args .j) (c .before .loop .h) (start .pre .0) (start .pre .2) (λ z. omega arith) (omega arith)
 
-mul-up : tie.Need-mul-up Inv-loop μ-loop
-mul-up c = omega (arith, now-row c .height)
-
-element-copy-out-up : tie.Need-element-copy-out-up Inv-loop μ-loop
-element-copy-out-up c = omega (arith, now-row c .height)
+power-requires : tie.Need-power-requires Inv-loop μ-loop
+power-requires c κs = let f = c .before .before .before .before .pre .0 in (f .n-low, f .n-high, omega (arith, now-row c .height))
 
 up-requires : tie.Need-up-requires Inv-loop μ-loop
-up-requires c κs = let r = now-row (c .before) in (omega arith, omega arith)
-
-mul-sum : tie.Need-mul-sum Inv-loop μ-loop
-mul-sum c = omega (arith, now-row (c .before .before) .height)
-
-element-copy-out-sum : tie.Need-element-copy-out-sum Inv-loop μ-loop
-element-copy-out-sum c = omega (arith, now-row (c .before .before) .height)
+up-requires c κs = let r = now-row (c .before) in rw (c .power .ensures) (omega arith, omega arith)
 
 abbrev figures : tie.After-up Inv-loop μ-loop → Figures
-figures c = c .before .before .before .before .before .args .t1
+figures c = c .before .before .before .before .before .before .args .f
 
 -- what `up` gave
 rounded :
     (c : tie.After-up Inv-loop μ-loop) → c .up .result ≡ up (figures c .d) (figures c .n ^ c .before .before .before .loop .h)
-rounded c =
-    let f = c .before .before .before .before .before .args .t1 in
-    c .up .ensures ∙ ap (up (f .d)) (now-row (c .before .before) .power)
+rounded c = c .up .ensures ∙ ap (up (figures c .d)) (c .before .power .ensures)
 
-mul-sum-2 : tie.Need-mul-sum-2 Inv-loop μ-loop
-mul-sum-2 c = let r = now-row (c .before .before .before) in omega arith
+power-requires-2 : tie.Need-power-requires-2 Inv-loop μ-loop
+power-requires-2 c κs =
+    let f = c .before .before .before .before .before .before .pre .0 in
+    (f .n-low, f .n-high, omega (arith, now-row (c .before .before) .height))
+
+mul-sum : tie.Need-mul-sum Inv-loop μ-loop
+mul-sum c = let r = now-row (c .before .before .before) in rw (c .power2 .ensures) (omega arith)
 
 sub-sum : tie.Need-sub-sum Inv-loop μ-loop
-sub-sum c = let r = now-row (c .before .before .before) in let x = rounded (c .before) in omega arith
+sub-sum c = let r = now-row (c .before .before .before) in rw (c .power2 .ensures, rounded (c .before)) (omega arith)
 
 add-sum : tie.Need-add-sum Inv-loop μ-loop
 add-sum c = let r = now-row (c .before .before .before) in let x = rounded (c .before) in omega arith
@@ -117,23 +106,22 @@ row-added n d e j h x y sum low s p q =
 
 loop-again : tie.Need-loop-again Inv-loop μ-loop
 loop-again c =
-    let f = c .before .before .before .before .before .before .args .t1 in
-    let e = c .before .before .before .before .before .before .args .e in
-    let j = c .before .before .before .before .before .before .args .j in
+    let start = c .before .before .before .before .before .before .before in
+    let f = start .args .f in
     let l = c .before .before .before .before .loop in
     let r = now-row (c .before .before .before) in
     let x = rounded (c .before) in (
       omega arith,
       omega arith,
-      row-added (f .n) (f .d) e j (l .h) (c .before .up .result) (getD (f .powers) (e - l .h) 0) (l .sum) (l .inv .0) (l .inv .2) x (r .above),
+      row-added (f .n) (f .d) (start .args .e) (start .args .j) (l .h) (c .before .up .result) (c .power2 .result) (l .sum) (l .inv .0) (l .inv .2) x (c .power2 .ensures),
       omega arith,
     )
 
 returns-2 : tie.Need-returns-2 Inv-loop μ-loop
 unfolding planOf InTree
 returns-2 c =
-    let start = c .before .before .before in
-    let f = start .args .t1 in
+    let start = c .before .before .before .before in
+    let f = start .args .f in
     let e = start .args .e in
     let j = start .args .j in
     let pre = start .pre in
@@ -151,12 +139,10 @@ last-tree-size-spec =
     μ-loop
     returns
     loop-holds
-    mul-up
-    element-copy-out-up
+    power-requires
     up-requires
+    power-requires-2
     mul-sum
-    element-copy-out-sum
-    mul-sum-2
     sub-sum
     add-sum
     add-h

@@ -1,15 +1,17 @@
 -- `listener::Listener::index_step` meets its contract: the three distances one after the other.
 -- Assumes nothing.
 use mathlib.Core.Path.{_≡_, sym, _∙_, ap}
+use mathlib.Core.Bool.{true}
 use borrow.Author.Needs.{needs}
 use borrow.Author.Tests.{eq-eqb, ne-eqb}
 use native.Mathlib.Omega.{arith}
+use lib.Dec.{eqb}
 use lib.ListN.{drop}
 use Rattle.buckets.specs.declared.Head.{Head}
 use Rattle.buckets.specs.declared.Index.{Index}
 use Rattle.buckets.specs.Held.{indexOf, bucketWith}
 use Rattle.listener.specs.Listener.{decided, bodyChoice, misses}
-use Rattle.listener.specs.OnReading.{pairsHeld, entriesHeld, near, chosen, below, reached, firstChosen, SoundIndex}
+use Rattle.listener.specs.OnReading.{held, pairsHeld, entriesHeld, near, chosen, below, reached, firstChosen, SoundIndex}
 use Rattle.listener.specs.declared.Phase.the-variants
 use Rattle.listener.specs.declared.Listener.{Listener}
 use Rattle.listener.proofs.Chosen.{dozesUnless0, chosen-near, first-near, index-chosen}
@@ -25,11 +27,42 @@ by-three :
     (dozesUnless0 (firstChosen (s .tag) (x .blank) (pairsHeld x)) the-variants.Index
     (dozesUnless0 (chosen (below (s .tag)) (drop 1 (pairsHeld x))) the-variants.Index
     (dozesUnless0 (chosen (reached (s .tag)) (entriesHeld x)) the-variants.Either misses)))
-unfolding indexOf pairsHeld entriesHeld
+unfolding indexOf held pairsHeld entriesHeld
 by-three s h x k =
     ap
     (decided s (bucketWith h (indexOf x)))
     (index-chosen (s .tag) (entriesHeld x) (x .blank) (pairsHeld x) (k .pairsNear) (k .entriesNear))
+
+-- ---- what is known once the later pairs are searched, and once the entries are
+
+abbrev first : tie.After-pair-below → tie.After-first-pair
+first c = c .before .before .before .before
+
+abbrev start : tie.After-pair-below → tie.Start
+start c = first c .before
+
+no-first : (c : tie.After-pair-below) → eqb (first c .first-pair .result) 0 ≡ true
+no-first c = eq-eqb _ 0 (c .before .before .before .if1 .left)
+
+below-held :
+    (c : tie.After-pair-below) →
+    c .pair-below .result ≡ chosen (below (start c .args .self .tag)) (drop 1 (pairsHeld (start c .args .x)))
+unfolding pairsHeld
+below-held c = c .pair-below .ensures
+
+abbrev later : tie.After-entry-from → tie.After-pair-below
+later c = c .before .before .before .before
+
+no-later : (c : tie.After-entry-from) → eqb (later c .pair-below .result) 0 ≡ true
+no-later c = eq-eqb _ 0 (c .before .before .before .if2 .left)
+
+entry-held :
+    (c : tie.After-entry-from) →
+    c .entry-from .result ≡ chosen (reached (start (later c) .args .self .tag)) (entriesHeld (start (later c) .args .x))
+unfolding entriesHeld
+entry-held c = c .entry-from .ensures
+
+-- ---- the distances are near
 
 doze-by-requires : tie.Need-doze-by-requires
 doze-by-requires c κs =
@@ -47,13 +80,13 @@ doze-by-requires c κs =
 
 doze-by-requires-2 : tie.Need-doze-by-requires-2
 doze-by-requires-2 c κs =
-    let s = c .before .before .before .before in (
+    let s = start (c .before) in (
       s .pre .0,
       (
         s .pre .1 .0,
         omega (
           arith,
-          c .before .pair-below .ensures,
+          below-held (c .before),
           chosen-near (below (s .args .self .tag)) (drop 1 (pairsHeld (s .args .x)))
               (every-drop near 1 (pairsHeld (s .args .x)) (s .pre .1 .1 .pairsNear)),
         ),
@@ -62,17 +95,19 @@ doze-by-requires-2 c κs =
 
 doze-by-requires-3 : tie.Need-doze-by-requires-3
 doze-by-requires-3 c κs =
-    let s = c .before .before .before .before .before .before in (
+    let s = start (later (c .before)) in (
       s .pre .0,
       (
         s .pre .1 .0,
         omega (
           arith,
-          c .before .entry-from .ensures,
+          entry-held (c .before),
           chosen-near (reached (s .args .self .tag)) (entriesHeld (s .args .x)) (s .pre .1 .1 .entriesNear),
         ),
       ),
     )
+
+-- ---- the answers
 
 returns : tie.Need-returns
 unfolding dozesUnless0
@@ -86,46 +121,44 @@ returns c =
 returns-2 : tie.Need-returns-2
 unfolding dozesUnless0
 returns-2 c =
-    let s = c .before .before .before .before .before in
+    let here = c .before .before in
+    let s = start here in
     c .doze-by2 .ensures (indexOf (s .args .x)) ∙
     sym
     (by-three (s .args .self) (s .args .h) (s .args .x) (s .pre .1 .1) ∙
-    rw (
-      ← c .before .before .before .before .first-pair .ensures,
-      eq-eqb _ 0 (c .before .before .before .if1 .left),
-      ← c .before .before .pair-below .ensures,
-      ne-eqb _ 0 (c .before .if2 .taken),
-    ))
+    rw (← first here .first-pair .ensures, no-first here, ← below-held here, ne-eqb _ 0 (c .before .if2 .taken)))
 
 returns-3 : tie.Need-returns-3
 unfolding dozesUnless0
 returns-3 c =
-    let s = c .before .before .before .before .before .before .before in
+    let here = c .before .before in
+    let s = start (later here) in
     c .doze-by3 .ensures (indexOf (s .args .x)) ∙
     sym
     (by-three (s .args .self) (s .args .h) (s .args .x) (s .pre .1 .1) ∙
     rw (
-      ← c .before .before .before .before .before .before .first-pair .ensures,
-      eq-eqb _ 0 (c .before .before .before .before .before .if1 .left),
-      ← c .before .before .before .before .pair-below .ensures,
-      eq-eqb _ 0 (c .before .before .before .if2 .left),
-      ← c .before .before .entry-from .ensures,
+      ← first (later here) .first-pair .ensures,
+      no-first (later here),
+      ← below-held (later here),
+      no-later here,
+      ← entry-held here,
       ne-eqb _ 0 (c .before .if3 .taken),
     ))
 
 returns-4 : tie.Need-returns-4
 unfolding dozesUnless0
 returns-4 c =
-    let s = c .before .before .before .before .before .before .before in
+    let here = c .before .before in
+    let s = start (later here) in
     c .end-by .ensures ∙
     sym
     (by-three (s .args .self) (s .args .h) (s .args .x) (s .pre .1 .1) ∙
     rw (
-      ← c .before .before .before .before .before .before .first-pair .ensures,
-      eq-eqb _ 0 (c .before .before .before .before .before .if1 .left),
-      ← c .before .before .before .before .pair-below .ensures,
-      eq-eqb _ 0 (c .before .before .before .if2 .left),
-      ← c .before .before .entry-from .ensures,
+      ← first (later here) .first-pair .ensures,
+      no-first (later here),
+      ← below-held (later here),
+      no-later here,
+      ← entry-held here,
       eq-eqb _ 0 (c .before .if3 .left),
     ))
 
@@ -136,10 +169,10 @@ index-step-spec =
     (λ c κs. search needs)
     doze-by-requires
     returns
-    (λ c κs. search needs)
+    (λ c κs. c .before .before .before .before .pre .1 .1 .fewPairs)
     doze-by-requires-2
     returns-2
-    (λ c κs. search needs)
+    (λ c κs. start (c .before .before .before) .pre .1 .1 .fewEntries)
     doze-by-requires-3
     returns-3
     (λ c κs. search needs)

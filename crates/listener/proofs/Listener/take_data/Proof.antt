@@ -1,14 +1,14 @@
--- `listener::Listener::take_data` meets its contract: 9, else phase by phase.
+-- `listener::Listener::take_data` meets its contract: 9, else at tune-in or later.
 -- Assumes nothing.
+use mathlib.Core.Bool.{true}
 use mathlib.Core.Path.{_≡_, refl, sym, _∙_}
 use borrow.Author.Needs.{needs}
 use borrow.Author.Tests.{not-true, not-false}
 use Rattle.buckets.specs.Bucket.{Body, dataBody}
 use Rattle.buckets.specs.Held.{bucketWith}
 use Rattle.listener.specs.OnReading.{taggedLines}
-use Rattle.listener.specs.Listener.{choice, decided, take}
-use Rattle.listener.specs.declared.Phase.{Phase}
-use Rattle.listener.proofs.States.{take-awaited, take-other}
+use Rattle.listener.specs.Listener.{awaited}
+use Rattle.listener.proofs.States.{take-tune-in, take-later, take-other}
 use Rattle.listener.proofs.Listener.take_data.Statement.{statement}
 use Rattle.listener.proofs.Listener.take_data.Tie as tie
 
@@ -29,37 +29,30 @@ returns c =
 abbrev start : tie.Else1 → tie.Start
 start c = c .before .before
 
-in-phase :
-    (c : tie.Else1) {p : Phase} → start c .args .self .phase ≡ p →
-    take (start c .args .self) (bucketWith (start c .args .h) (body (start c))) ≡
-    decided (start c .args .self) (bucketWith (start c .args .h) (body (start c)))
-    (choice p (start c .args .self .tag) (bucketWith (start c .args .h) (body (start c))))
+as-awaited :
+    (c : tie.Else1) → awaited (start c .args .self) (bucketWith (start c .args .h) (body (start c))) ≡ true
 unfolding bucketWith
-in-phase c e =
-    take-awaited (start c .args .self) (bucketWith (start c .args .h) (body (start c)))
-    (sym (c .before .awaits .ensures (body (start c)) refl) ∙ not-false (c .before .awaits .result) (c .if1 .left))
-    e
+as-awaited c = sym (c .before .awaits .ensures (body (start c)) refl) ∙ not-false (c .before .awaits .result) (c .if1 .left)
 
 returns-2 : tie.Need-returns-2
 unfolding bucketWith
 returns-2 c =
     let here = c .before .before .before in
-    c .doze-by .ensures (body (start here)) ∙ sym (in-phase here (c .before .enum-told .given .1))
+    let s = start here in
+    c .doze-by .ensures (body s) ∙
+    sym
+    (take-tune-in (s .args .self) (bucketWith (s .args .h) (body s)) (as-awaited here)
+    (sym (c .before .before .is-tune-in .ensures) ∙ c .before .if2 .taken))
 
 returns-3 : tie.Need-returns-3
 unfolding bucketWith
-returns-3 c = c .data-step .ensures ∙ sym (in-phase (c .before .before .before) (c .before .enum-told2 .given .1))
-
-returns-4 : tie.Need-returns-4
-unfolding bucketWith
-returns-4 c = c .data-step2 .ensures ∙ sym (in-phase (c .before .before .before) (c .before .enum-told3 .given .1))
-
-returns-5 : tie.Need-returns-5
-unfolding bucketWith
-returns-5 c = c .data-step3 .ensures ∙ sym (in-phase (c .before .before .before) (c .before .enum-told4 .given .1))
-
-returns-6 : tie.Need-returns-6
-returns-6 c = c .end-by .ensures ∙ sym (in-phase (c .before .before .before) (c .before .enum-told5 .given .1))
+returns-3 c =
+    let here = c .before .before .before in
+    let s = start here in
+    c .data-step .ensures ∙
+    sym
+    (take-later (s .args .self) (bucketWith (s .args .h) (body s)) (as-awaited here)
+    (sym (c .before .before .is-tune-in .ensures) ∙ c .before .if2 .left))
 
 pub take-data-spec : {M : Type 1} → statement M
 take-data-spec =
@@ -68,18 +61,8 @@ take-data-spec =
     (λ c κs. search needs)
     (λ c κs. search needs)
     returns
-    (λ c. search needs)
     (λ c κs. search needs)
-    (λ c. search needs)
-    (λ c κs. search needs)
-    (λ c. search needs)
-    (λ c κs. search needs)
-    (λ c. search needs)
-    (λ c κs. search needs)
-    (λ c. search needs)
     (λ c κs. search needs)
     returns-2
-    returns-3
-    returns-4
-    returns-5
-    returns-6)
+    (λ c κs. search needs)
+    returns-3)

@@ -5,43 +5,47 @@ use Prim.Native.Nat.{_+_, _-_, _≤_}
 use native.Mathlib.Omega.{arith}
 use borrow.Author.Tests.{lt-ltb, le-ltb}
 use lib.ListN.{drop}
-use Rattle.listener.specs.OnReading.{chosen, below, pairsHeld}
-use Rattle.listener.proofs.HeldLists.{entry, pairs-more, pairs-end}
+use Rattle.listener.specs.OnReading.{held, chosen, below}
+use Rattle.listener.proofs.HeldLists.{entry, chosen-more, chosen-end}
 use Rattle.listener.proofs.choose.pair_below.Statement.{statement}
 use Rattle.listener.proofs.choose.pair_below.Tie as tie
 
 abbrev Inv-loop : tie.InvT-loop
-Inv-loop tag x count i₀ i =
-    (1 ≤ i) × (i ≤ count + 1) × (chosen (below tag) (drop 1 (pairsHeld x)) ≡ chosen (below tag) (drop i (pairsHeld x)))
+Inv-loop tag count tags distances i₀ i =
+    (1 ≤ i) × (i ≤ count + 1) ×
+    (chosen (below tag) (drop 1 (held count tags distances)) ≡
+    chosen (below tag) (drop i (held count tags distances)))
 
 abbrev μ-loop : tie.MeasureT-loop
-μ-loop tag x count i₀ i = count + 1 - i
+μ-loop tag count tags distances i₀ i = count + 1 - i
 
 loop-again : tie.Need-loop-again Inv-loop μ-loop
 unfolding entry
 loop-again c =
-    let s = c .before .before .before .before in
-    let at = c .before .before .before .loop in (
+    let s = c .before .before .before in
+    let at = c .before .before .loop in (
       omega arith,
       omega arith,
       at .inv .2 ∙
-          (pairs-more (below (s .args .tag)) (s .args .t2) (at .i) (s .pre) (omega arith) ∙ rw (le-ltb _ _ (c .if2 .left))),
+          (chosen-more (below (s .args .tag)) (s .args .t3) (s .args .t4) (s .args .count) (at .i) (omega arith) (omega arith) (omega arith) ∙
+          rw (le-ltb _ _ (c .if2 .left))),
     )
 
 returns : tie.Need-returns Inv-loop μ-loop
 returns c =
     let s = c .before .before in
     let at = c .before .loop in
-    sym (at .inv .2 ∙ pairs-end (below (s .args .tag)) (s .args .t2) (at .i) (s .pre) (c .if1 .taken))
+    sym (at .inv .2 ∙ chosen-end (below (s .args .tag)) (s .args .t3) (s .args .t4) (s .args .count) (at .i) (c .if1 .taken))
 
 returns-2 : tie.Need-returns-2 Inv-loop μ-loop
 unfolding entry
 returns-2 c =
-    let s = c .before .before .before .before .before in
-    let at = c .before .before .before .before .loop in
+    let s = c .before .before .before in
+    let at = c .before .before .loop in
     sym
     (at .inv .2 ∙
-    (pairs-more (below (s .args .tag)) (s .args .t2) (at .i) (s .pre) (omega arith) ∙ rw (lt-ltb _ _ (c .before .if2 .taken))))
+    (chosen-more (below (s .args .tag)) (s .args .t3) (s .args .t4) (s .args .count) (at .i) (omega arith) (omega arith) (omega arith) ∙
+    rw (lt-ltb _ _ (c .if2 .taken))))
 
 pub pair-below-spec : {M : Type 1} → statement M
 pair-below-spec =

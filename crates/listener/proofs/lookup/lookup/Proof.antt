@@ -12,7 +12,7 @@ use Rattle.columns.proofs.Put.{put-nil}
 use Rattle.buckets.specs.ListLine.{printLine}
 use Rattle.cycle.specs.ReadingBack.{wholeBuckets}
 use Rattle.listener.specs.Lookup.{Finish, refuse, concluded, lookup}
-use Rattle.listener.specs.OnRun.{wholeRun, gotBy}
+use Rattle.listener.specs.OnRun.{wholeRun, asFinish, gotBy}
 use Rattle.listener.proofs.Lookups.{whole, refused-11, refused-12, by-run, FoundIn, as-found, as-absent, as-refused, refused-7, has-room, finds, handed, found-alike, absent-alike}
 use Rattle.listener.proofs.lookup.lookup.Statement.{statement}
 use Rattle.listener.proofs.lookup.lookup.Tie as tie
@@ -23,7 +23,7 @@ is-whole : (c : tie.Else1) → wholeBuckets (length (c .before .before .before .
 is-whole c = sym (c .before .whole-buckets .ensures) ∙ not-false (c .before .whole-buckets .result) (c .if1 .left)
 
 abbrev start : tie.After-run → tie.Start
-start c = c .before .before .before .before .before .before
+start c = c .before .before .before .before .before .before .before
 
 abbrev ran : tie.After-run → Finish
 ran c =
@@ -35,12 +35,16 @@ by-the-run :
     concluded (length (start c .args .out .now)) f
 by-the-run c e =
     by-run (start c .args .image .now) (start c .args .tag) (start c .args .t) (length (start c .args .out .now))
-    (is-whole (c .before .before))
-    (c .before .if2 .left)
+    (is-whole (c .before .before .before))
+    (c .before .before .if2 .left)
     e
 
+-- the run goes on from the bucket that was sought
+ran-on : (c : tie.After-run) → asFinish (ran c) ≡ c .run .result
+ran-on c = ap asFinish (c .before .seek .ensures .1) ∙ sym (c .run .ensures)
+
 found-in : (c : tie.After-finish) → FoundIn (ran (c .before .before)) (c .finish .given .0 .0) (c .finish .given .0 .1 .0)
-found-in c = as-found (ran (c .before .before)) (sym (c .before .before .run .ensures) ∙ c .finish .given .1)
+found-in c = as-found (ran (c .before .before)) (ran-on (c .before .before) ∙ c .finish .given .1)
 
 -- ---- the answers
 
@@ -65,10 +69,15 @@ returns-2 c =
     refl
     (sym (put-nil (s .args .out .now) 0))
 
-run-requires : tie.Need-run-requires
-run-requires c κs =
+seek-requires : tie.Need-seek-requires
+seek-requires c κs =
     let w = whole (length (c .before .before .before .before .before .args .image .now)) (is-whole (c .before)) in
     (c .if2 .left, (w .few, w .inside))
+
+run-requires : tie.Need-run-requires
+run-requires c κs =
+    let w = whole (length (c .before .before .before .before .before .before .args .image .now)) (is-whole (c .before .before)) in
+    ((w .few, w .inside), c .seek .ensures .0)
 
 returns-3 : tie.Need-returns-3
 unfolding refuse
@@ -85,17 +94,20 @@ returns-3 c =
 write-found-requires : tie.Need-write-found-requires
 write-found-requires c κs =
     let here = c .before .before .before .before .before in
-    let w = whole (length (start here .args .image .now)) (is-whole (here .before .before)) in
+    let w = whole (length (start here .args .image .now)) (is-whole (here .before .before .before)) in
     let f = found-in (c .before .before .before) in (
-      (here .before .if2 .left, (w .few, w .inside)),
-      record {
-        listener = c .before .before .before .finish .given .0 .0;
-        got = f .got;
-        is = f .is;
-        fits =
-            has-room (length (start here .args .out .now)) (c .before .before .before .finish .given .0 .0) (f .got)
-            (omega (arith, f .counted, c .before .if3 .left));
-      },
+      (w .few, w .inside),
+      (
+        here .before .seek .ensures .0,
+        record {
+          listener = c .before .before .before .finish .given .0 .0;
+          got = f .got;
+          is = sym (here .before .seek .ensures .1) ∙ f .is;
+          fits =
+              has-room (length (start here .args .out .now)) (c .before .before .before .finish .given .0 .0) (f .got)
+              (omega (arith, f .counted, c .before .if3 .left));
+        },
+      ),
     )
 
 returns-4 : tie.Need-returns-4
@@ -108,13 +120,14 @@ returns-4 c =
     (by-the-run here (f .is) ∙
     finds (length out) (found .finish .given .0 .0) (f .got) (omega (arith, f .counted, c .before .before .before .before .before .before .if3 .left)))
     (found-alike (c .before .heard .ensures) (c .elapsed .ensures) (sym (f .counted)))
-    (c .before .before .before .before .write-found .ensures ∙ ap (λ z. put out 0 (joined printLine (gotBy z))) (f .is))
+    (c .before .before .before .before .write-found .ensures ∙
+    ap (λ z. put out 0 (joined printLine (gotBy z))) (sym (here .before .seek .ensures .1) ∙ f .is))
 
 returns-5 : tie.Need-returns-5
 returns-5 c =
     let here = c .before .before .before .before .before in
     handed (start here .args .out .now)
-    (by-the-run here (as-absent (ran here) (sym (here .run .ensures) ∙ c .before .before .before .finish2 .given .1)))
+    (by-the-run here (as-absent (ran here) (ran-on here ∙ c .before .before .before .finish2 .given .1)))
     (absent-alike (c .before .heard2 .ensures) (c .elapsed2 .ensures))
     (sym (put-nil (start here .args .out .now) 0))
 
@@ -123,7 +136,7 @@ unfolding refuse
 returns-6 c =
     let here = c .before .before .before in
     handed (start here .args .out .now)
-    (by-the-run here (as-refused (ran here) (sym (here .run .ensures) ∙ c .before .finish3 .given .1)))
+    (by-the-run here (as-refused (ran here) (ran-on here ∙ c .before .finish3 .given .1)))
     refl
     (sym (put-nil (start here .args .out .now) 0))
 
@@ -134,6 +147,7 @@ lookup-spec =
     (λ c κs. search needs)
     returns
     returns-2
+    seek-requires
     run-requires
     (λ c. search needs)
     returns-3

@@ -2,116 +2,132 @@
 -- ends where it finds.
 -- Assumes nothing.
 use mathlib.Core.Path.{_≡_, sym, _∙_, ap}
-use Prim.Native.Nat.{ℕ}
+use mathlib.Core.List.{[]}
+use Prim.Native.Nat.{ℕ, _<_}
 use native.Mathlib.Omega.{arith}
 use borrow.Author.Needs.{needs}
 use lib.ListN.{length}
 use Rattle.columns.specs.Lists.{put, joined}
 use Rattle.buckets.specs.ListLine.{printLine}
-use Rattle.listener.specs.OnRun.{wholeRun, gotBy}
-use Rattle.listener.proofs.Runs.{at-start, named-few, lines-few, doze-few, after, run-out}
-use Rattle.listener.proofs.WritingRuns.{Written, WritingTurn, nothing-written, turn, room-with, wrote-with, written-onward}
+use Rattle.listener.specs.OnRun.{runOn, gotBy}
+use Rattle.listener.specs.declared.Answer.the-variants.{Doze}
+use Rattle.listener.proofs.Runs.{named-few, lines-few, doze-few, fewer-left, after, run-out}
+use Rattle.listener.proofs.WritingRuns.{Written, Writing, nothing-written, room-with, wrote-with, written-onward}
 use Rattle.listener.proofs.lookup.write_found.Statement.{statement}
 use Rattle.listener.proofs.lookup.write_found.Tie as tie
 
 abbrev Inv-loop : tie.InvT-loop
-Inv-loop image count tag t out₀ l₀ x₀ lines₀ budget₀ out l x lines budget =
-    Written image count (wholeRun image count tag t) out₀ out l x lines budget
+Inv-loop image count out₀ h₀ lines₀ out h lines = Written image count (runOn image count h₀ []) out₀ out h lines
 
 abbrev μ-loop : tie.MeasureT-loop
-μ-loop image count tag t out₀ l₀ x₀ lines₀ budget₀ out l x lines budget = budget
-
-abbrev start : tie.After-hear Inv-loop μ-loop → tie.Start Inv-loop μ-loop
-start c = c .before .before .before .before .before .before
-
-abbrev loop : tie.After-hear Inv-loop μ-loop → tie.At-loop Inv-loop μ-loop
-loop c = c .before .before
-
-writing :
-    (c : tie.After-hear Inv-loop μ-loop) →
-    WritingTurn (start c .args .image .now) (start c .args .count)
-    (wholeRun (start c .args .image .now) (start c .args .count) (start c .args .tag) (start c .args .t))
-    (start c .args .out .now)
-    (loop c .loop .out)
-    (loop c .loop .l)
-    (loop c .loop .x)
-    (loop c .loop .lines)
-    (loop c .loop .budget)
-    (c .hear .result)
-writing c =
-    record {
-      written = loop c .loop .inv;
-      more = c .before .loop-test .taken;
-      is = c .hear .ensures;
-      finds = start c .pre .1;
-    }
+μ-loop image count out₀ h₀ lines₀ out h lines = h .left
 
 loop-holds : tie.Need-loop-holds Inv-loop μ-loop
 loop-holds c =
-    let s = c .before .before .before in
-    nothing-written (s .args .out .now)
-    (at-start (s .args .image .now) (s .args .count) (s .args .tag) (s .args .t) (c .new .ensures) (s .pre .0 .0))
+    let s = c .before .before in
+    nothing-written (s .args .image .now) (s .args .count) (s .args .out .now) (s .pre .1 .0)
+
+-- ---- at a bucket heard
+
+abbrev start : tie.At-loop Inv-loop μ-loop → tie.Start Inv-loop μ-loop
+start c = c .before .before .before
+
+writing :
+    (c : tie.At-loop Inv-loop μ-loop) →
+    Writing (start c .args .image .now) (start c .args .count)
+    (runOn (start c .args .image .now) (start c .args .count) (start c .args .heard) [])
+    (start c .args .out .now)
+    (c .loop .out)
+    (c .loop .h)
+    (c .loop .lines)
+writing c = record { written = c .loop .inv; finds = start c .pre .1 .1 }
 
 copy-named-requires : tie.Need-copy-named-requires Inv-loop μ-loop
 copy-named-requires c κs =
-    let here = c .before .before in (
-      omega (arith, loop here .loop .inv .so-far .inside, start here .pre .0),
-      (named-few (turn (writing here)), room-with (writing here)),
-    )
+    let at = c .before .before in
+    let f = at .loop .inv .so-far in
+    (omega (arith, f .heard .inside, start at .pre .0), (named-few f, room-with (writing at)))
+
+-- ---- once its lines are copied
+
+abbrev copied : tie.After-struct-known Inv-loop μ-loop → tie.After-copy-named Inv-loop μ-loop
+copied c = c .before .before .before
+
+abbrev at : tie.After-struct-known Inv-loop μ-loop → tie.At-loop Inv-loop μ-loop
+at c = copied c .before .before .before
 
 add-lines : tie.Need-add-lines Inv-loop μ-loop
-add-lines c = omega (arith, lines-few (turn (writing (c .before .before .before .before .before .before))))
-
-add-x : tie.Need-add-x Inv-loop μ-loop
-add-x c =
-    let here = c .before .before .before .before .before .before .before .before .before in
-    omega (
-      arith,
-      doze-few (turn (writing here)) (c .before .answer .given .1),
-      loop here .loop .inv .so-far .inside,
-      start here .pre .0 .1 .0,
-    )
+add-lines c = omega (arith, lines-few (at c .loop .inv .so-far))
 
 -- a call keeps the buffer's length
 kept-length :
-    (c : tie.After-copy-named Inv-loop μ-loop) →
-    length (c .copy-named .last .1 .1 .1 .1 .0) ≡ length (start (c .before .before .before) .args .out .now)
-kept-length c = c .copy-named .kept .1 .1 .1 .1 .0 ∙ c .before .before .before .before .before .loop .inv .kept
+    (c : tie.After-struct-known Inv-loop μ-loop) →
+    length (copied c .copy-named .last .1 .1 .1 .1 .0) ≡ length (start (at c) .args .out .now)
+kept-length c = copied c .copy-named .kept .1 .1 .1 .1 .0 ∙ at c .loop .inv .kept
 
-returns : tie.Need-returns Inv-loop μ-loop
-returns c =
-    let here = c .before .before .before .before .before .before .before .before in
-    wrote-with (writing here) (c .before .before .before .before .before .copy-named .ensures) ∙
-    ap (λ got. put (start here .args .out .now) 0 (joined printLine got))
-    (sym (ap gotBy (after (turn (writing here)) (c .enum-told .given .1))))
+-- ---- it dozes
 
--- a run that finds does not end in another way
-returns-2 : tie.Need-returns-2 Inv-loop μ-loop
-returns-2 c =
-    let here = c .before .before .before .before .before .before .before .before in
-    let a = after (turn (writing here)) (c .enum-told2 .given .1) in
-    let f = start here .pre .1 .is in
-    let z : _≡_ {A = ℕ} 0 1 = cc in
-    absurd (omega arith)
+abbrev heard : tie.After-struct-known2 Inv-loop μ-loop → tie.After-struct-known Inv-loop μ-loop
+heard c = c .before .before .before .before
 
-returns-3 : tie.Need-returns-3 Inv-loop μ-loop
-returns-3 c =
-    let here = c .before .before .before .before .before .before .before .before in
-    let a = after (turn (writing here)) (c .enum-told3 .given .1) in
-    let f = start here .pre .1 .is in
-    let z : _≡_ {A = ℕ} 0 1 = cc in
-    absurd (omega arith)
+dozed :
+    (c : tie.After-struct-known2 Inv-loop μ-loop) →
+    at (heard c) .loop .h .step .answer ≡ Doze (c .before .before .answer .given .0 .0)
+dozed c = c .before .before .answer .given .1
+
+more : (c : tie.Else1 Inv-loop μ-loop) → 0 < at (heard (c .before)) .loop .h .left
+more c = omega (arith, c .if1 .left)
+
+hear-next-requires : tie.Need-hear-next-requires Inv-loop μ-loop
+hear-next-requires c κs =
+    let f = at (heard (c .before)) .loop .inv .so-far in
+    (start (at (heard (c .before))) .pre .0, (f .heard .inside, (more c, doze-few f (dozed (c .before)))))
+
+loop-less : tie.Need-loop-less Inv-loop μ-loop
+loop-less c =
+    let here = c .before .before in
+    fewer-left (at (heard here) .loop .inv .so-far) (here .before .before .answer .given .0 .0) (more (c .before))
+    (c .hear-next .ensures)
 
 loop-again : tie.Need-loop-again Inv-loop μ-loop
 loop-again c =
-    written-onward (writing (c .before .before .before .before .before .before .before .before .before)) (c .before .answer .given .0 .0) (c .before .answer .given .1)
-    (c .before .before .before .before .before .before .copy-named .kept .1 .1 .1 .1 .0)
-    (c .before .before .before .before .before .before .copy-named .ensures)
+    let here = c .before .before in
+    let copy = copied (heard here) .copy-named in
+    written-onward (writing (at (heard here))) (here .before .before .answer .given .0 .0) (dozed here) (more (c .before))
+    (c .hear-next .ensures)
+    (copy .kept .1 .1 .1 .1 .0)
+    (copy .ensures)
+
+-- ---- it ends: a run that finds does not end in another way
+
+returns : tie.Need-returns Inv-loop μ-loop
+returns c =
+    let here = c .before in
+    let a = run-out (at (heard here) .loop .inv .so-far) (dozed here) (c .if1 .taken) in
+    let f = start (at (heard here)) .pre .1 .1 .is in
+    let z : _≡_ {A = ℕ} 0 1 = cc in
+    absurd (omega arith)
+
+returns-2 : tie.Need-returns-2 Inv-loop μ-loop
+returns-2 c =
+    let here = c .before .before in
+    wrote-with (writing (at here)) (copied here .copy-named .ensures) ∙
+    ap (λ got. put (start (at here) .args .out .now) 0 (joined printLine got))
+    (sym (ap gotBy (after (writing (at here) .written .so-far) (c .enum-told .given .1))))
+
+returns-3 : tie.Need-returns-3 Inv-loop μ-loop
+returns-3 c =
+    let here = c .before .before in
+    let a = after (at here .loop .inv .so-far) (c .enum-told2 .given .1) in
+    let f = start (at here) .pre .1 .1 .is in
+    let z : _≡_ {A = ℕ} 0 1 = cc in
+    absurd (omega arith)
 
 returns-4 : tie.Need-returns-4 Inv-loop μ-loop
 returns-4 c =
-    let a = run-out (c .before .loop .inv .so-far) (c .loop-test .left) in
-    let f = c .before .before .before .before .before .pre .1 .is in
+    let here = c .before .before in
+    let a = after (at here .loop .inv .so-far) (c .enum-told3 .given .1) in
+    let f = start (at here) .pre .1 .1 .is in
     let z : _≡_ {A = ℕ} 0 1 = cc in
     absurd (omega arith)
 
@@ -121,25 +137,21 @@ write-found-spec =
     (tie.spec
     Inv-loop
     μ-loop
-    (λ c κs. search needs)
     loop-holds
-    (λ c κs. omega (arith, c .before .loop .inv .so-far .inside, c .before .before .before .before .before .pre .0))
     copy-named-requires
     add-lines
     (λ c. search needs)
-    add-x
-    (λ c. omega (arith, start (c .before .before .before .before .before .before .before .before .before) .pre .0 .0))
-    (λ c. search needs)
-    (λ c. kept-length (c .before .before .before .before .before))
+    (λ c. kept-length (heard (c .before)))
     returns
+    hear-next-requires
+    loop-less
+    loop-again
     (λ c. search needs)
-    (λ c. kept-length (c .before .before .before .before .before))
+    (λ c. kept-length (c .before .before))
     returns-2
     (λ c. search needs)
-    (λ c. kept-length (c .before .before .before .before .before))
+    (λ c. kept-length (c .before .before))
     returns-3
-    (λ c. omega arith)
-    (λ c. omega arith)
-    loop-again
-    (λ c. c .before .loop .inv .kept)
+    (λ c. search needs)
+    (λ c. kept-length (c .before .before))
     returns-4)

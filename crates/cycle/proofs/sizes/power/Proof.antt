@@ -1,0 +1,50 @@
+-- `cycle::sizes::power` meets its contract. The loop's invariant: x is the power reached.
+-- Assumes nothing.
+use mathlib.Core.Path.{_≡_, sym, ap, _∙_}
+use Prim.Native.Nat.{_-_, _*_, _^_, _≤_}
+use native.Mathlib.Nat.{pow-zero, mul-le-mul}
+use native.Mathlib.Omega.{arith}
+use Rattle.cycle.proofs.Powers.{power-high}
+use Rattle.cycle.proofs.Fulls.{power-next}
+use Rattle.cycle.proofs.sizes.power.Statement.{statement}
+use Rattle.cycle.proofs.sizes.power.Tie as tie
+
+abbrev Inv-loop : tie.InvT-loop
+Inv-loop n h x₀ i₀ x i = (i ≤ h) × (x ≡ n ^ i)
+
+abbrev μ-loop : tie.MeasureT-loop
+μ-loop n h x₀ i₀ x i = h - i
+
+loop-holds : tie.Need-loop-holds Inv-loop μ-loop
+loop-holds c = (omega arith, rw pow-zero)
+
+mul-x : tie.Need-mul-x Inv-loop μ-loop
+mul-x c =
+    let n = c .before .before .args .n in
+    let l = c .before .loop in
+    let s = power-high n (l .i) (omega arith) (omega arith) in
+    let m : l .x * n ≤ 2 ^ 48 * 8 = mul-le-mul {n₂ = 2 ^ 48} {m₂ = 8} (omega (arith, l .inv .1)) (omega arith) in
+    omega arith
+
+add-i : tie.Need-add-i Inv-loop μ-loop
+add-i c = omega arith
+
+loop-less : tie.Need-loop-less Inv-loop μ-loop
+loop-less c = omega arith
+
+loop-again : tie.Need-loop-again Inv-loop μ-loop
+loop-again c =
+    let n = c .before .before .args .n in
+    let l = c .before .loop in
+    (omega arith, ap (λ x. x * n) (l .inv .1) ∙ sym (power-next n (l .i)))
+
+returns : tie.Need-returns Inv-loop μ-loop
+returns c =
+    let n = c .before .before .args .n in
+    let l = c .before .loop in
+    let e : l .i ≡ c .before .before .args .h = omega arith in
+    l .inv .1 ∙ ap (λ i. n ^ i) e
+
+pub power-spec : {M : Type 1} → statement M
+power-spec =
+    tie.close (tie.spec Inv-loop μ-loop loop-holds mul-x add-i loop-less loop-again returns)
