@@ -2,26 +2,28 @@
 --     entries-next, length-entries    entries from two arrays, one more, and how many
 --     joined-next                     one more item behind those that stand
 --     entry-written                   one more entry, printed as two numbers
+--     length-copied-to, copied-printed    entries whose tags are copied from a text
 --     entries-first                   the first entry and the others
 --     pairs-printed, pairs-blank      pairs printed as entries, and with a blank tag first
 --     line-written, figures-at        one more line, and where its figures stand in a list
 -- Assumes nothing.
 use Prim.Native.Nat.{ℕ, zero, suc, _+_, _-_, _*_, _≤_, _<_}
-use mathlib.Core.Path.{_≡_, refl, sym, ap, _∙_}
+use mathlib.Core.Path.{_≡_, refl, sym, ap, ap₂, _∙_}
 use mathlib.Core.Bool.{true, false}
 use mathlib.Core.List.{List, [], _∷_, _++_, map, append-assoc, append-nil}
 use native.Mathlib.Numerals.{add-one}
 use native.Mathlib.Omega.{arith}
 use lib.Dec.{lit≤}
-use lib.ListN.{length, take, drop, getD}
+use lib.ListN.{length, take, drop, getD, length-append}
 use lib.Seq.{length-take-le, take-suc, take-take, take-at}
 use Rattle.columns.specs.Lists.{joined}
 use Rattle.columns.specs.PrintedNumbers.{print, blanks}
+use Rattle.columns.proofs.Put.{length-part}
 use Rattle.columns.proofs.Joined.{joined-append, length-joined, joined-at}
 use Rattle.buckets.specs.declared.Line.{Line}
 use Rattle.buckets.specs.ListLine.{figures, printLine}
 use Rattle.buckets.specs.Bucket.{Entry, printPair, printEntry}
-use Rattle.buckets.specs.Held.{entriesOf, printedPair, pairsOf}
+use Rattle.buckets.specs.Held.{entriesOf, printedPair, pairsOf, copiedTo}
 use Rattle.buckets.proofs.ListLines.{length-figures, length-printLine}
 
 pub length-entry : (e : Entry) → length (printEntry e) ≡ 16
@@ -69,6 +71,30 @@ entry-written ts ds i h g =
     ∙ sym (joined-next printEntry (take i (entriesOf ts ds)) (entryAt ts ds i))
     ∙ ap (joined printEntry) (sym (entries-next ts ds i h g))
     ∙ ap (entriesTo ts ds) (sym (add-one i))
+
+-- the first entries, each tag copied from a text: how wide, and the same as printed ones where the text has the tags
+pub length-copied-to : (text places ds : List ℕ) (i : ℕ) → ((k : ℕ) → k < i → getD places k 0 + 10 ≤ length text) →
+    length (copiedTo text places ds i) ≡ i * 16
+length-copied-to text places ds zero h = refl
+length-copied-to text places ds (suc i) h =
+    let tag : List ℕ = take 10 (drop (getD places i 0) text) in
+    let wide : length tag ≡ 10 = length-part text (getD places i 0) 10 (h i (omega arith)) in
+    let before : length (copiedTo text places ds i) ≡ i * 16 = length-copied-to text places ds i (λ k l. h k (omega arith)) in
+    let one : length (tag ++ print 6 (getD ds i 0)) ≡ length tag + 6 = length-append tag (print 6 (getD ds i 0)) in
+    let all : length (copiedTo text places ds (suc i)) ≡ length (copiedTo text places ds i) + length (tag ++ print 6 (getD ds i 0)) =
+    length-append (copiedTo text places ds i) (tag ++ print 6 (getD ds i 0)) in
+    omega arith
+
+pub copied-printed : (text places ts ds : List ℕ) (i : ℕ) → i ≤ length ts → i ≤ length ds →
+    ((k : ℕ) → k < i → take 10 (drop (getD places k 0) text) ≡ print 10 (getD ts k 0)) →
+    copiedTo text places ds i ≡ entriesTo ts ds i
+copied-printed text places ts ds zero h g e = refl
+copied-printed text places ts ds (suc i) h g e =
+    ap₂ (λ (s t : List ℕ). s ++ (t ++ print 6 (getD ds i 0)))
+    (copied-printed text places ts ds i (omega arith) (omega arith) (λ k l. e k (omega arith))) (e i (omega arith))
+    ∙ sym (append-assoc (entriesTo ts ds i) (print 10 (getD ts i 0)) (print 6 (getD ds i 0)))
+    ∙ entry-written ts ds i (omega arith) (omega arith)
+    ∙ ap (entriesTo ts ds) (add-one i)
 
 -- the first entry, and those of the arrays without their first places
 pub entries-first : (ts ds : List ℕ) (n : ℕ) → 0 < n → n ≤ length ts → n ≤ length ds →

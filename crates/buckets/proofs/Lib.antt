@@ -5,6 +5,7 @@ pub mod Good
 pub mod Buckets
 pub mod Chained
 pub mod Within
+pub mod Bounds
 pub mod Items
 pub mod Figures
 pub mod Entries

@@ -1,11 +1,13 @@
 -- How the code holds what "A list line" and "A bucket" describe: its structs and enums against those definitions.
 -- Assumes nothing.
-use Prim.Native.Nat.{ℕ, zero, suc, _-_}
+use mathlib.Core.Path.{_≡_}
+use Prim.Native.Nat.{ℕ, zero, suc, _+_, _-_, _≤_, _<_}
 use mathlib.Core.Bool.{Bool, true, false}
 use mathlib.Core.Option.{Option, none, some}
 use mathlib.Core.List.{List, [], _∷_, _++_, map}
-use lib.ListN.{length, take, replicate}
-use Rattle.columns.specs.Lists.{pick}
+use lib.ListN.{length, take, drop, getD, replicate}
+use Rattle.columns.specs.Lists.{pick, joined, padded}
+use Rattle.columns.specs.PrintedNumbers.{print}
 use Rattle.buckets.specs.declared.Line.{Line}
 use Rattle.buckets.specs.declared.LineRead.{LineRead}
 use Rattle.buckets.specs.declared.LineRead.the-variants.{Read, Misprinted as LineMisprinted}
@@ -14,7 +16,7 @@ use Rattle.buckets.specs.declared.Index.{Index}
 use Rattle.buckets.specs.declared.Kind.{Kind}
 use Rattle.buckets.specs.declared.Kind.the-variants.{Index as KindIndex, Data as KindData, Misprinted as KindMisprinted}
 use Rattle.buckets.specs.declared.Reading.{Reading}
-use Rattle.buckets.specs.Bucket.{Pair, Entry, Body, indexBody, dataBody, Bucket, followOn}
+use Rattle.buckets.specs.Bucket.{Pair, Entry, Body, indexBody, dataBody, Bucket, followOn, printPair}
 
 -- a strict reading of a list line as the code answers it
 abbrev pub asLineRead : Option Line → LineRead
@@ -42,6 +44,19 @@ indexOf x =
     indexBody
     (pairsOf (x .blank) (take (x .pairs) (entriesOf (x .«pair_tags») (x .«pair_distances»))))
     (take (x .entries) (entriesOf (x .«entry_tags») (x .«entry_distances»)))
+
+-- an index bucket with these entries
+unfoldable pub entered : Index → ℕ → List ℕ → List ℕ → Index
+entered x count tags distances =
+    record {
+      pairs = x .pairs;
+      blank = x .blank;
+      «pair_tags» = x .«pair_tags»;
+      «pair_distances» = x .«pair_distances»;
+      entries = count;
+      «entry_tags» = tags;
+      «entry_distances» = distances;
+    }
 
 unfoldable pub bucketWith : Head → Body → Bucket
 bucketWith h b = record { position = h .position; toCycle = h .«to_cycle»; toSegment = h .«to_segment»; body = b }
@@ -108,3 +123,29 @@ asReading none =
       tags = replicate 8 0;
     }
 asReading (some b) = heldBody (headOf b) (b .body)
+
+-- ---- an index bucket while it is written
+
+-- the columns before its entries, of which there are `count`
+unfoldable pub indexFront : Head → List Pair → ℕ → List ℕ
+indexFront h ps count =
+    (print 6 (h .position) ++
+    (print 6 (h .«to_cycle») ++ (print 6 (h .«to_segment») ++ (print 6 0 ++ (73 ∷ (print 2 (length ps) ++ print 2 count))))))
+    ++ padded 64 (joined printPair ps)
+
+-- ten columns of a text from each of the first `count` places on, and as many distances
+pub record Standing (text : List ℕ) (count : ℕ) (places distances : List ℕ) : Type 0 where
+  pub enough-places : count ≤ length places
+  pub enough-distances : count ≤ length distances
+  pub within : (i : ℕ) → i < count → getD places i 0 + 10 ≤ length text
+
+-- those columns are the printed tags
+pub record Tagged (text : List ℕ) (count : ℕ) (places tags : List ℕ) : Type 0 where
+  pub enough : count ≤ length tags
+  pub printed : (i : ℕ) → i < count → take 10 (drop (getD places i 0) text) ≡ print 10 (getD tags i 0)
+
+-- the first entries, each tag copied from its place in a text
+abbrev pub copiedTo : List ℕ → List ℕ → List ℕ → ℕ → List ℕ
+copiedTo text places distances zero = []
+copiedTo text places distances (suc i) =
+    copiedTo text places distances i ++ (take 10 (drop (getD places i 0) text) ++ print 6 (getD distances i 0))

@@ -1,6 +1,7 @@
 // What fields are read with: a number within bounds, and blank columns.
 use super::BLANK;
 use columns;
+use columns::MISPRINT;
 use columns::Number;
 ghost use mathlib.Core.Path.{_≡_};
 ghost use mathlib.Core.Bool.{_&&_};
@@ -18,6 +19,42 @@ pub fn read_within(part: &[u8], low: u64, high: u64) -> Number
     let Number::Value(x) = columns::read_number(part) else {
         return Number::Misprinted;
     };
+    if x < low {
+        return Number::Misprinted;
+    }
+    if high < x {
+        return Number::Misprinted;
+    }
+    Number::Value(x)
+}
+
+// The same of six columns.
+pub fn six_within(part: &[u8], low: u64, high: u64) -> Number
+    requires { ⌜ length (now part) ≡ 6 ⌝ }
+    ensures { λ r. ⌜ r ≡ asNumber (numberWithin low high (now (part .entry))) ⌝ }
+{
+    let x = columns::read_six(part);
+    if x == MISPRINT {
+        return Number::Misprinted;
+    }
+    if x < low {
+        return Number::Misprinted;
+    }
+    if high < x {
+        return Number::Misprinted;
+    }
+    Number::Value(x)
+}
+
+// The same of four columns.
+pub fn four_within(part: &[u8], low: u64, high: u64) -> Number
+    requires { ⌜ length (now part) ≡ 4 ⌝ }
+    ensures { λ r. ⌜ r ≡ asNumber (numberWithin low high (now (part .entry))) ⌝ }
+{
+    let x = columns::read_four(part);
+    if x == MISPRINT {
+        return Number::Misprinted;
+    }
     if x < low {
         return Number::Misprinted;
     }

@@ -22,16 +22,20 @@ pub fn read_figures(part: &[u8], low: u64) -> LineRead
     requires { ⌜ 26 ≤ length (now part) ⌝ }
     ensures { λ r. ⌜ r ≡ asLineRead (readFigures low (now (part .entry))) ⌝ }
 {
-    let Number::Value(tag) = fields::read_within(&part[0..TARE], low, 4294967295) else {
+    let tag = columns::read_ten(&part[0..TARE]);
+    if tag < low {
+        return LineRead::Misprinted;
+    }
+    if 4294967295 < tag {
+        return LineRead::Misprinted;
+    }
+    let Number::Value(tare) = fields::six_within(&part[TARE..CODE], 0, 99999) else {
         return LineRead::Misprinted;
     };
-    let Number::Value(tare) = fields::read_within(&part[TARE..CODE], 0, 99999) else {
+    let Number::Value(code) = fields::four_within(&part[CODE..WEIGHING], 0, 9999) else {
         return LineRead::Misprinted;
     };
-    let Number::Value(code) = fields::read_within(&part[CODE..WEIGHING], 0, 9999) else {
-        return LineRead::Misprinted;
-    };
-    let Number::Value(weighing) = fields::read_within(&part[WEIGHING..FIGURES], 0, 999999) else {
+    let Number::Value(weighing) = fields::six_within(&part[WEIGHING..FIGURES], 0, 999999) else {
         return LineRead::Misprinted;
     };
     LineRead::Read(Line {

@@ -22,6 +22,7 @@ use super::TO_CYCLE;
 use super::TO_SEGMENT;
 use super::fields;
 use super::lines;
+use columns;
 use columns::Number;
 ghost use mathlib.Core.Path.{_≡_};
 ghost use mathlib.Core.List.{[]};
@@ -79,10 +80,14 @@ fn read_entry(part: &[u8], low: u64, n: u64) -> EntryRead
     requires { ⌜ length (now part) ≡ 16 ⌝ }
     ensures { λ r. ⌜ r ≡ asEntryRead (readEntry n low (now (part .entry))) ⌝ }
 {
-    let Number::Value(tag) = fields::read_within(&part[0..DISTANCE], low, 4294967295) else {
+    let tag = columns::read_ten(&part[0..DISTANCE]);
+    if tag < low {
         return EntryRead::Misprinted;
-    };
-    let Number::Value(distance) = fields::read_within(&part[DISTANCE..ENTRY], 1, n) else {
+    }
+    if 4294967295 < tag {
+        return EntryRead::Misprinted;
+    }
+    let Number::Value(distance) = fields::six_within(&part[DISTANCE..ENTRY], 1, n) else {
         return EntryRead::Misprinted;
     };
     EntryRead::Read(tag, distance)
@@ -93,7 +98,7 @@ fn read_blank_pair(part: &[u8], n: u64) -> PairRead
     requires { ⌜ length (now part) ≡ 16 ⌝ }
     ensures { λ r. ⌜ r ≡ asPairRead (readBlankPair n (now (part .entry))) ⌝ }
 {
-    let Number::Value(distance) = fields::read_within(&part[DISTANCE..ENTRY], 1, n) else {
+    let Number::Value(distance) = fields::six_within(&part[DISTANCE..ENTRY], 1, n) else {
         return PairRead {
             good: false,
             blank: false,
@@ -266,17 +271,17 @@ fn read_head(part: &[u8]) -> HeadRead
     requires { ⌜ length (now part) ≡ 240 ⌝ }
     ensures { λ r. ⌜ r ≡ asHeadRead (readHead (now (part .entry))) ⌝ }
 {
-    let Number::Value(position) = fields::read_within(&part[0..TO_CYCLE], 0, 99999) else {
+    let Number::Value(position) = fields::six_within(&part[0..TO_CYCLE], 0, 99999) else {
         return HeadRead::Misprinted;
     };
-    let Number::Value(to_cycle) = fields::read_within(
+    let Number::Value(to_cycle) = fields::six_within(
         &part[TO_CYCLE..TO_SEGMENT],
         1,
         99999 - position,
     ) else {
         return HeadRead::Misprinted;
     };
-    let Number::Value(to_segment) = fields::read_within(
+    let Number::Value(to_segment) = fields::six_within(
         &part[TO_SEGMENT..FOLLOW_ON],
         1,
         position + to_cycle,
@@ -363,7 +368,7 @@ fn read_index(part: &[u8], head: Head) -> Reading
     requires { ⌜ (length (now part) ≡ 240) × (head .position + head .«to_cycle» ≤ 99999) ⌝ }
     ensures { λ r. ⌜ r ≡ asReading (readIndex head (now (part .entry))) ⌝ }
 {
-    let Number::Value(_) = fields::read_within(&part[FOLLOW_ON..LETTER], 0, 0) else {
+    let Number::Value(_) = fields::six_within(&part[FOLLOW_ON..LETTER], 0, 0) else {
         return misprinted();
     };
     let Number::Value(pair_count) = fields::read_within(&part[PAIR_COUNT..ITEM_COUNT], 0, 4) else {
@@ -395,7 +400,7 @@ fn read_data(part: &[u8], head: Head) -> Reading
     requires { ⌜ (length (now part) ≡ 240) × (1 ≤ head .«to_cycle») ⌝ }
     ensures { λ r. ⌜ r ≡ asReading (readData head (now (part .entry))) ⌝ }
 {
-    let Number::Value(follow_on) = fields::read_within(
+    let Number::Value(follow_on) = fields::six_within(
         &part[FOLLOW_ON..LETTER],
         0,
         head.to_cycle - 1,

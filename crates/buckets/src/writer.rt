@@ -1,5 +1,6 @@
 // A bucket, written: its bytes are blanked once, and its fields are written over blanks.
 use super::BODY;
+use super::BUCKET;
 use super::BUCKET_END;
 use super::DATA;
 use super::DISTANCE;
@@ -20,14 +21,15 @@ use super::TO_SEGMENT;
 use columns;
 ghost use mathlib.Core.Path.{_≡_};
 ghost use mathlib.Core.Option.{none};
-ghost use mathlib.Core.List.{_∷_, _++_};
-ghost use Prim.Native.Nat.{_*_, _%_, _≤_};
+ghost use mathlib.Core.List.{List, [], _∷_, _++_};
+ghost use Prim.Native.Nat.{ℕ, _*_, _%_, _≤_};
 ghost use lib.ListN.{length, take};
 ghost use Rattle.columns.specs.Lists.{joined, padded};
 ghost use Rattle.columns.specs.PrintedNumbers.{print, blanks};
 ghost use Rattle.buckets.specs.ListLine.{figures, cutLines, listLines, misprintFrom};
 ghost use Rattle.buckets.specs.Bucket.{printPair, printEntry, printBucket, dataBody};
-ghost use Rattle.buckets.specs.Held.{entriesOf, pairsOf, indexOf, bucketWith};
+ghost use Rattle.buckets.specs.Held.{entriesOf, pairsOf, indexOf, bucketWith, entered};
+ghost use Rattle.buckets.specs.Held.{indexFront, Standing, Tagged, copiedTo};
 
 // The columns before the pairs or the lines.
 fn write_head(part: &mut [u8], head: Head, follow_on: u64, letter: u8, pairs: u64, items: u64)
@@ -80,26 +82,67 @@ fn write_pairs<'a>(
     }
 }
 
-// An index bucket.
-pub fn write_index(part: &mut [u8], head: Head, index: Index)
-    requires { ⌜ (length (now part) ≡ 240) × ((index .pairs ≤ 4) × (index .entries ≤ 8)) ⌝ }
-    ensures { λ _. ⌜ now (part .exit) ≡ printBucket (bucketWith head (indexOf index)) ⌝ }
+// The first `count` entries, each tag copied from its place in a text.
+fn copy_entries<'a>(
+    part: &mut [u8],
+    count: usize,
+    text: &'a [u8],
+    places: &'a [usize],
+    distances: &'a [u64],
+)
+    requires { ⌜ (now part ≡ blanks (length (now part))) × ((16 * count ≤ length (now part)) × Standing (now text) count (now places) (now distances)) ⌝ }
+    ensures { λ _. ⌜ now (part .exit) ≡ padded (length (now (part .entry))) (copiedTo (now (text .entry)) (now (places .entry)) (now (distances .entry)) count) ⌝ }
 {
-    columns::print_blanks(part);
+    let mut i = 0;
+    while i < count {
+        let at = i * ENTRY;
+        let distance = at + DISTANCE;
+        let from = places[i];
+        columns::copy_columns(&mut part[at..distance], &text[from..from + DISTANCE]);
+        columns::print_at(part, distance, at + ENTRY, distances[i]);
+        i += 1;
+    }
+}
+
+// An index bucket whose entries, `count` of them, are still blank.
+fn start_index<'a>(
+    part: &mut [u8],
+    head: Head,
+    blank: bool,
+    pairs: usize,
+    tags: &'a [u64],
+    distances: &'a [u64],
+    count: usize,
+)
+    requires { ⌜ (length (now part) ≡ 240) × ((pairs ≤ 4) × ((pairs ≤ length (now tags)) × (pairs ≤ length (now distances)))) ⌝ }
+    ensures { λ _. ⌜ now (part .exit) ≡ padded 239 (indexFront head (pairsOf blank (take pairs (entriesOf (now (tags .entry)) (now (distances .entry))))) count) ++ 10 ∷ [] ⌝ }
+{
+    columns::print_blanks(&mut part[0..BUCKET]);
     write_head(
         &mut part[0..BODY],
         head,
         0,
         INDEX,
-        index.pairs as u64,
-        index.entries as u64,
+        pairs as u64,
+        count as u64,
     );
-    write_pairs(
-        &mut part[BODY..ENTRIES],
+    write_pairs(&mut part[BODY..ENTRIES], blank, pairs, tags, distances);
+    part[BUCKET_END] = NEWLINE;
+}
+
+// An index bucket.
+pub fn write_index(part: &mut [u8], head: Head, index: Index)
+    requires { ⌜ (length (now part) ≡ 240) × ((index .pairs ≤ 4) × (index .entries ≤ 8)) ⌝ }
+    ensures { λ _. ⌜ now (part .exit) ≡ printBucket (bucketWith head (indexOf index)) ⌝ }
+{
+    start_index(
+        part,
+        head,
         index.blank,
         index.pairs,
         &index.pair_tags,
         &index.pair_distances,
+        index.entries,
     );
     write_entries(
         &mut part[ENTRIES..BUCKET_END],
@@ -107,7 +150,37 @@ pub fn write_index(part: &mut [u8], head: Head, index: Index)
         &index.entry_tags,
         &index.entry_distances,
     );
-    part[BUCKET_END] = NEWLINE;
+}
+
+// An index bucket with the control pairs of `index`, and `count` entries whose tags stand printed in a text.
+pub fn copy_index<'a>(
+    part: &mut [u8],
+    head: Head,
+    index: Index,
+    count: usize,
+    text: &'a [u8],
+    places: &'a [usize],
+    distances: &'a [u64],
+)
+    requires { ⌜ (length (now part) ≡ 240) × ((index .pairs ≤ 4) × ((count ≤ 8) × Standing (now text) count (now places) (now distances))) ⌝ }
+    ensures { λ _. ⌜ ((tags : List ℕ) → Tagged (now (text .entry)) count (now (places .entry)) tags → now (part .exit) ≡ printBucket (bucketWith head (indexOf (entered index count tags (now (distances .entry)))))) ⌝ }
+{
+    start_index(
+        part,
+        head,
+        index.blank,
+        index.pairs,
+        &index.pair_tags,
+        &index.pair_distances,
+        count,
+    );
+    copy_entries(
+        &mut part[ENTRIES..BUCKET_END],
+        count,
+        text,
+        places,
+        distances,
+    );
 }
 
 // List lines without their newlines.

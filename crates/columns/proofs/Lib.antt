@@ -2,7 +2,10 @@
 pub mod Strict
 pub mod Printed
 pub mod OnePass
+pub mod Digits
 pub mod Joined
+pub mod LeadingBlanks
+pub mod Answered
 pub mod Put
 pub mod FromTheRight
 pub mod Padded

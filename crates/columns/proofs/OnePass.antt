@@ -14,12 +14,9 @@ use lib.Dec.{ltb, leb, eqb, lit<}
 use lib.ListN.{length}
 use borrow.Author.Tests.{ltb-true, ltb-false, leb-true, leb-false, lt-ltb, le-ltb, lt-leb, eq-eqb, ne-eqb}
 use Rattle.columns.specs.Lists.{pick, same, strict, every}
-use Rattle.columns.specs.PrintedNumbers.{column, print, value, readNumber}
+use Rattle.columns.specs.PrintedNumbers.{column, print, value, digit, readNumber}
 use Rattle.columns.proofs.Strict.{both, and-false, same-eq}
 use Rattle.columns.proofs.Printed.{ten-pos, value-columns}
-
-abbrev pub digit : ℕ → Bool
-digit c = leb 48 c && leb c 57
 
 -- a value read behind acc is acc moved on by the columns, and the columns' own value
 pub value-behind : (acc : ℕ) (s : List ℕ) → value acc s ≡ acc * 10 ^ length s + value 0 s

@@ -1,10 +1,10 @@
 -- Document 01, "Printed numbers".
 -- Assumes nothing.
 use Prim.Native.Nat.{ℕ, zero, suc, _+_, _-_, _*_, _/_, _%_, _^_}
-use mathlib.Core.Bool.{Bool, true, false}
+use mathlib.Core.Bool.{Bool, true, false, _&&_}
 use mathlib.Core.Option.{Option, none, some}
 use mathlib.Core.List.{List, [], _∷_}
-use lib.Dec.{ltb}
+use lib.Dec.{leb, ltb}
 use lib.ListN.{length, replicate}
 use Rattle.columns.specs.Lists.{pick, strict}
 use Rattle.columns.specs.declared.Number.{Number}
@@ -30,6 +30,9 @@ abbrev pub value : ℕ → List ℕ → ℕ
 value acc [] = acc
 value acc (c ∷ s) = value (acc * 10 + (c - 48)) s
 
+abbrev pub digit : ℕ → Bool
+digit c = leb 48 c && leb c 57
+
 -- a number read strictly: only its own print is taken for it
 unfoldable pub readNumber : List ℕ → Option ℕ
 readNumber s = strict (value 0) (λ x. true) (print (length s)) s
@@ -38,3 +41,8 @@ readNumber s = strict (value 0) (λ x. true) (print (length s)) s
 abbrev pub asNumber : Option ℕ → Number
 asNumber none = Misprinted
 asNumber (some x) = Value x
+
+-- the same as a number alone, the largest of 64 bits where none was read
+abbrev pub orMisprint : Option ℕ → ℕ
+orMisprint none = 18446744073709551615
+orMisprint (some x) = x

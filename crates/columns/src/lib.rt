@@ -1,9 +1,12 @@
 // Decimal columns: document 01, "Printed numbers".
 ghost use mathlib.Core.Path.{_≡_};
+ghost use mathlib.Core.Bool.{true, _&&_};
+ghost use mathlib.Core.List.{[], _∷_};
 ghost use Prim.Native.Nat.{_-_, _^_, _≤_, _<_};
+ghost use lib.Dec.{eqb};
 ghost use lib.ListN.{length, getD, take, drop};
-ghost use Rattle.columns.specs.Lists.{put};
-ghost use Rattle.columns.specs.PrintedNumbers.{print, blanks, readNumber, asNumber};
+ghost use Rattle.columns.specs.Lists.{put, every};
+ghost use Rattle.columns.specs.PrintedNumbers.{print, blanks, value, digit, readNumber, asNumber, orMisprint};
 
 // What a strict reading of columns finds.
 pub enum Number {
@@ -11,12 +14,15 @@ pub enum Number {
     Misprinted,
 }
 
-// The bytes of columns: a blank, and the digits from ZERO to NINE.
+// The bytes of columns: a blank, and the first digit.
 const BLANK: u8 = 32;
 
 const ZERO: u8 = 48;
 
-const NINE: u8 = 57;
+const ONE: u8 = 49;
+
+// What is answered of misprinted columns in the place of their number.
+pub const MISPRINT: u64 = 18446744073709551615;
 
 // The powers of ten from 1 to 10^9.
 const TENS: [u64; 10] = [
@@ -120,6 +126,149 @@ pub fn copy_columns(part: &mut [u8], from: &[u8])
     }
 }
 
+// Whether every column is a digit.
+fn all_digits(part: &[u8]) -> bool
+    ensures { λ r. ⌜ r ≡ every digit (now (part .entry)) ⌝ }
+{
+    let mut i = 0;
+    while i < part.len() {
+        if 9 < std::num::wrapping_sub_u8(part[i], ZERO) {
+            return false;
+        }
+        i += 1;
+    }
+    true
+}
+
+// The number that digits in every column spell.
+fn spelled(part: &[u8]) -> u64
+    requires { ⌜ (length (now part) ≤ 10) × (every digit (now part) ≡ true) ⌝ }
+    ensures { λ r. ⌜ r ≡ value 0 (now (part .entry)) ⌝ }
+{
+    let mut x = 0;
+    let mut i = 0;
+    while i < part.len() {
+        x = x * 10 + part[i] as u64 - 48;
+        i += 1;
+    }
+    x
+}
+
+// The number in one column, or MISPRINT.
+fn read_digit(c: u8) -> u64
+    ensures { λ r. ⌜ r ≡ orMisprint (readNumber (c ∷ [])) ⌝ }
+{
+    let x = std::num::wrapping_sub_u8(c, ZERO);
+    if 9 < x {
+        return MISPRINT;
+    }
+    x as u64
+}
+
+// The number in all the columns of part, or MISPRINT. The first column is not blank: digits to the end, the first no 0 unless
+// it is the only one.
+fn read_digits(part: &[u8]) -> u64
+    requires { ⌜ (1 ≤ length (now part)) × ((length (now part) ≤ 10) × (getD (now part) 0 0 ≡ 32 → ⊥)) ⌝ }
+    ensures { λ r. ⌜ r ≡ orMisprint (readNumber (now (part .entry))) ⌝ }
+{
+    if part.len() == 1 {
+        return read_digit(part[0]);
+    }
+    if 8 < std::num::wrapping_sub_u8(part[0], ONE) {
+        return MISPRINT;
+    }
+    if !all_digits(&part[1..]) {
+        return MISPRINT;
+    }
+    spelled(part)
+}
+
+// The number in four columns, or MISPRINT.
+pub fn read_four(part: &[u8]) -> u64
+    requires { ⌜ length (now part) ≡ 4 ⌝ }
+    ensures { λ r. ⌜ r ≡ orMisprint (readNumber (now (part .entry))) ⌝ }
+{
+    if part[0] != BLANK {
+        return read_digits(&part[0..4]);
+    }
+    if part[1] != BLANK {
+        return read_digits(&part[1..4]);
+    }
+    if part[2] != BLANK {
+        return read_digits(&part[2..4]);
+    }
+    if part[3] != BLANK {
+        return read_digits(&part[3..4]);
+    }
+    MISPRINT
+}
+
+// The number in six columns, or MISPRINT.
+pub fn read_six(part: &[u8]) -> u64
+    requires { ⌜ length (now part) ≡ 6 ⌝ }
+    ensures { λ r. ⌜ r ≡ orMisprint (readNumber (now (part .entry))) ⌝ }
+{
+    if part[0] != BLANK {
+        return read_digits(&part[0..6]);
+    }
+    if part[1] != BLANK {
+        return read_digits(&part[1..6]);
+    }
+    read_four(&part[2..6])
+}
+
+// Whether c is blank and the columns before it are.
+fn still_blank(before: bool, c: u8) -> bool
+    ensures { λ r. ⌜ r ≡ (before && eqb c 32) ⌝ }
+{
+    if c == BLANK {
+        return before;
+    }
+    false
+}
+
+// Whether four columns are blank. Each of them is looked at, so that they are tested at once.
+fn four_blank(part: &[u8]) -> bool
+    requires { ⌜ length (now part) ≡ 4 ⌝ }
+    ensures { λ r. ⌜ (r ≡ true → (getD (now (part .entry)) 0 0 ≡ 32) × ((getD (now (part .entry)) 1 0 ≡ 32) × ((getD (now (part .entry)) 2 0 ≡ 32) × (getD (now (part .entry)) 3 0 ≡ 32)))) ⌝ }
+{
+    let one = still_blank(true, part[0]);
+    let two = still_blank(one, part[1]);
+    let three = still_blank(two, part[2]);
+    still_blank(three, part[3])
+}
+
+// The number in ten columns, or MISPRINT, where one of the first four is used.
+fn read_wide(part: &[u8]) -> u64
+    requires { ⌜ length (now part) ≡ 10 ⌝ }
+    ensures { λ r. ⌜ r ≡ orMisprint (readNumber (now (part .entry))) ⌝ }
+{
+    if part[0] != BLANK {
+        return read_digits(&part[0..10]);
+    }
+    if part[1] != BLANK {
+        return read_digits(&part[1..10]);
+    }
+    if part[2] != BLANK {
+        return read_digits(&part[2..10]);
+    }
+    if part[3] != BLANK {
+        return read_digits(&part[3..10]);
+    }
+    read_six(&part[4..10])
+}
+
+// The number in ten columns, or MISPRINT.
+pub fn read_ten(part: &[u8]) -> u64
+    requires { ⌜ length (now part) ≡ 10 ⌝ }
+    ensures { λ r. ⌜ r ≡ orMisprint (readNumber (now (part .entry))) ⌝ }
+{
+    if four_blank(&part[0..4]) {
+        return read_six(&part[4..10]);
+    }
+    read_wide(&part[0..10])
+}
+
 // The number that stands in all the columns of part, read strictly: blanks are passed over.
 pub fn read_number(part: &[u8]) -> Number
     requires { ⌜ length (now part) ≤ 10 ⌝ }
@@ -129,7 +278,11 @@ pub fn read_number(part: &[u8]) -> Number
     let mut i = 0;
     while i < n {
         if part[i] != BLANK {
-            return read_digits(&part[i..]);
+            let x = read_digits(&part[i..]);
+            if x == MISPRINT {
+                return Number::Misprinted;
+            }
+            return Number::Value(x);
         }
         i += 1;
     }
@@ -137,32 +290,4 @@ pub fn read_number(part: &[u8]) -> Number
         return Number::Value(0);
     }
     Number::Misprinted
-}
-
-// The same where the first column is not blank: digits to the end, the first no 0 unless it is the only one.
-fn read_digits(part: &[u8]) -> Number
-    requires { ⌜ (1 ≤ length (now part)) × ((length (now part) ≤ 10) × (getD (now part) 0 0 ≡ 32 → ⊥)) ⌝ }
-    ensures { λ r. ⌜ r ≡ asNumber (readNumber (now (part .entry))) ⌝ }
-{
-    let n = part.len();
-    if part[0] == ZERO {
-        if n == 1 {
-            return Number::Value(0);
-        }
-        return Number::Misprinted;
-    }
-    let mut x = 0;
-    let mut i = 0;
-    while i < n {
-        let c = part[i];
-        if c < ZERO {
-            return Number::Misprinted;
-        }
-        if NINE < c {
-            return Number::Misprinted;
-        }
-        x = x * 10 + c as u64 - 48;
-        i += 1;
-    }
-    Number::Value(x)
 }

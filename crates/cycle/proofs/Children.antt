@@ -1,8 +1,8 @@
 -- The children of a bucket that the figures of a cycle have, and how long a subtree can be.
 -- Assumes nothing.
-use mathlib.Core.Path.{_≡_, sym, ap, subst, _∙_}
+use mathlib.Core.Path.{_≡_, refl, sym, ap, subst, _∙_}
 use Prim.Native.Nat.{ℕ, zero, suc, _+_, _-_, _*_, _^_, _≤_, _<_, min}
-use native.Mathlib.Nat.{mul-comm, mul-le-mul}
+use native.Mathlib.Nat.{one-le-pow, mul-comm, mul-le-mul}
 use native.Mathlib.Omega.{arith}
 use mathlib.Core.List.{List, [], _∷_, _++_, append-nil}
 use mathlib.Core.Bool.{Bool, true, false}
@@ -14,7 +14,7 @@ use Rattle.cycle.specs.Cycle.{occurs, distanceTo, cycleSize}
 use Rattle.cycle.specs.declared.Figures.{Figures}
 use Rattle.cycle.specs.Held.{planOf, fullSize, InTree, Ready, treeAt, firstPlace}
 use Rattle.cycle.proofs.Ranges.{length-range, span-append, joined-append}
-use Rattle.cycle.proofs.TreeLaws.{width-up, width-lt, length-children}
+use Rattle.cycle.proofs.TreeLaws.{up-least, width-up, width-lt, length-children}
 use Rattle.cycle.proofs.Readiness.{Reached, reached}
 
 -- ---- N, and places in it
@@ -77,6 +77,10 @@ near-next t h a i =
 
 -- ---- children
 
+pub nil-of : {A : Type 0} (xs : List A) → length xs ≡ 0 → xs ≡ []
+nil-of [] h = refl
+nil-of (x ∷ xs) h = absurd (omega arith)
+
 module _ (f : Figures) (ready : Ready f) (e j : ℕ) (low : 1 ≤ e) (inside : InTree f e j) where
   abbrev pub childLevel : ℕ
   childLevel = suc (f .k + 1 - e)
@@ -103,6 +107,12 @@ module _ (f : Figures) (ready : Ready f) (e j : ℕ) (low : 1 ≤ e) (inside : I
   unfolding planOf
   children-count =
       length-children (planOf f []) pos (f .k + 1 - e) j ∙ ap (λ w. min (j * f .n + f .n) w - j * f .n) child-width
+
+  -- the empty list's root has none
+  pub no-children : f .d ≡ 0 → children (planOf f []) (f .k + 1 - e) j ≡ []
+  no-children z =
+      let none : up (f .d) (f .n ^ (e - 1)) ≤ 0 = up-least (f .d) (f .n ^ (e - 1)) 0 (one-le-pow (e - 1) (f .n) pos) (omega arith) in
+      nil-of (children (planOf f []) (f .k + 1 - e) j) (omega (arith, children-count))
 
   pub children-row : children (planOf f []) (f .k + 1 - e) j ≡ span (j * f .n) (length (children (planOf f []) (f .k + 1 - e) j))
   unfolding children planOf

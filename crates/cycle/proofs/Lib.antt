@@ -14,6 +14,7 @@ pub mod Comparisons
 pub mod DataGood
 pub mod DataHeld
 pub mod DataOnce
+pub mod DataRows
 pub mod DataTags
 pub mod Deciding
 pub mod Distances
@@ -58,6 +59,7 @@ pub mod PlacedParts
 pub mod Placing
 pub mod Positions
 pub mod Powers
+pub mod PrintedTags
 pub mod Ranges
 pub mod Readiness
 pub mod Refusals

@@ -54,7 +54,7 @@ module _ (f : Figures) (list : List ℕ) (s : Sending f list) where
   count : length list / 27 ≡ f .lines
   count = rw (s .whole, mul-comm 27 (f .lines)) (mul-div-cancel (f .lines) (lit< tt))
 
-  whole-lines : length list % 27 ≡ 0
+  pub whole-lines : length list % 27 ≡ 0
   whole-lines = rw (s .whole, mul-comm 27 (f .lines)) (mul-mod-left (f .lines) 27)
 
   pub lines-in : linesHeld f InList list ≡ listLines list

@@ -2,24 +2,24 @@
 -- Assumes nothing.
 use mathlib.Core.Path.{_≡_, refl, sym, ap, ap₂, subst, _∙_}
 use mathlib.Core.Logic.{⊎-elim}
-use Prim.Native.Nat.{ℕ, zero, suc, _+_, _-_, _^_, _≤_, _<_}
-use native.Mathlib.Nat.{one-le-pow}
+use Prim.Native.Nat.{ℕ, zero, suc, _+_, _-_, _≤_, _<_}
+use native.Mathlib.Decide.{ℕ-discrete}
 use native.Mathlib.Omega.{arith}
 use mathlib.Core.Bool.{true, true≢false}
-use mathlib.Core.List.{List, [], _∷_, _++_, map}
-use lib.ListN.{length}
-use borrow.Author.Tests.{eq-eqb}
-use Rattle.columns.specs.Lists.{any, joined, up}
+use mathlib.Core.List.{List, [], _++_, map}
+use lib.ListN.{length, length-map}
+use borrow.Author.Tests.{eq-eqb, ne-eqb}
+use Rattle.columns.specs.Lists.{any, joined}
 use Rattle.buckets.specs.declared.Line.{Line}
 use Rattle.buckets.specs.Bucket.{Pair, Entry}
-use Rattle.buckets.specs.Held.{filled, heldIndex}
+use Rattle.buckets.specs.Held.{filled, heldIndex, entered}
 use Rattle.cycle.specs.Tree.{Plan, children}
 use Rattle.cycle.specs.Layouts.{Slot, slot, slots, subtree}
 use Rattle.cycle.specs.Cycle.{occurs, pairs, entries}
 use Rattle.cycle.specs.declared.Figures.{Figures}
 use Rattle.cycle.specs.declared.Segment.{Segment}
 use Rattle.cycle.specs.declared.Source.{Source}
-use Rattle.cycle.specs.Held.{planOf, Ready, InTree, Stand, Placed, treeAt, linesHeld, planIn, lastOf, lastSentBefore, cycleBucket, asIndex, childTags, farDistances, nearDistances, treePairs, entered}
+use Rattle.cycle.specs.Held.{planOf, Ready, InTree, Stand, Placed, treeAt, linesHeld, planIn, lastOf, lastSentBefore, cycleBucket, asIndex, childTags, farDistances, nearDistances, treeDistances, treePairs}
 use Rattle.cycle.proofs.Sequence.{Sound}
 use Rattle.cycle.proofs.Keeping.{keeps}
 use Rattle.cycle.proofs.Ranges.{le-or-lt}
@@ -28,8 +28,7 @@ use Rattle.cycle.proofs.Shapes.{children-shape, treeAt-shape, slots-sha
 use Rattle.cycle.proofs.Positions.{At, stand-at, at-length, index-at}
 use Rattle.cycle.proofs.NextOccurrence.{toSend}
 use Rattle.cycle.proofs.TreeEntries.{tree-low, at-among}
-use Rattle.cycle.proofs.TreeLaws.{up-least}
-use Rattle.cycle.proofs.Children.{size-slots, children-count}
+use Rattle.cycle.proofs.Children.{size-slots, nil-of, no-children}
 use Rattle.cycle.proofs.IndexBuckets.{entry-count, entry-tags, far-data, near-index, tree-pairs-are}
 
 -- a bucket with children in the tree: one more level below it
@@ -39,10 +38,6 @@ near-below :
     map (λ y. y .distance) (entries t (toSend a ++ slots t) (slot i j)) ≡ nearDistances t (suc h) j
 near-below t pos zero a p low high = absurd (omega arith)
 near-below t pos (suc h) a p low high = near-index t pos h a p high
-
-nil-of : {A : Type 0} (xs : List A) → length xs ≡ 0 → xs ≡ []
-nil-of [] h = refl
-nil-of (x ∷ xs) h = absurd (omega arith)
 
 module _ (f : Figures) (ready : Ready f) (source : Source) (text : List ℕ) (s : Segment) (placed : Placed (planIn f source text) s) (e j x : ℕ) (low : 1 ≤ e) (inside : InTree f e j) (after : s .«tree_at» ≤ x) (fits : x + length (treeAt (planOf f []) e j) ≤ s .«data_at») (stands : Stand (planOf f []) x (treeAt (planOf f []) e j)) where
   abbrev ls : List Line
@@ -144,11 +139,20 @@ module _ (f : Figures) (ready : Ready f) (source : Source) (text : List ℕ) (s 
       ∙ ap (λ z. nearDistances t z j) all
       ∙ nearDistances-shape f ls [] e j
 
+  pub tree-distances : map (λ y. y .distance) treeEntries ≡ treeDistances (planOf f []) (f .size) x e j
+  unfolding treeDistances
+  tree-distances =
+      elim (ℕ-discrete e 1) [
+        | yes one ↦ tree-far one ∙ sym (rw (eq-eqb e 1 one))
+        | no more ↦ tree-near (omega (arith, more)) ∙ sym (rw (ne-eqb e 1 more))
+      ]
+
+  pub tree-distance-count : length (treeDistances (planOf f []) (f .size) x e j) ≡ length (children (planOf f []) i j)
+  tree-distance-count = ap length (sym tree-distances) ∙ length-map treeEntries (λ y. y .distance) ∙ tree-count
+
   -- the empty list's root has none
   pub tree-none : f .d ≡ 0 → treeEntries ≡ []
-  tree-none z =
-      let none : up (f .d) (f .n ^ (e - 1)) ≤ 0 = up-least (f .d) (f .n ^ (e - 1)) 0 (one-le-pow (e - 1) (f .n) pos) (omega arith) in
-      nil-of treeEntries (omega (arith, tree-count, children-count f ready e j low inside))
+  tree-none z = nil-of treeEntries (tree-count ∙ ap length (no-children f ready e j low inside z))
 
   -- the bucket from its parts
   pub tree-held :

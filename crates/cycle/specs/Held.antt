@@ -3,7 +3,7 @@
 -- `Cycle`; sums and products that the code computes with are laws in proofs/.
 -- Assumes nothing.
 use mathlib.Core.Path.{_≡_}
-use Prim.Native.Nat.{ℕ, zero, suc, _+_, _-_, _*_, _/_, _%_, _^_, _≤_, _<_, max}
+use Prim.Native.Nat.{ℕ, zero, suc, _+_, _-_, _*_, _/_, _%_, _^_, _≤_, _<_, min, max}
 use mathlib.Core.Bool.{Bool, true, false}
 use mathlib.Core.Option.{Option, none, some}
 use mathlib.Core.List.{List, [], _∷_, _++_, map}
@@ -244,6 +244,14 @@ unfoldable pub nearDistances : Plan → ℕ → ℕ → List ℕ
 nearDistances t e j =
     map (λ c. 1 + length (joined (treeAt t (e - 1)) (range (j * t .n) c))) (children t (t .k + 1 - e) j)
 
+-- the distances of a bucket of height e in a segment's tree, at x: data buckets may stand anywhere, subtrees follow it
+unfoldable pub treeDistances : Plan → ℕ → ℕ → ℕ → ℕ → List ℕ
+treeDistances t size x e j = pick (eqb e 1) (farDistances t size x e j) (nearDistances t e j)
+
+-- where a list has the last line under bucket j of height e
+unfoldable pub tagPlace : Figures → ℕ → ℕ → ℕ
+tagPlace f e j = 27 * (min (f .lines) ((j + 1) * f .n ^ e * f .p) - 1)
+
 -- the control pairs of a bucket of height e in a segment's tree: the root of layout 2 has one
 unfoldable pub treePairs : Plan → ℕ → Option ℕ → ℕ → List Pair
 treePairs t e last toCycle = pick (eqb (t .layout) 2) (pick (eqb e (t .k)) (firstPair last toCycle ∷ []) []) []
@@ -274,19 +282,6 @@ pub record OnPath (t : Plan) (b i x : ℕ) : Type 0 where
   pub high : i ≤ t .copies
   pub inside : b < segmentCount t
   pub here : x ≡ length (joined (distributedSegment t) (range 0 b)) + (i - pathTop (t .n) (t .copies) b)
-
--- an index bucket with these entries
-unfoldable pub entered : Index → ℕ → List ℕ → List ℕ → Index
-entered x count tags distances =
-    record {
-      pairs = x .pairs;
-      blank = x .blank;
-      «pair_tags» = x .«pair_tags»;
-      «pair_distances» = x .«pair_distances»;
-      entries = count;
-      «entry_tags» = tags;
-      «entry_distances» = distances;
-    }
 
 -- the bytes d with the cycle's buckets from x up to but without y written over them, each at its place
 unfoldable pub written : Plan → List ℕ → ℕ → ℕ → List ℕ

@@ -3,10 +3,13 @@ use super::Built;
 use super::Figures;
 use super::Segment;
 use super::Source;
-use super::index::follow_on_at;
+use super::index::child_count;
 use super::index::head_at;
 use super::index::path_index;
-use super::index::tree_index;
+use super::index::tag_places;
+use super::index::tree_distances;
+use super::index::tree_pairs;
+use super::places::data_place;
 use super::places::spelled_tag;
 use super::segments::segment_count;
 use super::segments::segment_of;
@@ -18,22 +21,25 @@ use buckets::Head;
 use buckets::Index;
 use buckets::LineRead;
 use buckets::lines::read_line;
+use buckets::writer::copy_index;
 use buckets::writer::write_data;
 use buckets::writer::write_index;
 ghost use mathlib.Core.Path.{_≡_};
 ghost use mathlib.Core.Bool.{true};
 ghost use mathlib.Core.Option.{none};
-ghost use mathlib.Core.List.{[]};
+ghost use mathlib.Core.List.{[], _∷_};
 ghost use Prim.Native.Nat.{_+_, _-_, _*_, _≤_, _<_};
-ghost use lib.ListN.{length};
+ghost use lib.ListN.{length, take, drop};
 ghost use Rattle.columns.specs.Lists.{put, onto};
 ghost use Rattle.buckets.specs.ListLine.{cutLines, listLines, misprintFrom, fallFrom};
-ghost use Rattle.buckets.specs.Bucket.{printBucket};
+ghost use Rattle.buckets.specs.Bucket.{printBucket, followOn};
 ghost use Rattle.buckets.specs.Held.{bucketWith, indexOf};
 ghost use Rattle.cycle.specs.Tree.{settings, children};
 ghost use Rattle.cycle.specs.Building;
 ghost use Rattle.cycle.specs.Building.{settingsFit, buildPlan};
-ghost use Rattle.cycle.specs.Held.{planOf, Shaped, treeAt, Sending, planIn, placeOr, written, Writing, TreePlace};
+ghost use Rattle.cycle.specs.Layouts.{slot};
+ghost use Rattle.cycle.specs.Comparing.{Decides};
+ghost use Rattle.cycle.specs.Held.{planOf, Shaped, Stand, treeAt, Sending, planIn, placeOr, cycleBucket, written, Writing, TreePlace};
 ghost use Rattle.cycle.specs.declared.Source.the-variants as Source;
 
 // The index bucket of position x.
@@ -59,9 +65,22 @@ fn write_tree_bucket(
     requires { ⌜ Writing f (now list) s (length (now image)) × TreePlace f s e j x ⌝ }
     ensures { λ r. ⌜ (r ≡ length (children (planOf f []) (f .k + 1 - e) j)) × (now (image .exit) ≡ written (planIn f Source.List (now (list .entry))) (now (image .entry)) x (x + 1)) ⌝ }
 {
-    let index = tree_index(list, f, Source::List, s, e, j, x);
-    write_index_at(image, x, head_at(f, s, x), index);
-    index.entries
+    let index = tree_pairs(list, f, Source::List, s.first, e, x);
+    let count = child_count(f, e, j);
+    let places = tag_places(f, e, j, count);
+    let distances = tree_distances(f, e, j, count, x);
+    let at = (240 * x) as usize;
+    let to = at + 240;
+    copy_index(
+        &mut image[at..to],
+        head_at(f, s, x),
+        index,
+        count,
+        list,
+        &places,
+        &distances,
+    );
+    count
 }
 
 // A subtree from x on: its bucket, then each child's whole subtree. It hands back the position behind it.
@@ -107,12 +126,43 @@ fn write_path(image: &mut [u8], list: &[u8], f: Figures, s: Segment)
     }
 }
 
+// Whether the tags that stand printed at a and b are the same, column by column from the last.
+fn same_tags(list: &[u8], a: usize, b: usize) -> bool
+    requires { ⌜ (a + 10 ≤ length (now list)) × (b + 10 ≤ length (now list)) ⌝ }
+    ensures { λ r. ⌜ Decides (take 10 (drop a (now (list .entry))) ≡ take 10 (drop b (now (list .entry)))) r ⌝ }
+{
+    let mut i = 10;
+    while 0 < i {
+        i -= 1;
+        if list[a + i] != list[b + i] {
+            return false;
+        }
+    }
+    true
+}
+
+// The follow-on of data bucket q at x.
+fn list_follow_on(list: &[u8], f: Figures, q: u64, x: u64) -> u64
+    requires { ⌜ Sending f (now list) × (q < f .d) × Stand (planOf f []) x (slot (f .k + 1) q ∷ []) ⌝ }
+    ensures { λ r. ⌜ r ≡ followOn (cycleBucket (planIn f Source.List (now (list .entry))) x .body) ⌝ }
+{
+    let next = q + 1;
+    if next == f.d {
+        return 0;
+    }
+    let at = (27 * (next * f.p)) as usize;
+    if same_tags(list, at - 27, at) {
+        return data_place(f, next) - x;
+    }
+    0
+}
+
 // Data bucket q at x.
 fn write_data_at(image: &mut [u8], list: &[u8], f: Figures, s: Segment, q: u64, x: u64)
     requires { ⌜ Writing f (now list) s (length (now image)) × (s .first ≤ q) × (q < s .last) × (x ≡ s .«data_at» + (q - s .first)) ⌝ }
     ensures { λ _. ⌜ now (image .exit) ≡ written (planIn f Source.List (now (list .entry))) (now (image .entry)) x (x + 1) ⌝ }
 {
-    let follow_on = follow_on_at(list, f, Source::List, q, x);
+    let follow_on = list_follow_on(list, f, q, x);
     let from = (27 * (q * f.p)) as usize;
     let end = (27 * lesser(f.lines, (q + 1) * f.p)) as usize;
     let at = (240 * x) as usize;

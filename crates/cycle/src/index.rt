@@ -5,6 +5,7 @@ use super::Source;
 use super::places::data_place;
 use super::places::first_place;
 use super::places::largest_tag;
+use super::places::last_line;
 use super::places::tag_of;
 use super::sizes::lesser;
 use super::sizes::power;
@@ -13,17 +14,16 @@ use super::sizes::up;
 use buckets::Head;
 use buckets::Index;
 ghost use mathlib.Core.Path.{_≡_};
-ghost use mathlib.Core.List.{[], _∷_, _++_};
+ghost use mathlib.Core.List.{[], _∷_, _++_, map};
 ghost use Prim.Native.Nat.{suc, _+_, _-_, _*_, _%_, _≤_, _<_, max};
 ghost use lib.ListN.{length, drop};
-ghost use Rattle.buckets.specs.Bucket.{followOn};
-ghost use Rattle.buckets.specs.Held.{filled, tagOr0, heldIndex, headOf};
+ghost use Rattle.buckets.specs.Held.{filled, tagOr0, heldIndex, headOf, entered};
 ghost use Rattle.cycle.specs.Tree.{width, children};
-ghost use Rattle.cycle.specs.Layouts.{slot, slots};
+ghost use Rattle.cycle.specs.Layouts.{slots};
 ghost use Rattle.cycle.specs.Cycle.{toNextSegment, firstPair};
 ghost use Rattle.cycle.specs.Held.{planOf, Ready, InTree, Stand, Placed, treeAt, TextFits, planIn, cycleBucket, asIndex};
 ghost use Rattle.cycle.specs.Held.{firstPlace, aheadOf, lastOf, childTags, farDistances, nearDistances};
-ghost use Rattle.cycle.specs.Held.{treePairs, pairReach, placeOver, pairTags, pairDistances, OnPath, entered};
+ghost use Rattle.cycle.specs.Held.{treePairs, pairReach, placeOver, pairTags, pairDistances, OnPath, treeDistances, tagPlace};
 
 // A distance from position x to a place of the cycle: of this one if it is ahead, else of the coming one.
 fn ahead(f: Figures, x: u64, place: u64) -> u64
@@ -108,6 +108,30 @@ fn child_tags(text: &[u8], f: Figures, source: Source, e: usize, j: u64, count: 
     tags
 }
 
+// Where a list has the last line under bucket j of height e.
+fn tag_place(f: Figures, e: usize, j: u64) -> usize
+    requires { ⌜ Ready f × (1 ≤ f .d) × InTree f e j ⌝ }
+    ensures { λ r. ⌜ r ≡ tagPlace f e j ⌝ }
+{
+    (27 * last_line(f, e, j)) as usize
+}
+
+// Where a list has the largest tags below the children of bucket j of height e.
+pub fn tag_places(f: Figures, e: usize, j: u64, count: usize) -> [usize; 8]
+    requires { ⌜ Ready f × (1 ≤ e) × InTree f e j × (count ≡ length (children (planOf f []) (f .k + 1 - e) j)) ⌝ }
+    ensures { λ r. ⌜ r ≡ filled 8 (map (tagPlace f (e - 1)) (children (planOf f []) (f .k + 1 - e) j)) ⌝ }
+{
+    let below = e - 1;
+    let from = j * f.n;
+    let mut places = [0usize; 8];
+    let mut i = 0;
+    while i < count {
+        places[i] = tag_place(f, below, from + i as u64);
+        i += 1;
+    }
+    places
+}
+
 // The distances from bucket j of height e to its children, whose subtrees follow it.
 fn near_distances(f: Figures, e: usize, j: u64, count: usize) -> [u64; 8]
     requires { ⌜ Ready f × (2 ≤ e) × InTree f e j × (count ≡ length (children (planOf f []) (f .k + 1 - e) j)) ⌝ }
@@ -152,8 +176,40 @@ fn far_distances(f: Figures, e: usize, j: u64, count: usize, x: u64) -> [u64; 8]
     distances
 }
 
+// The distances from bucket j of height 1 at x to its children in layout 1, which stand side by side.
+fn row_distances(f: Figures, j: u64, count: usize, x: u64) -> [u64; 8]
+    requires { ⌜ Ready f × (1 ≤ f .d) × (f .layout ≡ 1) × InTree f 1 j × (count ≡ length (children (planOf f []) (f .k + 1 - 1) j)) × (x < f .size) ⌝ }
+    ensures { λ r. ⌜ r ≡ filled 8 (farDistances (planOf f []) (f .size) x 1 j) ⌝ }
+{
+    let first = data_place(f, j * f.n);
+    let mut distances = [0u64; 8];
+    let mut i = 0;
+    while i < count {
+        distances[i] = ahead(f, x, first + i as u64);
+        i += 1;
+    }
+    distances
+}
+
+// The distances from bucket j of height e in a segment's tree, at x, to its children.
+pub fn tree_distances(f: Figures, e: usize, j: u64, count: usize, x: u64) -> [u64; 8]
+    requires { ⌜ Ready f × (1 ≤ e) × InTree f e j × (count ≡ length (children (planOf f []) (f .k + 1 - e) j)) × (x < f .size) ⌝ }
+    ensures { λ r. ⌜ r ≡ filled 8 (treeDistances (planOf f []) (f .size) x e j) ⌝ }
+{
+    if f.d == 0 {
+        return [0; 8];
+    }
+    if e != 1 {
+        return near_distances(f, e, j, count);
+    }
+    if f.layout == 1 {
+        return row_distances(f, j, count, x);
+    }
+    far_distances(f, e, j, count, x)
+}
+
 // The control pairs of a bucket of height e in a segment's tree, at x behind `sent` data buckets.
-fn tree_pairs(text: &[u8], f: Figures, source: Source, sent: u64, e: usize, x: u64) -> Index
+pub fn tree_pairs(text: &[u8], f: Figures, source: Source, sent: u64, e: usize, x: u64) -> Index
     requires { ⌜ Ready f × TextFits f source (length (now text)) × (sent < max 1 (f .d)) × (x < f .size) ⌝ }
     ensures { λ r. ⌜ r ≡ heldIndex (treePairs (planOf f []) e (lastOf (planIn f source (now (text .entry))) sent) (f .size - x)) [] ⌝ }
 {
@@ -185,11 +241,7 @@ pub fn tree_index(
     }
     let count = child_count(f, e, j);
     let tags = child_tags(text, f, source, e, j, count);
-    if e == 1 {
-        let distances = far_distances(f, e, j, count, x);
-        return with_entries(index, count, tags, distances);
-    }
-    let distances = near_distances(f, e, j, count);
+    let distances = tree_distances(f, e, j, count, x);
     with_entries(index, count, tags, distances)
 }
 
@@ -285,20 +337,4 @@ pub fn head_at(f: Figures, s: Segment, x: u64) -> Head
         to_cycle: f.size - x,
         to_segment: s.end - x,
     }
-}
-
-// The follow-on of data bucket q at x.
-pub fn follow_on_at(text: &[u8], f: Figures, source: Source, q: u64, x: u64) -> u64
-    requires { ⌜ Ready f × TextFits f source (length (now text)) × (q < f .d) × Stand (planOf f []) x (slot (f .k + 1) q ∷ []) ⌝ }
-    ensures { λ r. ⌜ r ≡ followOn (cycleBucket (planIn f source (now (text .entry))) x .body) ⌝ }
-{
-    let next = q + 1;
-    if next == f.d {
-        return 0;
-    }
-    let line = next * f.p;
-    if tag_of(text, f, source, line - 1) == tag_of(text, f, source, line) {
-        return data_place(f, next) - x;
-    }
-    0
 }

@@ -9,7 +9,7 @@ use super::sizes::paths_before;
 use super::sizes::power;
 ghost use mathlib.Core.Path.{_≡_};
 ghost use mathlib.Core.List.{[]};
-ghost use Prim.Native.Nat.{_+_, _-_, _*_, _≤_, _<_};
+ghost use Prim.Native.Nat.{_+_, _-_, _*_, _^_, _≤_, _<_, min};
 ghost use lib.ListN.{length, take, drop};
 ghost use Rattle.columns.specs.PrintedNumbers.{value};
 ghost use Rattle.cycle.specs.Tree.{largestTag};
@@ -56,7 +56,7 @@ pub fn data_place(f: Figures, q: u64) -> u64
 }
 
 // The place of line i's first byte.
-pub fn line_place(f: Figures, source: Source, i: u64) -> usize
+fn line_place(f: Figures, source: Source, i: u64) -> usize
     requires { ⌜ Ready f × (i < f .lines) ⌝ }
     ensures { λ r. ⌜ r ≡ lineAt (planOf f []) source i ⌝ }
 {
@@ -84,13 +84,20 @@ pub fn tag_of(text: &[u8], f: Figures, source: Source, i: u64) -> u64
     spelled_tag(text, at)
 }
 
+// The last line under bucket j of height e.
+pub fn last_line(f: Figures, e: usize, j: u64) -> u64
+    requires { ⌜ Ready f × (1 ≤ f .d) × InTree f e j ⌝ }
+    ensures { λ r. ⌜ (r < f .lines) × (r ≡ min (f .lines) ((j + 1) * f .n ^ e * f .p) - 1) ⌝ }
+{
+    lesser(f.lines, (j + 1) * power(f.n, e) * f.p) - 1
+}
+
 // The largest tag under bucket j of height e.
 pub fn largest_tag(text: &[u8], f: Figures, source: Source, e: usize, j: u64) -> u64
     requires { ⌜ Ready f × (1 ≤ f .d) × InTree f e j × TextFits f source (length (now text)) ⌝ }
     ensures { λ r. ⌜ r ≡ largestTag (planIn f source (now (text .entry))) (f .k + 1 - e) j ⌝ }
 {
-    let behind = lesser(f.lines, (j + 1) * power(f.n, e) * f.p);
-    tag_of(text, f, source, behind - 1)
+    tag_of(text, f, source, last_line(f, e, j))
 }
 
 // The number that 10 columns spell, a blank counting as 0.

@@ -148,12 +148,15 @@ pub fn paths_before(f: Figures, b: u64) -> u64
     requires { ⌜ Shaped f × (f .layout ≡ 1) × (copiesFit (planOf f []) ≡ true) × (b ≤ 40000) ⌝ }
     ensures { λ r. ⌜ r ≡ length (joined (path (planOf f [])) (range 0 b)) ⌝ }
 {
+    if f.copies == 0 {
+        return 0;
+    }
     let mut left = f.copies;
     let mut count = b;
-    let mut sum = 0;
-    while 0 < left {
-        sum += count;
+    let mut sum = b;
+    while 1 < left {
         count = up(count, f.n);
+        sum += count;
         left -= 1;
     }
     sum

@@ -1,32 +1,13 @@
 -- `buckets::fields::read_within` meets its contract: the tests of its bounds, one after the other.
 -- Assumes nothing.
-use Prim.Native.Nat.{ℕ, _≤_, _<_}
 use mathlib.Core.Path.{_≡_, sym, ap, _∙_}
-use mathlib.Core.Option.{none, some}
-use mathlib.Core.List.{List}
+use mathlib.Core.Option.{some}
 use borrow.Author.Needs.{needs}
-use borrow.Author.Tests.{le-leb, lt-leb}
 use Rattle.columns.specs.PrintedNumbers.{readNumber, asNumber}
-use Rattle.buckets.specs.Columns.{numberWithin}
 use Rattle.buckets.proofs.Answers.{number-found, number-none}
+use Rattle.buckets.proofs.Bounds.{misprinted, too-low, too-high, within}
 use Rattle.buckets.proofs.fields.read_within.Statement.{statement}
 use Rattle.buckets.proofs.fields.read_within.Tie as tie
-
-misprinted : (low high : ℕ) (s : List ℕ) → readNumber s ≡ none → numberWithin low high s ≡ none
-unfolding numberWithin
-misprinted low high s e = rw e
-
-too-low : (low high x : ℕ) (s : List ℕ) → readNumber s ≡ some x → x < low → numberWithin low high s ≡ none
-unfolding numberWithin
-too-low low high x s e h = rw (e, lt-leb low x h)
-
-too-high : (low high x : ℕ) (s : List ℕ) → readNumber s ≡ some x → low ≤ x → high < x → numberWithin low high s ≡ none
-unfolding numberWithin
-too-high low high x s e l h = rw (e, le-leb low x l, lt-leb x high h)
-
-within : (low high x : ℕ) (s : List ℕ) → readNumber s ≡ some x → low ≤ x → x ≤ high → numberWithin low high s ≡ some x
-unfolding numberWithin
-within low high x s e l h = rw (e, le-leb low x l, le-leb x high h)
 
 -- what was read
 found : (c : tie.After-known-told) → readNumber (c .before .before .before .before .before .args .part .now) ≡ some (c .before .x .given .0 .0)

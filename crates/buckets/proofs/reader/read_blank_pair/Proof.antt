@@ -9,16 +9,16 @@ use Rattle.buckets.proofs.Answers.{number-found, number-none}
 use Rattle.buckets.proofs.reader.read_blank_pair.Statement.{statement}
 use Rattle.buckets.proofs.reader.read_blank_pair.Tie as tie
 
-abbrev start : tie.After-read-within → tie.Start
+abbrev start : tie.After-six-within → tie.Start
 start c = c .before .before .before
 
 no-distance : (c : tie.After-enum-told) → numberWithin 1 (start (c .before .before) .args .n) (columns 10 6 (start (c .before .before) .args .part .now)) ≡ none
 unfolding columns
-no-distance c = number-none _ (sym (c .before .before .read-within .ensures) ∙ c .enum-told .given .1)
+no-distance c = number-none _ (sym (c .before .before .six-within .ensures) ∙ c .enum-told .given .1)
 
 distance-read : (c : tie.After-known-told) → numberWithin 1 (start (c .before .before .before) .args .n) (columns 10 6 (start (c .before .before .before) .args .part .now)) ≡ some (c .before .distance .given .0 .0)
 unfolding columns
-distance-read c = number-found _ (sym (c .before .before .before .read-within .ensures) ∙ c .before .distance .given .1)
+distance-read c = number-found _ (sym (c .before .before .before .six-within .ensures) ∙ c .before .distance .given .1)
 
 returns : tie.Need-returns
 unfolding readBlankPair

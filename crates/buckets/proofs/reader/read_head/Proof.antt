@@ -34,18 +34,18 @@ cycle c = c .before .to-cycle .given .0 .0
 
 position-read : (c : tie.After-known-told) → numberWithin 0 99999 (columns 0 6 (bytes (up1 c))) ≡ some (position c)
 unfolding columns
-position-read c = number-found _ (sym (c .before .before .before .read-within .ensures) ∙ c .before .position .given .1)
+position-read c = number-found _ (sym (c .before .before .before .six-within .ensures) ∙ c .before .position .given .1)
 
 cycle-read : (c : tie.After-known-told2)
     → numberWithin 1 (99999 - position (up2 c)) (columns 6 6 (bytes (up1 (up2 c)))) ≡ some (cycle c)
 unfolding columns
-cycle-read c = number-found _ (sym (c .before .before .before .read-within2 .ensures) ∙ c .before .to-cycle .given .1)
+cycle-read c = number-found _ (sym (c .before .before .before .six-within2 .ensures) ∙ c .before .to-cycle .given .1)
 
 segment-read : (c : tie.After-known-told3)
     → numberWithin 1 (position (up2 (up3 c)) + cycle (up3 c)) (columns 12 6 (bytes (up1 (up2 (up3 c)))))
     ≡ some (c .before .to-segment .given .0 .0)
 unfolding columns
-segment-read c = number-found _ (sym (c .before .before .before .read-within3 .ensures) ∙ c .before .to-segment .given .1)
+segment-read c = number-found _ (sym (c .before .before .before .six-within3 .ensures) ∙ c .before .to-segment .given .1)
 
 -- the bounds that keep sums and differences in range
 position-small : (c : tie.After-known-told) → position c ≤ 99999
@@ -59,19 +59,19 @@ cycle-small c =
 
 no-position : (c : tie.After-enum-told) → numberWithin 0 99999 (columns 0 6 (bytes (c .before .before .before .before .before))) ≡ none
 unfolding columns
-no-position c = number-none _ (sym (c .before .before .read-within .ensures) ∙ c .enum-told .given .1)
+no-position c = number-none _ (sym (c .before .before .six-within .ensures) ∙ c .enum-told .given .1)
 
 no-cycle : (c : tie.After-enum-told2) →
     let one = c .before .before .before .before in
     numberWithin 1 (99999 - position one) (columns 6 6 (bytes (up1 one))) ≡ none
 unfolding columns
-no-cycle c = number-none _ (sym (c .before .before .read-within2 .ensures) ∙ c .enum-told2 .given .1)
+no-cycle c = number-none _ (sym (c .before .before .six-within2 .ensures) ∙ c .enum-told2 .given .1)
 
 no-segment : (c : tie.After-enum-told3) →
     let two = c .before .before .before .before in
     numberWithin 1 (position (up2 two) + cycle two) (columns 12 6 (bytes (up1 (up2 two)))) ≡ none
 unfolding columns
-no-segment c = number-none _ (sym (c .before .before .read-within3 .ensures) ∙ c .enum-told3 .given .1)
+no-segment c = number-none _ (sym (c .before .before .six-within3 .ensures) ∙ c .enum-told3 .given .1)
 
 returns : tie.Need-returns
 unfolding readHead

@@ -48,9 +48,9 @@ small s =
     let t = data-text (s .args .f) (s .args .list .now) (s .pre .0 .sending) (s .args .q) _ _ (in-data s) refl refl in
     (omega (arith, t .low, t .few-all), t .next)
 
-follow-on-at-requires : tie.Need-follow-on-at-requires
-follow-on-at-requires c κs =
-    let s = c .before .before in (s .pre .0 .sending .ready, s .pre .0 .sending .whole, in-data s, stands s)
+list-follow-on-requires : tie.Need-list-follow-on-requires
+list-follow-on-requires c κs =
+    let s = c .before .before in (s .pre .0 .sending, in-data s, stands s)
 
 mul-from : tie.Need-mul-from
 mul-from c = omega (arith, small (c .before .before .before .before))
@@ -113,13 +113,13 @@ returns c =
     lent-written (s .args .image .now) (240 * s .args .x) 240 _ _ room (wrote .write-data .kept .0) (wrote .write-data .ensures)
     ∙ data-written (s .args .f) (s .args .list .now) (s .pre .0 .sending) (s .args .x) (omega (arith, seated s, below s))
     (s .args .image .now) (s .pre .0 .roomy) _ (head .head-at .ensures) (s .args .q) _ _ (stands s)
-    (call .before .before .before .follow-on-at .ensures) (t .lines-are)
+    (call .before .before .before .list-follow-on .ensures) (t .lines-are)
 
 pub write-data-at-spec : {M : Type 1} → statement M
 write-data-at-spec =
     tie.close
     (tie.spec
-    follow-on-at-requires
+    list-follow-on-requires
     mul-from
     mul-from-2
     add-lesser

@@ -4,9 +4,9 @@ use mathlib.Core.Path.{sym, ap, _∙_}
 use mathlib.Core.List.{[]}
 use Prim.Native.Nat.{_-_, _<_, max}
 use native.Mathlib.Omega.{arith}
-use Rattle.buckets.specs.Held.{filled, heldIndex}
-use Rattle.cycle.specs.Held.{planOf, planIn, lastOf, treePairs, entered}
-use Rattle.cycle.proofs.TreeBuckets.{tree-here, tree-index-is, tree-none, tree-far, tree-near, tree-held}
+use Rattle.buckets.specs.Held.{filled, heldIndex, entered}
+use Rattle.cycle.specs.Held.{planOf, planIn, lastOf, treePairs}
+use Rattle.cycle.proofs.TreeBuckets.{tree-here, tree-index-is, tree-none, tree-distances, tree-held}
 use Rattle.cycle.proofs.index.tree_index.Statement.{statement}
 use Rattle.cycle.proofs.index.tree_index.Tie as tie
 
@@ -36,55 +36,26 @@ child-tags-requires c κs =
     let s = c .before .before .before .before .before in
     (s .pre .0, s .pre .1, omega (arith, c .before .if1 .left), s .pre .3, s .pre .4, c .child-count .ensures)
 
-far-distances-requires : tie.Need-far-distances-requires
-far-distances-requires c κs =
-    let s = c .before .before .before .before .before .before .before in (
-      s .pre .0,
-      omega (arith, c .before .before .before .if1 .left),
-      s .pre .3,
-      s .pre .4,
-      (λ more. absurd (omega (arith, c .if2 .taken))),
-      c .before .before .child-count .ensures,
-      here s,
-    )
+tree-distances-requires : tie.Need-tree-distances-requires
+tree-distances-requires c κs =
+    let s = c .before .before .before .before .before .before in
+    (s .pre .0, s .pre .3, s .pre .4, c .before .child-count .ensures, here s)
 
 with-entries-requires : tie.Need-with-entries-requires
 with-entries-requires c κs = tt
 
 returns-2 : tie.Need-returns-2
 returns-2 c =
-    let s = c .before .before .before .before .before .before .before .before .before in
-    let p = c .before .before .before .before in
+    let s = c .before .before .before .before .before .before .before .before in
+    let p = c .before .before .before in
     c .with-entries .ensures
     ∙ ap
-    (λ y. entered y (p .child-count .result) (c .before .before .before .child-tags .result) (c .before .far-distances .result))
-    (c .before .before .before .before .before .before .before .tree-pairs .ensures)
+    (λ y. entered y (p .child-count .result) (c .before .before .child-tags .result) (c .before .tree-distances .result))
+    (c .before .before .before .before .before .before .tree-pairs .ensures)
     ∙ tree-held (s .args .f) (s .pre .0) (s .args .source) (s .args .text .now) (s .args .s) (s .pre .2) (s .args .e) (s .args .j) (s .args .x) (s .pre .3) (s .pre .4) (s .pre .5) (s .pre .6) (s .pre .7)
-    (p .child-count .result) (c .before .before .before .child-tags .result) (c .before .far-distances .result) (p .child-count .ensures)
-    (c .before .before .before .child-tags .ensures)
-    (c .before .far-distances .ensures ∙ ap (filled 8) (sym (tree-far (s .args .f) (s .pre .0) (s .args .source) (s .args .text .now) (s .args .s) (s .pre .2) (s .args .e) (s .args .j) (s .args .x) (s .pre .3) (s .pre .4) (s .pre .5) (s .pre .6) (s .pre .7) (c .before .before .if2 .taken))))
-
-near-distances-requires : tie.Need-near-distances-requires
-near-distances-requires c κs =
-    let s = c .before .before .before .before .before .before .before in
-    (s .pre .0, omega (arith, s .pre .3, c .if2 .left), s .pre .4, c .before .before .child-count .ensures)
-
-with-entries-requires-2 : tie.Need-with-entries-requires-2
-with-entries-requires-2 c κs = tt
-
-returns-3 : tie.Need-returns-3
-returns-3 c =
-    let s = c .before .before .before .before .before .before .before .before .before in
-    let p = c .before .before .before .before in
-    c .with-entries2 .ensures
-    ∙ ap
-    (λ y. entered y (p .child-count .result) (c .before .before .before .child-tags .result) (c .before .near-distances .result))
-    (c .before .before .before .before .before .before .before .tree-pairs .ensures)
-    ∙ tree-held (s .args .f) (s .pre .0) (s .args .source) (s .args .text .now) (s .args .s) (s .pre .2) (s .args .e) (s .args .j) (s .args .x) (s .pre .3) (s .pre .4) (s .pre .5) (s .pre .6) (s .pre .7)
-    (p .child-count .result) (c .before .before .before .child-tags .result) (c .before .near-distances .result) (p .child-count .ensures)
-    (c .before .before .before .child-tags .ensures)
-    (c .before .near-distances .ensures
-    ∙ ap (filled 8) (sym (tree-near (s .args .f) (s .pre .0) (s .args .source) (s .args .text .now) (s .args .s) (s .pre .2) (s .args .e) (s .args .j) (s .args .x) (s .pre .3) (s .pre .4) (s .pre .5) (s .pre .6) (s .pre .7) (omega (arith, s .pre .3, c .before .before .if2 .left)))))
+    (p .child-count .result) (c .before .before .child-tags .result) (c .before .tree-distances .result) (p .child-count .ensures)
+    (c .before .before .child-tags .ensures)
+    (c .before .tree-distances .ensures ∙ ap (filled 8) (sym (tree-distances (s .args .f) (s .pre .0) (s .args .source) (s .args .text .now) (s .args .s) (s .pre .2) (s .args .e) (s .args .j) (s .args .x) (s .pre .3) (s .pre .4) (s .pre .5) (s .pre .6) (s .pre .7))))
 
 pub tree-index-spec : {M : Type 1} → statement M
 tree-index-spec =
@@ -94,9 +65,6 @@ tree-index-spec =
     returns
     child-count-requires
     child-tags-requires
-    far-distances-requires
+    tree-distances-requires
     with-entries-requires
-    returns-2
-    near-distances-requires
-    with-entries-requires-2
-    returns-3)
+    returns-2)

@@ -1,7 +1,7 @@
 -- `cycle::index::with_entries` meets its contract.
 -- Assumes nothing.
 use mathlib.Core.Path.{refl}
-use Rattle.cycle.specs.Held.{entered}
+use Rattle.buckets.specs.Held.{entered}
 use Rattle.cycle.proofs.index.with_entries.Statement.{statement}
 use Rattle.cycle.proofs.index.with_entries.Tie as tie
 

@@ -1,10 +1,10 @@
 -- `cycle::sizes::paths_before` meets its contract. The loop's invariant: what is still to be added is the same sum for the
--- levels left.
+-- levels above.
 -- Assumes nothing.
 use mathlib.Core.Path.{_≡_, sym, ap, _∙_}
 use mathlib.Core.List.{[]}
 use Prim.Native.Nat.{ℕ, suc, _+_, _-_, _*_, _≤_, _<_}
-use native.Mathlib.Nat.{zero-add, add-zero, add-assoc, mul-le-mul-left}
+use native.Mathlib.Nat.{add-zero, add-assoc, mul-le-mul-left}
 use native.Mathlib.Omega.{arith}
 use Rattle.columns.specs.Lists.{up}
 use Rattle.cycle.specs.Held.{planOf}
@@ -16,35 +16,62 @@ use Rattle.cycle.proofs.sizes.paths_before.Tie as tie
 
 abbrev Inv-loop : tie.InvT-loop
 Inv-loop f b left₀ count₀ sum₀ left count sum =
-    (climbs (f .n) (f .copies) b ≡ sum + climbs (f .n) left count) × (count ≤ 40000) × (sum + 40000 * left ≤ 160000)
+    (1 ≤ left)
+    × (climbs (f .n) (f .copies) b ≡ sum + climbs (f .n) (left - 1) (up count (f .n)))
+    × (count ≤ 40000)
+    × (sum + 40000 * (left - 1) ≤ 160000)
 
 abbrev μ-loop : tie.MeasureT-loop
 μ-loop f b left₀ count₀ sum₀ left count sum = left
-
--- one level more
-climb-added :
-    (n total left count sum x : ℕ) → 0 < left → total ≡ sum + climbs n left count → x ≡ up count n →
-    total ≡ (sum + count) + climbs n (left - 1) x
-climb-added n total left count sum x l inv e =
-    let more : left ≡ suc (left - 1) = omega arith in
-    inv
-    ∙ ap (λ y. sum + climbs n y count) more
-    ∙ sym (add-assoc sum count (climbs n (left - 1) (up count n)))
-    ∙ rw e
 
 -- copies is at most 4
 few : (c : tie.Start Inv-loop μ-loop) → c .args .f .copies ≤ 4
 unfolding planOf
 few c = path-facts (planOf (c .args .f) []) (c .pre .2) (c .pre .1) .0
 
-loop-holds : tie.Need-loop-holds Inv-loop μ-loop
-loop-holds c = (sym (zero-add (climbs (c .args .f .n) (c .args .f .copies) (c .args .b))), omega arith, omega (arith, few c))
+-- the lowest level, and those above it
+climb-one : (n r b : ℕ) → 0 < r → climbs n r b ≡ b + climbs n (r - 1) (up b n)
+climb-one n r b some = let more : r ≡ suc (r - 1) = omega arith in ap (λ y. climbs n y b) more
 
-add-sum : tie.Need-add-sum Inv-loop μ-loop
-add-sum c = omega arith
+-- one level more
+climb-added :
+    (n total left sum x y : ℕ) → 1 < left → x ≡ y → total ≡ sum + climbs n (left - 1) y →
+    total ≡ (sum + x) + climbs n (left - 1 - 1) (up x n)
+climb-added n total left sum x y l e inv =
+    inv
+    ∙ ap (λ z. sum + climbs n (left - 1) z) (sym e)
+    ∙ ap (λ z. sum + z) (climb-one n (left - 1) x (omega arith))
+    ∙ sym (add-assoc sum x (climbs n (left - 1 - 1) (up x n)))
+
+returns : tie.Need-returns Inv-loop μ-loop
+unfolding planOf
+returns c =
+    let start = c .before .before in
+    let f = start .args .f in
+    let none : f .copies ≡ 0 = omega arith in
+    sym (length-paths (planOf f []) (omega (arith, start .pre .0 .n-low)) (start .args .b) ∙ ap (λ r. climbs (f .n) r (start .args .b)) none)
+
+loop-holds : tie.Need-loop-holds Inv-loop μ-loop
+loop-holds c =
+    let start = c .before .before in
+    let f = start .args .f in
+    (omega arith, climb-one (f .n) (f .copies) (start .args .b) (omega arith), omega arith, omega (arith, few start))
 
 up-requires : tie.Need-up-requires Inv-loop μ-loop
-up-requires c κs = (omega arith, omega arith)
+up-requires c κs = let s = c .before .before .before .before .pre .0 in (omega (arith, s .n-low), omega (arith, s .n-high))
+
+-- what `up` gave is no more than there were
+counted : (c : tie.After-up Inv-loop μ-loop) → c .up .result ≤ 40000
+counted c =
+    let n : ℕ = c .before .before .before .before .before .args .f .n in
+    let count : ℕ = c .before .before .loop .count in
+    let pos : 0 < n = omega (arith, c .before .before .before .before .before .pre .0 .n-low) in
+    let much : count * 1 ≤ count * n = mul-le-mul-left count pos in
+    let least = up-least count n count pos (omega arith) in
+    omega (arith, c .up .ensures)
+
+add-sum : tie.Need-add-sum Inv-loop μ-loop
+add-sum c = omega (arith, counted c)
 
 sub-left : tie.Need-sub-left Inv-loop μ-loop
 sub-left c = omega arith
@@ -54,27 +81,36 @@ loop-less c = omega arith
 
 loop-again : tie.Need-loop-again Inv-loop μ-loop
 loop-again c =
-    let start = c .before .before .before in
+    let start = c .before .before .before .before .before in
     let f = start .args .f in
-    let l = c .before .before .loop in
-    let much : l .count * 1 ≤ l .count * f .n = mul-le-mul-left (l .count) (omega arith) in
-    let least = up-least (l .count) (f .n) (l .count) (omega arith) (omega arith) in (
-      climb-added (f .n) (climbs (f .n) (f .copies) (start .args .b)) (l .left) (l .count) (l .sum) (c .up .result) (omega arith) (l .inv .0) (c .up .ensures),
-      omega (arith, c .up .ensures),
+    let l = c .before .before .loop in (
       omega arith,
+      climb-added (f .n) (climbs (f .n) (f .copies) (start .args .b)) (l .left) (l .sum) (c .up .result) (up (l .count) (f .n)) (omega arith) (c .up .ensures) (l .inv .1),
+      counted c,
+      omega (arith, counted c),
     )
 
-returns : tie.Need-returns Inv-loop μ-loop
+returns-2 : tie.Need-returns-2 Inv-loop μ-loop
 unfolding planOf
-returns c =
-    let start = c .before .before in
+returns-2 c =
+    let start = c .before .before .before .before in
     let f = start .args .f in
     let l = c .before .loop in
-    let none : l .left ≡ 0 = omega arith in
-    let all : climbs (f .n) (f .copies) (start .args .b) ≡ l .sum + 0 = l .inv .0 ∙ rw none in
-    sym (length-paths (planOf f []) (omega arith) (start .args .b) ∙ all ∙ add-zero (l .sum))
+    let none : l .left - 1 ≡ 0 = omega arith in
+    let all : climbs (f .n) (f .copies) (start .args .b) ≡ l .sum + 0 = l .inv .1 ∙ rw none in
+    sym (length-paths (planOf f []) (omega (arith, start .pre .0 .n-low)) (start .args .b) ∙ all ∙ add-zero (l .sum))
 
 pub paths-before-spec : {M : Type 1} → statement M
 paths-before-spec =
     tie.close
-    (tie.spec Inv-loop μ-loop loop-holds add-sum up-requires sub-left loop-less loop-again returns)
+    (tie.spec
+    Inv-loop
+    μ-loop
+    returns
+    loop-holds
+    up-requires
+    add-sum
+    sub-left
+    loop-less
+    loop-again
+    returns-2)

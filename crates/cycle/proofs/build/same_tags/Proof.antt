@@ -1,0 +1,101 @@
+-- `cycle::build::same_tags` meets its contract. The loop's invariant: the columns from i on are the same.
+-- Assumes nothing.
+use mathlib.Core.Path.{_≡_, sym, ap, _∙_}
+use mathlib.Core.List.{List}
+use Prim.Native.Nat.{ℕ, _+_, _-_, _≤_, _<_}
+use native.Mathlib.Decide.{ℕ-discrete}
+use native.Mathlib.Omega.{arith}
+use lib.ListN.{length, take, drop, getD}
+use lib.Seq.{getD-take, getD-drop, ext-getD}
+use Rattle.columns.proofs.Put.{length-part}
+use Rattle.cycle.proofs.Deciding.{decides-no, decides-yes}
+use Rattle.cycle.proofs.build.same_tags.Statement.{statement}
+use Rattle.cycle.proofs.build.same_tags.Tie as tie
+
+abbrev Inv-loop : tie.InvT-loop
+Inv-loop list a b i₀ i = (i ≤ 10) × ((k : ℕ) → i ≤ k → k < 10 → getD list (a + k) 0 ≡ getD list (b + k) 0)
+
+abbrev μ-loop : tie.MeasureT-loop
+μ-loop list a b i₀ i = i
+
+-- column k of a tag
+column : (s : List ℕ) (a k : ℕ) → k < 10 → getD (take 10 (drop a s)) k 0 ≡ getD s (a + k) 0
+column s a k h = getD-take 10 (drop a s) k 0 h ∙ getD-drop a s k 0
+
+loop-holds : tie.Need-loop-holds Inv-loop μ-loop
+loop-holds c = (omega arith, λ k l h. absurd (omega arith))
+
+sub-i : tie.Need-sub-i Inv-loop μ-loop
+sub-i c = omega arith
+
+add-if1 : tie.Need-add-if1 Inv-loop μ-loop
+add-if1 c = let s = c .before .before in omega (arith, s .pre .0, s .good .0 .0)
+
+shared-slice-read-if1 : tie.Need-shared-slice-read-if1 Inv-loop μ-loop
+shared-slice-read-if1 c = let s = c .before .before .before in omega (arith, s .pre .0)
+
+add-if1-2 : tie.Need-add-if1-2 Inv-loop μ-loop
+add-if1-2 c = let s = c .before .before .before in omega (arith, s .pre .1, s .good .0 .0)
+
+shared-slice-read-if1-2 : tie.Need-shared-slice-read-if1-2 Inv-loop μ-loop
+shared-slice-read-if1-2 c = let s = c .before .before .before .before in omega (arith, s .pre .1)
+
+returns : tie.Need-returns Inv-loop μ-loop
+returns c =
+    let l = c .before .before .before .before .loop in
+    let s = c .before .before .before .before .before in
+    let k : ℕ = l .i - 1 in
+    let small : k < 10 = omega (arith, l .inv .0, c .before .before .before .loop-test .taken) in
+    decides-no
+    (λ e.
+    c .if1 .taken
+    (sym (column (s .args .list .now) (s .args .a) k small)
+    ∙ ap (λ (t : List ℕ). getD t k 0) e
+    ∙ column (s .args .list .now) (s .args .b) k small))
+
+loop-less : tie.Need-loop-less Inv-loop μ-loop
+loop-less c = omega (arith, c .before .before .before .loop-test .taken)
+
+loop-again : tie.Need-loop-again Inv-loop μ-loop
+loop-again c =
+    let l = c .before .before .before .before .loop in
+    let s = c .before .before .before .before .before in
+    let list : List ℕ = s .args .list .now in (
+      omega arith,
+      λ k low high.
+          elim (ℕ-discrete k (l .i - 1)) [
+            | yes e ↦ ap (λ z. getD list (s .args .a + z) 0) e ∙ c .if1 .left ∙ ap (λ z. getD list (s .args .b + z) 0) (sym e)
+            | no other ↦ l .inv .1 k (omega (arith, other)) high
+          ],
+    )
+
+returns-2 : tie.Need-returns-2 Inv-loop μ-loop
+returns-2 c =
+    let l = c .before .loop in
+    let s = c .before .before in
+    let list : List ℕ = s .args .list .now in
+    let a : ℕ = s .args .a in
+    let b : ℕ = s .args .b in
+    let wide : length (take 10 (drop a list)) ≡ 10 = length-part list a 10 (s .pre .0) in
+    decides-yes
+    (ext-getD 0 (take 10 (drop a list)) (take 10 (drop b list)) (wide ∙ sym (length-part list b 10 (s .pre .1)))
+    (λ k h.
+    let small : k < 10 = omega arith in
+    column list a k small ∙ l .inv .1 k (omega (arith, c .loop-test .left)) small ∙ sym (column list b k small)))
+
+pub same-tags-spec : {M : Type 1} → statement M
+same-tags-spec =
+    tie.close
+    (tie.spec
+    Inv-loop
+    μ-loop
+    loop-holds
+    sub-i
+    add-if1
+    shared-slice-read-if1
+    add-if1-2
+    shared-slice-read-if1-2
+    returns
+    loop-less
+    loop-again
+    returns-2)
