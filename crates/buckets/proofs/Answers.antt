@@ -1,6 +1,6 @@
 -- What an answer of the code tells of the reading behind it.
 -- Assumes nothing.
-use Prim.Native.Nat.{ℕ}
+use Prim.Native.Nat.{ℕ, _≤_}
 use mathlib.Core.Path.{_≡_, refl}
 use mathlib.Core.Bool.{true, false}
 use mathlib.Core.Option.{Option, none, some}
@@ -17,7 +17,7 @@ use Rattle.buckets.specs.declared.reader.Pairs.{Pairs}
 use Rattle.buckets.specs.declared.reader.Entries.{Entries}
 use Rattle.buckets.specs.declared.reader.Tags.{Tags}
 use Rattle.buckets.specs.Bucket.{Pair, Entry}
-use Rattle.buckets.specs.Held.{asLineRead}
+use Rattle.buckets.specs.Held.{asLineRead, tagOrMisprint}
 use Rattle.buckets.specs.Read.{asEntryRead, asHeadRead, heldPairs, heldEntries, heldTags}
 
 pub number-found : (o : Option ℕ) {x : ℕ} → asNumber o ≡ Value x → o ≡ some x
@@ -35,6 +35,17 @@ line-found (some k) h = cc
 pub line-none : (o : Option Line) → asLineRead o ≡ LineMisprinted → o ≡ none
 line-none none h = refl
 line-none (some k) h = absurd (let z : _≡_ {A = ℕ} 0 1 = cc in omega arith)
+
+-- the tag alone: what a misprint is answered by is no tag
+pub tag-found : (o : Option Line) {x : ℕ} → x ≡ tagOrMisprint o → (x ≡ 18446744073709551615 → ⊥)
+    → (l : Line) × (o ≡ some l) × (x ≡ l .tag)
+tag-found none e n = absurd (n e)
+tag-found (some l) e n = (l, refl, e)
+
+pub tag-none : (o : Option Line) {x : ℕ} → ((l : Line) → o ≡ some l → l .tag ≤ 4294967295) → x ≡ tagOrMisprint o
+    → x ≡ 18446744073709551615 → o ≡ none
+tag-none none small e h = refl
+tag-none (some l) small e h = absurd (omega (arith, small l refl))
 
 pub entry-found : (o : Option Entry) {t d : ℕ} → asEntryRead o ≡ EntryIs t d → o ≡ some (record { tag = t; distance = d })
 entry-found none h = absurd (let z : _≡_ {A = ℕ} 0 1 = cc in omega arith)

@@ -9,7 +9,7 @@ use native.Mathlib.Omega.{arith}
 use lib.Dec.{leb, eqb}
 use lib.ListN.{length, getD}
 use lib.Seq.{getD-at}
-use borrow.Author.Tests.{leb-true, le-leb, eqb-true}
+use borrow.Author.Tests.{leb-true, le-leb, eqb-true, eq-eqb, ne-eqb}
 use Rattle.columns.specs.Lists.{pick}
 use Rattle.columns.specs.PrintedNumbers.{print}
 use Rattle.columns.proofs.Strict.{both}
@@ -127,3 +127,27 @@ read-line-fields s = same-found (readLine s) (readLineFields s) forth back
 
     back : (l : Line) → readLineFields s ≡ some l → readLine s ≡ some l
     back l h = let told = line-only s h in rw (told .0) (read-of-print-line l (told .1))
+
+-- its length, its newline, and its figures
+pub wrong-length : (s : List ℕ) → (length s ≡ 27 → ⊥) → readLine s ≡ none
+unfolding readLineFields
+wrong-length s h = read-line-fields s ∙ rw (ne-eqb (length s) 27 h)
+
+pub no-newline : (s : List ℕ) → length s ≡ 27 → (getD s 26 0 ≡ 10 → ⊥) → readLine s ≡ none
+unfolding readLineFields
+no-newline s h n = read-line-fields s ∙ rw (eq-eqb (length s) 27 h, ne-eqb (getD s 26 0) 10 n)
+
+pub by-figures : (s : List ℕ) → length s ≡ 27 → getD s 26 0 ≡ 10 → readLine s ≡ readFigures 0 s
+unfolding readLineFields
+by-figures s h n = read-line-fields s ∙ rw (eq-eqb (length s) 27 h, eq-eqb (getD s 26 0) 10 n)
+
+-- ---- the tag of a line that was read
+
+tag-small : (l : Line) → fits l ≡ true → l .tag ≤ 4294967295
+tag-small l h = line-fits l h .small-tag
+
+pub figures-tag-small : (m : ℕ) (s : List ℕ) → 26 ≤ length s → (l : Line) → readFigures m s ≡ some l → l .tag ≤ 4294967295
+figures-tag-small m s long l h = tag-small l (both (fits l) (leb m (l .tag)) (figures-only m s long h .1) .0)
+
+pub line-tag-small : (s : List ℕ) (l : Line) → readLine s ≡ some l → l .tag ≤ 4294967295
+line-tag-small s l h = tag-small l (print-of-read-line s h .1)

@@ -25,10 +25,7 @@ use Rattle.buckets.specs.ListLine.{figures, printLine}
 use Rattle.buckets.specs.Bucket.{Entry, printPair, printEntry}
 use Rattle.buckets.specs.Held.{entriesOf, printedPair, pairsOf, copiedTo}
 use Rattle.buckets.proofs.ListLines.{length-figures, length-printLine}
-
-pub length-entry : (e : Entry) → length (printEntry e) ≡ 16
-unfolding printEntry
-length-entry e = refl
+use Rattle.buckets.proofs.Buckets.{length-printEntry}
 
 -- entry i of two arrays
 abbrev pub entryAt : List ℕ → List ℕ → ℕ → Entry
@@ -61,7 +58,7 @@ abbrev pub entriesTo : List ℕ → List ℕ → ℕ → List ℕ
 entriesTo ts ds i = joined printEntry (take i (entriesOf ts ds))
 
 pub length-entries-to : (ts ds : List ℕ) (i : ℕ) → i ≤ length ts → i ≤ length ds → length (entriesTo ts ds i) ≡ i * 16
-length-entries-to ts ds i h g = length-joined printEntry 16 length-entry (take i (entriesOf ts ds)) ∙ ap (λ (k : ℕ). k * 16) (length-entries ts ds i h g)
+length-entries-to ts ds i h g = length-joined printEntry 16 length-printEntry (take i (entriesOf ts ds)) ∙ ap (λ (k : ℕ). k * 16) (length-entries ts ds i h g)
 
 pub entry-written : (ts ds : List ℕ) (i : ℕ) → i < length ts → i < length ds →
     (entriesTo ts ds i ++ print 10 (getD ts i 0)) ++ print 6 (getD ds i 0) ≡ entriesTo ts ds (i + 1)

@@ -4,14 +4,12 @@ use Prim.Native.Nat.{ℕ, _-_, _<_, _≤_}
 use mathlib.Core.Path.{_≡_, refl, ap, ap₂, _∙_}
 use mathlib.Core.Bool.{true}
 use mathlib.Core.Option.{Option, none, some}
-use mathlib.Core.List.{List, [], _∷_, _++_, map}
+use mathlib.Core.List.{List, [], _∷_, _++_, map, map-id}
 use native.Mathlib.Omega.{arith}
 use lib.ListN.{length, take, getD, replicate, length-append, length-replicate, length-map, List·getD-append}
-use lib.Seq.{take-append-seam}
 use Rattle.columns.specs.Lists.{pick, every}
 use Rattle.columns.proofs.Strict.{both}
 use Rattle.columns.proofs.Joined.{map-at}
-use Rattle.buckets.specs.declared.Head.{Head}
 use Rattle.buckets.specs.Bucket.{Pair, Entry, Body, indexBody, Bucket, printedTag, laterPrinted}
 use Rattle.buckets.specs.Held.{entriesOf, printedPair, pairsOf, indexOf, bucketWith, filled, tagOr0, firstBlank, heldIndex, headOf}
 
@@ -20,10 +18,6 @@ use Rattle.buckets.specs.Held.{entriesOf, printedPair, pairsOf, indexOf,
 pub length-filled : (w : ℕ) (xs : List ℕ) → length xs ≤ w → length (filled w xs) ≡ w
 unfolding filled
 length-filled w xs h = simp (length-append, length-replicate) (omega arith)
-
-pub take-filled : (w : ℕ) (xs : List ℕ) → take (length xs) (filled w xs) ≡ xs
-unfolding filled
-take-filled w xs = take-append-seam xs (replicate (w - length xs) 0)
 
 -- what an array holds of item i
 pub held-at : {A : Type 0} (f : A → ℕ) (w : ℕ) (xs : List A) (d : A) (i : ℕ) → i < length xs
@@ -36,25 +30,22 @@ held-at f w xs d i h =
 -- ---- entries and pairs
 
 -- the tag and the distance of each item, whatever stands behind them
-entries-of : {A : Type 0} (f g : A → ℕ) (xs : List A) (a b : List ℕ)
+pub entries-of : {A : Type 0} (f g : A → ℕ) (xs : List A) (a b : List ℕ)
     → take (length xs) (entriesOf (map f xs ++ a) (map g xs ++ b)) ≡ map (λ x. record { tag = f x; distance = g x }) xs
 entries-of f g [] a b = refl
 entries-of f g (x ∷ xs) a b =
     ap (λ (es : List Entry). record { tag = f x; distance = g x } ∷ es) (entries-of f g xs a b)
 
-map-same : {A : Type 0} (xs : List A) → map (λ x. x) xs ≡ xs
-map-same [] = refl
-map-same (x ∷ xs) = rw (map-same xs)
-
-abbrev asEntry : Pair → Entry
-asEntry p = record { tag = tagOr0 (p .tag); distance = p .distance }
+-- a pair's numbers, 0 for a blank tag
+abbrev pub inNumbers : Pair → Entry
+inNumbers p = record { tag = tagOr0 (p .tag); distance = p .distance }
 
 printed-again : (t : Option ℕ) (d : ℕ) → printedTag t ≡ true
-    → printedPair (asEntry (record { tag = t; distance = d })) ≡ record { tag = t; distance = d }
+    → printedPair (inNumbers (record { tag = t; distance = d })) ≡ record { tag = t; distance = d }
 printed-again none d h = absurd (let z : _≡_ {A = ℕ} 0 1 = cc in omega arith)
 printed-again (some t) d h = refl
 
-all-printed-again : (ps : List Pair) → every (λ q. printedTag (q .tag)) ps ≡ true → map printedPair (map asEntry ps) ≡ ps
+all-printed-again : (ps : List Pair) → every (λ q. printedTag (q .tag)) ps ≡ true → map printedPair (map inNumbers ps) ≡ ps
 all-printed-again [] h = refl
 all-printed-again (p ∷ ps) h =
     let told = both (printedTag (p .tag)) (every (λ q. printedTag (q .tag)) ps) h in
@@ -65,7 +56,7 @@ first-again : (t : Option ℕ) (d : ℕ) (ps : List Pair)
 first-again none d ps = refl
 first-again (some t) d ps = refl
 
-pairs-again : (ps : List Pair) → laterPrinted ps ≡ true → pairsOf (firstBlank ps) (map asEntry ps) ≡ ps
+pairs-again : (ps : List Pair) → laterPrinted ps ≡ true → pairsOf (firstBlank ps) (map inNumbers ps) ≡ ps
 pairs-again [] h = refl
 pairs-again (p ∷ ps) h =
     λ i. record { tag = first-again (p .tag) (p .distance) ps i; distance = p .distance } ∷ all-printed-again ps h i
@@ -73,17 +64,14 @@ pairs-again (p ∷ ps) h =
 -- ---- bodies and buckets
 
 -- an index bucket's struct holds its body
-pub index-of-held : (ps : List Pair) (es : List Entry) → laterPrinted ps ≡ true → indexOf (heldIndex ps es) ≡ indexBody ps es
+pub index-held : (ps : List Pair) (es : List Entry) → laterPrinted ps ≡ true → indexOf (heldIndex ps es) ≡ indexBody ps es
 unfolding indexOf heldIndex filled
-index-of-held ps es h =
+index-held ps es h =
     ap₂ {C = Body} indexBody
     (ap (pairsOf (firstBlank ps)) (entries-of (λ (p : Pair). tagOr0 (p .tag)) (λ (p : Pair). p .distance) ps _ _) ∙ pairs-again ps h)
-    (entries-of (λ (e : Entry). e .tag) (λ (e : Entry). e .distance) es _ _ ∙ map-same es)
+    (entries-of (λ (e : Entry). e .tag) (λ (e : Entry). e .distance) es _ _ ∙ map-id es)
 
-pub head-of-with : (h : Head) (x : Body) → headOf (bucketWith h x) ≡ h
+-- head and body make the bucket
+pub bucket-whole : (b : Bucket) → bucketWith (headOf b) (b .body) ≡ b
 unfolding headOf bucketWith
-head-of-with h x = refl
-
-pub with-own-head : (b : Bucket) → bucketWith (headOf b) (b .body) ≡ b
-unfolding headOf bucketWith
-with-own-head b = refl
+bucket-whole b = refl

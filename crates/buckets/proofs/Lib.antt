@@ -8,6 +8,7 @@ pub mod Within
 pub mod Bounds
 pub mod Items
 pub mod Figures
+pub mod PrintedRest
 pub mod Entries
 pub mod BodyItems
 pub mod ByField

@@ -81,9 +81,6 @@ pub print-of-read-line : (s : List ℕ) {l : Line} → readLine s ≡ some l →
 unfolding readLine
 print-of-read-line s h = strict-only spelled fits printLine s h
 
-pub length-of-read-line : (s : List ℕ) {l : Line} → readLine s ≡ some l → length s ≡ 27
-length-of-read-line s {l} h = ap length (print-of-read-line s h .0) ∙ length-printLine l
-
 -- bytes that read are the print of what they spell
 pub read-line-spelled : (s : List ℕ) → taken (readLine s) ≡ true → (s ≡ printLine (spelled s)) × (fits (spelled s) ≡ true)
 read-line-spelled s h = go (readLine s) refl h

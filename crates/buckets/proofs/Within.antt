@@ -3,13 +3,13 @@
 use Prim.Native.Nat.{ℕ, zero, suc, _+_, _^_, _<_, _≤_}
 use mathlib.Core.Path.{_≡_, refl, sym, ap, ap₂, _∙_}
 use mathlib.Core.Bool.{true, false, _&&_}
-use mathlib.Core.Option.{none, some}
+use mathlib.Core.Option.{Option, none, some}
 use mathlib.Core.List.{List, [], _∷_, _++_}
 use native.Mathlib.Omega.{arith}
 use lib.Dec.{leb, eqb}
 use lib.ListN.{length, drop, getD, replicate, length-take, length-drop}
 use lib.Seq.{take-add, take-all, drop-cons, drop-drop}
-use borrow.Author.Tests.{leb-true, le-leb, eqb-true}
+use borrow.Author.Tests.{leb-true, le-leb, lt-ltb, eqb-true}
 use Rattle.columns.specs.Lists.{pick, every, same}
 use Rattle.columns.specs.PrintedNumbers.{print, blanks, readNumber}
 use Rattle.columns.proofs.Strict.{both}
@@ -42,6 +42,21 @@ within-only low high w s {x} long h =
       most = rw is at (leb-true y high (tests .1));
     }
 
+-- a number that needs fewer columns leaves the first one blank
+pub first-used : (low high w : ℕ) (s : List ℕ) → length s ≡ suc (suc w) → high < 10 ^ suc w → (getD s 0 0 ≡ 32 → ⊥)
+    → numberWithin low high s ≡ none
+first-used low high w s long small used = go (numberWithin low high s) refl
+  where
+    first-column : (x : ℕ) → x < 10 ^ suc w → getD (print (suc (suc w)) x) 0 0 ≡ 32
+    first-column x h = rw (lt-ltb x (10 ^ suc w) h)
+
+    go : (o : Option ℕ) → numberWithin low high s ≡ o → numberWithin low high s ≡ none
+    go none e = e
+    go (some x) e =
+        let found = within-only low high (suc (suc w)) s long e in
+        let few : x < 10 ^ suc w = omega (arith, found .most) in
+        absurd (used (ap (λ (r : List ℕ). getD r 0 0) (found .printed) ∙ first-column x few))
+
 -- ---- columns
 
 pub length-columns : (k w : ℕ) (s : List ℕ) → k + w ≤ length s → length (columns k w s) ≡ w
@@ -60,6 +75,10 @@ columns-all w s h = sym (take-all w s (omega arith))
 pub columns-one : (k : ℕ) (s : List ℕ) → k < length s → columns k 1 s ≡ getD s k 0 ∷ []
 unfolding columns
 columns-one k s h = rw (drop-cons s k 0 h)
+
+pub columns-first : (k w : ℕ) (s : List ℕ) → k < length s → getD (columns k (suc w) s) 0 0 ≡ getD s k 0
+unfolding columns
+columns-first k w s h = rw (drop-cons s k 0 h)
 
 -- a number read within bounds from columns of s
 pub field-only : (low high k w : ℕ) (s : List ℕ) {x : ℕ} → k + w ≤ length s → numberWithin low high (columns k w s) ≡ some x

@@ -4,11 +4,12 @@
 use Prim.Native.Nat.{ℕ, zero, suc, _+_, _-_, _*_}
 use mathlib.Core.Bool.{Bool, _&&_}
 use mathlib.Core.Option.{Option, none, some}
-use mathlib.Core.List.{List, [], _∷_}
+use mathlib.Core.List.{List, [], _∷_, _++_}
 use lib.Dec.{leb, eqb}
 use lib.ListN.{length, take, drop, getD}
 use Rattle.columns.specs.Lists.{pick, every}
 use Rattle.columns.specs.PrintedNumbers.{readNumber}
+use Rattle.columns.specs.Places.{places}
 use Rattle.buckets.specs.declared.Line.{Line}
 use Rattle.buckets.specs.declared.Head.{Head}
 use Rattle.buckets.specs.Bucket.{Pair, Entry, indexBody, dataBody, Bucket, columns}
@@ -38,6 +39,10 @@ readFigures m s =
     (λ c.
     andThen (numberWithin 0 999999 (columns 20 6 s))
     (λ w. some (record { tag = t; tare = k; code = c; weighing = w })))))
+
+-- the places of the 16 columns behind a line's tag in their fields: tare, material code and weighing number
+abbrev pub restPlaces : List ℕ
+restPlaces = places 4 ++ (places 2 ++ places 4)
 
 -- an entry's 16 columns, its tag at least m, in a cycle of n
 unfoldable pub readEntry : ℕ → ℕ → List ℕ → Option Entry

@@ -23,6 +23,11 @@ abbrev pub asLineRead : Option Line → LineRead
 asLineRead none = LineMisprinted
 asLineRead (some l) = Read l
 
+-- the tag alone of a line that was read, the largest number of 64 bits where none was
+abbrev pub tagOrMisprint : Option Line → ℕ
+tagOrMisprint none = 18446744073709551615
+tagOrMisprint (some l) = l .tag
+
 -- ---- from the structs
 
 abbrev pub entriesOf : List ℕ → List ℕ → List Entry

@@ -4,36 +4,16 @@ use columns;
 use columns::MISPRINT;
 use columns::Number;
 ghost use mathlib.Core.Path.{_≡_};
-ghost use mathlib.Core.Bool.{_&&_};
-ghost use lib.Dec.{eqb};
-ghost use Prim.Native.Nat.{_≤_};
+ghost use Prim.Native.Nat.{ℕ, _≤_};
+ghost use mathlib.Core.List.{List};
 ghost use lib.ListN.{length};
-ghost use Rattle.columns.specs.PrintedNumbers.{asNumber};
+ghost use Rattle.columns.specs.PrintedNumbers.{readNumber, asNumber, orMisprint};
 ghost use Rattle.buckets.specs.Columns.{numberWithin, allBlank};
 
-// The number that stands in all the columns of part, if it is from low to high.
-pub fn read_within(part: &[u8], low: u64, high: u64) -> Number
-    requires { ⌜ length (now part) ≤ 10 ⌝ }
-    ensures { λ r. ⌜ r ≡ asNumber (numberWithin low high (now (part .entry))) ⌝ }
+// x, which is the number that was read or MISPRINT, if it is from low to high.
+fn within(x: u64, low: u64, high: u64) -> Number
+    ensures { λ r. ⌜ ((s : List ℕ) → length s ≤ 10 → x ≡ orMisprint (readNumber s) → r ≡ asNumber (numberWithin low high s)) ⌝ }
 {
-    let Number::Value(x) = columns::read_number(part) else {
-        return Number::Misprinted;
-    };
-    if x < low {
-        return Number::Misprinted;
-    }
-    if high < x {
-        return Number::Misprinted;
-    }
-    Number::Value(x)
-}
-
-// The same of six columns.
-pub fn six_within(part: &[u8], low: u64, high: u64) -> Number
-    requires { ⌜ length (now part) ≡ 6 ⌝ }
-    ensures { λ r. ⌜ r ≡ asNumber (numberWithin low high (now (part .entry))) ⌝ }
-{
-    let x = columns::read_six(part);
     if x == MISPRINT {
         return Number::Misprinted;
     }
@@ -44,6 +24,14 @@ pub fn six_within(part: &[u8], low: u64, high: u64) -> Number
         return Number::Misprinted;
     }
     Number::Value(x)
+}
+
+// The number in six columns, if it is from low to high.
+pub fn six_within(part: &[u8], low: u64, high: u64) -> Number
+    requires { ⌜ length (now part) ≡ 6 ⌝ }
+    ensures { λ r. ⌜ r ≡ asNumber (numberWithin low high (now (part .entry))) ⌝ }
+{
+    within(columns::read_six(part), low, high)
 }
 
 // The same of four columns.
@@ -51,27 +39,18 @@ pub fn four_within(part: &[u8], low: u64, high: u64) -> Number
     requires { ⌜ length (now part) ≡ 4 ⌝ }
     ensures { λ r. ⌜ r ≡ asNumber (numberWithin low high (now (part .entry))) ⌝ }
 {
-    let x = columns::read_four(part);
-    if x == MISPRINT {
-        return Number::Misprinted;
-    }
-    if x < low {
-        return Number::Misprinted;
-    }
-    if high < x {
-        return Number::Misprinted;
-    }
-    Number::Value(x)
+    within(columns::read_four(part), low, high)
 }
 
-// Whether c is blank and the columns before it are.
-fn still_blank(before: bool, c: u8) -> bool
-    ensures { λ r. ⌜ r ≡ (before && eqb c 32) ⌝ }
+// The same of two columns. A number of one digit leaves the first one blank.
+pub fn digit_within(part: &[u8], low: u64, high: u64) -> Number
+    requires { ⌜ (length (now part) ≡ 2) × (high ≤ 9) ⌝ }
+    ensures { λ r. ⌜ r ≡ asNumber (numberWithin low high (now (part .entry))) ⌝ }
 {
-    if c == BLANK {
-        return before;
+    if part[0] != BLANK {
+        return Number::Misprinted;
     }
-    false
+    within(columns::read_digit(part[1]), low, high)
 }
 
 // Whether every column of part is blank. It looks at each of them, so that many are tested at once.
@@ -81,7 +60,7 @@ pub fn all_blank(part: &[u8]) -> bool
     let mut blank = true;
     let mut i = 0;
     while i < part.len() {
-        blank = still_blank(blank, part[i]);
+        blank = columns::still_blank(blank, part[i]);
         i += 1;
     }
     blank

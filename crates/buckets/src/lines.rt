@@ -1,4 +1,5 @@
 // A list line, read and written.
+use super::BLANK;
 use super::CODE;
 use super::FIGURES;
 use super::LINE;
@@ -9,13 +10,38 @@ use super::TARE;
 use super::WEIGHING;
 use super::fields;
 use columns;
+use columns::BETWEEN;
+use columns::FIRST;
+use columns::LAST;
+use columns::MISPRINT;
 use columns::Number;
 ghost use mathlib.Core.Path.{_≡_};
 ghost use Prim.Native.Nat.{_≤_};
 ghost use lib.ListN.{length};
+ghost use Rattle.columns.specs.Places.{columnsPrinted};
 ghost use Rattle.buckets.specs.ListLine.{figures, printLine, readLine};
-ghost use Rattle.buckets.specs.Held.{asLineRead};
-ghost use Rattle.buckets.specs.Columns.{readFigures};
+ghost use Rattle.buckets.specs.Held.{asLineRead, tagOrMisprint};
+ghost use Rattle.buckets.specs.Columns.{readFigures, restPlaces};
+
+// The places of the columns of tare, material code and weighing number in their fields.
+const PLACES: [u8; 16] = [
+    FIRST,
+    BETWEEN,
+    BETWEEN,
+    BETWEEN,
+    BETWEEN,
+    LAST,
+    FIRST,
+    BETWEEN,
+    BETWEEN,
+    LAST,
+    FIRST,
+    BETWEEN,
+    BETWEEN,
+    BETWEEN,
+    BETWEEN,
+    LAST,
+];
 
 // The line in the first 26 columns of part, its tag at least low.
 pub fn read_figures(part: &[u8], low: u64) -> LineRead
@@ -46,6 +72,46 @@ pub fn read_figures(part: &[u8], low: u64) -> LineRead
     })
 }
 
+// Whether tare, material code and weighing number are well printed in 16 columns. Each column is looked at, so that all are
+// tested at once.
+fn rest_printed(part: &[u8]) -> bool
+    requires { ⌜ length (now part) ≡ 16 ⌝ }
+    ensures { λ r. ⌜ r ≡ columnsPrinted restPlaces 32 (now (part .entry)) ⌝ }
+{
+    let places = PLACES;
+    let mut still = true;
+    let mut before = BLANK;
+    let mut i = 0;
+    while i < 16 {
+        let c = part[i];
+        still = columns::still_printed(still, places[i], before, c);
+        before = c;
+        i += 1;
+    }
+    still
+}
+
+// The tag of the line in the first 26 columns of part, at least low, or MISPRINT. The tare leaves its first column blank.
+pub fn read_tag(part: &[u8], low: u64) -> u64
+    requires { ⌜ 26 ≤ length (now part) ⌝ }
+    ensures { λ r. ⌜ r ≡ tagOrMisprint (readFigures low (now (part .entry))) ⌝ }
+{
+    let tag = columns::read_ten(&part[0..TARE]);
+    if tag < low {
+        return MISPRINT;
+    }
+    if 4294967295 < tag {
+        return MISPRINT;
+    }
+    if part[TARE] != BLANK {
+        return MISPRINT;
+    }
+    if rest_printed(&part[TARE..FIGURES]) {
+        return tag;
+    }
+    MISPRINT
+}
+
 // The list line that part is.
 pub fn read_line(part: &[u8]) -> LineRead
     ensures { λ r. ⌜ r ≡ asLineRead (readLine (now (part .entry))) ⌝ }
@@ -57,6 +123,19 @@ pub fn read_line(part: &[u8]) -> LineRead
         return LineRead::Misprinted;
     }
     read_figures(part, 0)
+}
+
+// The tag of the list line that part is, or MISPRINT.
+pub fn line_tag(part: &[u8]) -> u64
+    ensures { λ r. ⌜ r ≡ tagOrMisprint (readLine (now (part .entry))) ⌝ }
+{
+    if part.len() != LINE {
+        return MISPRINT;
+    }
+    if part[FIGURES] != NEWLINE {
+        return MISPRINT;
+    }
+    read_tag(part, 0)
 }
 
 // A line without its newline.

@@ -14,7 +14,6 @@ use super::ITEM_COUNT;
 use super::Index;
 use super::Kind;
 use super::LETTER;
-use super::LineRead;
 use super::NEWLINE;
 use super::PAIR_COUNT;
 use super::Reading;
@@ -23,6 +22,7 @@ use super::TO_SEGMENT;
 use super::fields;
 use super::lines;
 use columns;
+use columns::MISPRINT;
 use columns::Number;
 ghost use mathlib.Core.Path.{_≡_};
 ghost use mathlib.Core.List.{[]};
@@ -250,13 +250,13 @@ fn read_tags(part: &[u8], count: usize) -> Tags
     let mut i = 0;
     while i < count {
         let at = i * FIGURES;
-        let LineRead::Read(line) = lines::read_figures(&part[at..at + FIGURES], last) else {
+        last = lines::read_tag(&part[at..at + FIGURES], last);
+        if last == MISPRINT {
             return Tags {
                 good: false,
                 tags: [0; 8],
             };
-        };
-        last = line.tag;
+        }
         tags[i] = last;
         i += 1;
     }
@@ -371,10 +371,10 @@ fn read_index(part: &[u8], head: Head) -> Reading
     let Number::Value(_) = fields::six_within(&part[FOLLOW_ON..LETTER], 0, 0) else {
         return misprinted();
     };
-    let Number::Value(pair_count) = fields::read_within(&part[PAIR_COUNT..ITEM_COUNT], 0, 4) else {
+    let Number::Value(pair_count) = fields::digit_within(&part[PAIR_COUNT..ITEM_COUNT], 0, 4) else {
         return misprinted();
     };
-    let Number::Value(entry_count) = fields::read_within(&part[ITEM_COUNT..BODY], 0, 8) else {
+    let Number::Value(entry_count) = fields::digit_within(&part[ITEM_COUNT..BODY], 0, 8) else {
         return misprinted();
     };
     let n = head.position + head.to_cycle;
@@ -407,10 +407,10 @@ fn read_data(part: &[u8], head: Head) -> Reading
     ) else {
         return misprinted();
     };
-    let Number::Value(_) = fields::read_within(&part[PAIR_COUNT..ITEM_COUNT], 0, 0) else {
+    let Number::Value(_) = fields::digit_within(&part[PAIR_COUNT..ITEM_COUNT], 0, 0) else {
         return misprinted();
     };
-    let Number::Value(count) = fields::read_within(&part[ITEM_COUNT..BODY], 1, 8) else {
+    let Number::Value(count) = fields::digit_within(&part[ITEM_COUNT..BODY], 1, 8) else {
         return misprinted();
     };
     let read = read_tags(&part[BODY..BUCKET_END], count as usize);

@@ -10,3 +10,4 @@ pub mod Put
 pub mod FromTheRight
 pub mod Padded
 pub mod Table
+pub mod Places

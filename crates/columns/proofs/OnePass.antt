@@ -66,10 +66,6 @@ column-before acc c s h e =
     let reached : t ≤ a * t + value 0 s = omega (arith, mul-le-mul-right t h) in
     rw (value-behind a s, column-reached (length s) (a * t + value 0 s) reached, digits-div a (digits-small s e)) (digit-again acc c)
 
-and-true : (a : Bool) → a && true ≡ a
-and-true true = refl
-and-true false = refl
-
 -- a column and the digits behind it
 turn : (acc c : ℕ) (s : List ℕ) → 0 < acc * 10 + (c - 48)
     → same s (print (length s) (value (acc * 10 + (c - 48)) s)) ≡ every digit s

@@ -23,6 +23,11 @@ pub and-false : (a : Bool) → a && false ≡ false
 and-false true = refl
 and-false false = refl
 
+-- the second test of a conjunction holds
+pub and-true : (a : Bool) → a && true ≡ a
+and-true true = refl
+and-true false = refl
+
 pub same-refl : (s : List ℕ) → same s s ≡ true
 same-refl [] = refl
 same-refl (x ∷ s) = rw (eq-eqb x x refl, same-refl s)

@@ -6,6 +6,7 @@ ghost use Prim.Native.Nat.{_-_, _^_, _≤_, _<_};
 ghost use lib.Dec.{eqb};
 ghost use lib.ListN.{length, getD, take, drop};
 ghost use Rattle.columns.specs.Lists.{put, every};
+ghost use Rattle.columns.specs.Places.{columnPrinted};
 ghost use Rattle.columns.specs.PrintedNumbers.{print, blanks, value, digit, readNumber, asNumber, orMisprint};
 
 // What a strict reading of columns finds.
@@ -20,6 +21,13 @@ const BLANK: u8 = 32;
 const ZERO: u8 = 48;
 
 const ONE: u8 = 49;
+
+// The place of a column in its field: the first, the last, or one between them.
+pub const BETWEEN: u8 = 0;
+
+pub const FIRST: u8 = 1;
+
+pub const LAST: u8 = 2;
 
 // What is answered of misprinted columns in the place of their number.
 pub const MISPRINT: u64 = 18446744073709551615;
@@ -148,14 +156,14 @@ fn spelled(part: &[u8]) -> u64
     let mut x = 0;
     let mut i = 0;
     while i < part.len() {
-        x = x * 10 + part[i] as u64 - 48;
+        x = x * ten_to(1) + part[i] as u64 - 48;
         i += 1;
     }
     x
 }
 
 // The number in one column, or MISPRINT.
-fn read_digit(c: u8) -> u64
+pub fn read_digit(c: u8) -> u64
     ensures { λ r. ⌜ r ≡ orMisprint (readNumber (c ∷ [])) ⌝ }
 {
     let x = std::num::wrapping_sub_u8(c, ZERO);
@@ -218,13 +226,25 @@ pub fn read_six(part: &[u8]) -> u64
 }
 
 // Whether c is blank and the columns before it are.
-fn still_blank(before: bool, c: u8) -> bool
+pub fn still_blank(before: bool, c: u8) -> bool
     ensures { λ r. ⌜ r ≡ (before && eqb c 32) ⌝ }
 {
     if c == BLANK {
         return before;
     }
     false
+}
+
+// Whether c is well printed and the columns before it are. Behind unused columns of its field, and in the first one, c is blank or
+// a digit that is no 0; in the last column, and behind a used one, it is a digit.
+pub fn still_printed(still: bool, place: u8, before: u8, c: u8) -> bool
+    ensures { λ r. ⌜ r ≡ (still && columnPrinted place before c) ⌝ }
+{
+    let digit = std::num::wrapping_sub_u8(c, ZERO) < 10;
+    let unused = (before == BLANK) | (place == FIRST);
+    let nought = (c == ZERO) & unused & (place != LAST);
+    let blank = (c == BLANK) & unused & (place != LAST);
+    still & ((digit & !nought) | blank)
 }
 
 // Whether four columns are blank. Each of them is looked at, so that they are tested at once.

@@ -1,17 +1,16 @@
 -- What building accepts: the conditions 1 to 7 that do not hold, as facts of the plan, and what building then writes.
 -- Assumes nothing.
 use mathlib.Core.Path.{_≡_, refl, _∙_}
-use Prim.Native.Nat.{ℕ, _-_, _/_, _%_, _^_, _≤_, _<_, min, max}
+use Prim.Native.Nat.{ℕ, _-_, _/_, _%_, _≤_, max}
 use mathlib.Core.Bool.{true, _&&_}
 use mathlib.Core.Option.{none}
 use mathlib.Core.List.{List, map}
 use native.Mathlib.Omega.{arith}
 use lib.Dec.{leb, eqb}
-use lib.ListN.{length, getD}
-use borrow.Author.Tests.{leb-true, eqb-true, eq-eqb, ne-eqb}
+use lib.ListN.{length}
+use borrow.Author.Tests.{leb-true, eqb-true}
 use Rattle.columns.specs.Lists.{every, up}
 use Rattle.columns.proofs.Strict.{both}
-use Rattle.buckets.specs.declared.Line.{Line}
 use Rattle.buckets.specs.ListLine.{fits, cutLines, listLines, wholeLines, misprintFrom, fallFrom}
 use Rattle.buckets.specs.Bucket.{rising}
 use Rattle.buckets.proofs.Lists.{length-listLines, print-of-list, none-falls}
@@ -19,8 +18,10 @@ use Rattle.cycle.specs.Tree.{Settings, Plan, dataBuckets, levels, plan}
 use Rattle.cycle.specs.Building.{settingsFit, copiesFit}
 use Rattle.cycle.proofs.Sequence.{Sound}
 use Rattle.cycle.proofs.Keeping.{keeps}
-use Rattle.cycle.proofs.Levels.{up-at-most, levels-low, levels-least, levels-high, levels-hold, levels-lone}
-use Rattle.cycle.proofs.Rising.{rising-tags, rising-order}
+use Rattle.cycle.proofs.TreeLaws.{up-at-most}
+use Rattle.cycle.proofs.Levels.{levels-low, levels-hold, levels-lone}
+use Rattle.cycle.proofs.Readiness.{path-facts, parts-facts}
+use Rattle.cycle.proofs.Rising.{rising-tags}
 use Rattle.cycle.proofs.DataTags.{Laid}
 
 -- ---- the conditions, as facts
@@ -62,20 +63,13 @@ pub record CopiesFit (t : Plan) : Type 0 where
   pub parts-fit : (t .layout ≡ 1 → ⊥) → t .copies ≤ max 1 (t .d)
 
 pub copies-fit : (t : Plan) → copiesFit t ≡ true → CopiesFit t
-unfolding copiesFit
 copies-fit t h =
     record {
-      few-paths = λ e. omega (arith, one e);
-      paths-fit = λ e. omega (arith, one e);
-      parts-some = λ f. leb-true 1 (t .copies) (other f .0);
-      parts-fit = λ f. leb-true (t .copies) (max 1 (t .d)) (other f .1);
+      few-paths = λ one. path-facts t h one .0;
+      paths-fit = λ one. path-facts t h one .1;
+      parts-some = λ other. parts-facts t h other .0;
+      parts-fit = λ other. parts-facts t h other .1;
     }
-  where
-    one : t .layout ≡ 1 → t .copies ≤ min 4 (t .k - 1)
-    one e = leb-true (t .copies) (min 4 (t .k - 1)) (rw (eq-eqb (t .layout) 1 e) at h)
-
-    other : (t .layout ≡ 1 → ⊥) → (leb 1 (t .copies) ≡ true) × (leb (t .copies) (max 1 (t .d)) ≡ true)
-    other f = both (leb 1 (t .copies)) (leb (t .copies) (max 1 (t .d))) (rw (ne-eqb (t .layout) 1 f) at h)
 
 -- 2 does not hold
 pub whole-lines : (c : ℕ) → wholeLines c ≡ true → (c % 27 ≡ 0) × (c / 27 ≤ 40000)
@@ -97,10 +91,7 @@ pub record Accepted (t : Plan) : Type 0 where
   pub tags-rise : rising 0 (map (λ l. l .tag) (t .lines)) ≡ true
   pub few-lines : length (t .lines) ≤ 40000
   pub d-is : t .d ≡ up (length (t .lines)) (t .p)
-  pub d-high : t .d ≤ 40000
   pub k-is : t .k ≡ levels (t .n) (t .d)
-  pub k-high : t .k ≤ 16
-  pub k-least : (h : ℕ) → 1 ≤ h → h < t .k → t .n ^ h < t .d
 
 -- settings and lines within their ranges, with their D and k
 pub record Ranged (t : Plan) : Type 0 where
@@ -146,10 +137,7 @@ module _ (t : Plan) (r : Ranged t) (fit : copiesFit t ≡ true) where
         tags-rise = order;
         few-lines = r .few-lines;
         d-is = r .d-is;
-        d-high = few-data;
         k-is = r .k-is;
-        k-high = rw (r .k-is) (levels-high (t .n) (t .d) (r .n-low) few-data);
-        k-least = λ h low l. levels-least (t .n) (t .d) h low (rw (r .k-is) at l);
       }
 
 -- ---- the plan of a list and settings
@@ -171,9 +159,6 @@ module _ (s : Settings) (list : List ℕ) (fit : settingsFit s ≡ true) (whole 
         k-is = refl;
       }
 
-  pub accepted-sound : copiesFit (plan s (listLines list)) ≡ true → Sound (plan s (listLines list))
-  accepted-sound h = ranged-sound (plan s (listLines list)) plan-ranged h
-
   pub accepted-plan :
       misprintFrom 0 (cutLines list) ≡ none → fallFrom 0 0 (listLines list) ≡ none →
       copiesFit (plan s (listLines list)) ≡ true → Accepted (plan s (listLines list))
@@ -188,13 +173,6 @@ module _ (s : Settings) (list : List ℕ) (fit : settingsFit s ≡ true) (whole 
 module _ (t : Plan) (a : Accepted t) where
   pub lone-level : t .d ≡ 0 → t .k ≡ 1
   lone-level e = a .k-is ∙ levels-lone (t .n) (t .d) e
-
-  -- n^(k-1) is below D, or there is one level
-  pub levels-needed : (t .k ≡ 1 → ⊥) → t .n ^ (t .k - 1) < t .d
-  levels-needed f = let low : 1 ≤ t .k = a .sound .levelled in a .k-least (t .k - 1) (omega (arith, f)) (omega arith)
-
-  pub tags-order : (z : Line) (i j : ℕ) → i ≤ j → j < length (t .lines) → getD (t .lines) i z .tag ≤ getD (t .lines) j z .tag
-  tags-order z i j h l = rising-order 0 (t .lines) z i j (rising-tags 0 (t .lines) (a .tags-rise)) h l
 
   pub laid : Laid t
   laid =

@@ -1,38 +1,38 @@
--- A bucket of an image, as read, against the bucket of the cycle that stands there: index buckets and data buckets.
+-- A bucket of an image against the bucket of the cycle that stands there: index buckets by their columns, data buckets as read.
 -- Assumes nothing.
 use mathlib.Core.Path.{_≡_, refl, sym, ap, ap₂, _∙_, subst}
 use Prim.Native.Nat.{ℕ, _+_, _-_, _*_, _/_, _%_, _≤_, _<_, min}
 use native.Mathlib.Omega.{arith}
-use mathlib.Core.Bool.{Bool, true, false}
+use mathlib.Core.Bool.{Bool, true}
 use mathlib.Core.Option.{Option, none, some}
 use mathlib.Core.List.{List, [], _∷_, _++_, map}
 use borrow.Author.Tests.{eq-eqb}
 use lib.Arith.{digits-div, digits-mod}
 use lib.ListN.{length, drop, getD, replicate, length-drop, length-take, length-map}
 use lib.Seq.{ext-getD, getD-take, getD-drop}
-use Rattle.columns.specs.Lists.{pick, every, range, lastOr}
+use Rattle.columns.specs.Lists.{lastOr}
 use Rattle.buckets.specs.declared.Line.{Line}
 use Rattle.buckets.specs.declared.Head.{Head}
 use Rattle.buckets.specs.declared.Index.{Index}
 use Rattle.buckets.specs.declared.Kind.the-variants.{Index as KindIndex, Data as KindData, Misprinted as KindMisprinted}
 use Rattle.buckets.specs.declared.Reading.{Reading}
 use Rattle.buckets.specs.ListLine.{spelled}
-use Rattle.buckets.specs.Bucket.{Pair, Entry, Body, indexBody, dataBody, Bucket, readBucket, good, followOn, laterPrinted, printedTag}
-use Rattle.buckets.specs.Held.{headOf, heldIndex, indexOf, heldBody, asReading, bucketWith, filled}
-use Rattle.buckets.proofs.Good.{GoodIndex, bucket-good}
-use Rattle.buckets.proofs.Buckets.{print-of-read-bucket}
-use Rattle.cycle.specs.Tree.{Plan, linesOf, tagsOf, lastTag}
-use Rattle.cycle.specs.Layouts.{Slot, slot, slots}
-use Rattle.cycle.specs.Cycle.{isData, firstPair, laterPair, hasPairs, pairs, entries, followOnFrom}
+use Rattle.buckets.specs.Bucket.{Body, indexBody, dataBody, Bucket, printBucket, readBucket, good, followOn}
+use Rattle.buckets.specs.Held.{headOf, indexOf, heldBody, asReading, bucketWith, filled}
+use Rattle.buckets.proofs.Buckets.{print-of-read-bucket, read-of-print-bucket}
+use Rattle.cycle.specs.Tree.{Plan, children, linesOf, tagsOf, lastTag}
+use Rattle.cycle.specs.Layouts.{Slot, slot}
+use Rattle.cycle.specs.Cycle.{isData, followOnFrom}
 use Rattle.cycle.specs.declared.Figures.{Figures}
 use Rattle.cycle.specs.declared.Source.the-variants.{Image as InImage}
-use Rattle.cycle.specs.Held.{planOf, Ready, Stand, firstPlace, lastSentBefore, linesHeld, planIn, cycleBucket, asIndex}
-use Rattle.cycle.specs.Comparing.{Decides, bucketBytes, RisesAt, MatchesAt, indexReading}
+use Rattle.cycle.specs.Held.{planOf, Ready, Stand, firstPlace, linesHeld, planIn, cycleBucket, asIndex}
+use Rattle.cycle.specs.Comparing.{Decides, bucketBytes, RisesAt, MatchesAt}
 use Rattle.cycle.proofs.Sequence.{Keeps, dataCount}
 use Rattle.cycle.proofs.Keeping.{keeps}
-use Rattle.cycle.proofs.Shapes.{stand-shape, firstPlace-shape}
-use Rattle.cycle.proofs.Positions.{At, stand-at, at-same, index-at, data-at}
-use Rattle.cycle.proofs.WholeIndex.{index-held, bucket-whole}
+use Rattle.cycle.proofs.Shapes.{stand-shape, firstPlace-shape, children-shape}
+use Rattle.cycle.proofs.Positions.{At, stand-at, at-same, data-at}
+use Rattle.buckets.proofs.Holding.{bucket-whole}
+use Rattle.cycle.proofs.BucketsWritten.{HeldAt, held-at}
 use Rattle.cycle.proofs.Readiness.{sound}
 use Rattle.cycle.proofs.Sending.{head-shape}
 use Rattle.cycle.proofs.Deciding.{decides-by}
@@ -53,46 +53,6 @@ module _ (t : Plan) (ks : Keeps t) {x i j : ℕ} {xs : List Slot} (a : At t x i 
 
 -- ---- index buckets
 
--- only a first control pair may be blank
-later-all : (t : Plan) (ahead : List Slot) (x : Slot) (js : List ℕ) → every (λ (q : Pair). printedTag (q .tag)) (map (laterPair t ahead x) js) ≡ true
-unfolding laterPair
-later-all t ahead x [] = refl
-later-all t ahead x (j ∷ js) = later-all t ahead x js
-
-pub pairs-later : (t : Plan) (ahead : List Slot) (last : Option ℕ) (c : ℕ) (x : Slot) → laterPrinted (pairs t ahead last c x) ≡ true
-unfolding pairs
-pairs-later t ahead last c x = by (hasPairs t x)
-  where
-    by : (b : Bool) → laterPrinted (pick b (firstPair last c ∷ map (laterPair t ahead x) (range 2 (x .level + 1))) []) ≡ true
-    by true = later-all t ahead x (range 2 (x .level + 1))
-    by false = refl
-
--- an index bucket is told by its head and its index
-pub index-told :
-    (o : Option Bucket) (b : Bucket) (ps : List Pair) (es : List Entry) → ((c : Bucket) → o ≡ some c → good c ≡ true) →
-    b .body ≡ indexBody ps es → laterPrinted ps ≡ true → asReading o ≡ indexReading (headOf b) (asIndex (b .body)) → o ≡ some b
-unfolding indexReading
-index-told none b ps es fine e h r = absurd (let k : KindMisprinted ≡ KindIndex = ap (λ (x : Reading). x .kind) r in let z : _≡_ {A = ℕ} 0 1 = cc in omega arith)
-index-told (some c) b ps es fine e h r = ap some (of (c .body) refl)
-  where
-    of : (x : Body) → c .body ≡ x → c ≡ b
-    of (dataBody f ls) g =
-        absurd
-        (let k : KindData ≡ KindIndex = ap (λ (x : Reading). x .kind) (sym (ap (heldBody (headOf c)) g) ∙ r) in
-        let z : _≡_ {A = ℕ} 0 1 = cc in omega arith)
-    of (indexBody qs fs) g =
-        let same : heldBody (headOf c) (indexBody qs fs) ≡ indexReading (headOf b) (asIndex (b .body)) = sym (ap (heldBody (headOf c)) g) ∙ r in
-        let told : GoodIndex (c .position + c .toCycle) qs fs = rw g at (bucket-good c (fine c refl) .good-rest) in
-        let index : heldIndex qs fs ≡ heldIndex ps es = ap (λ (x : Reading). x .index) same ∙ ap asIndex e in
-        let body : c .body ≡ b .body =
-        g ∙ (sym (index-held qs fs (told .later-printed)) ∙ (ap indexOf index ∙ (index-held ps es h ∙ sym e))) in
-        let head : headOf c ≡ headOf b = ap (λ (x : Reading). x .head) same in
-        sym (bucket-whole c) ∙ (ap₂ bucketWith head body ∙ bucket-whole b)
-
-pub index-reads : (b : Bucket) (ps : List Pair) (es : List Entry) → b .body ≡ indexBody ps es → asReading (some b) ≡ indexReading (headOf b) (asIndex (b .body))
-unfolding indexReading
-index-reads b ps es e = ap (heldBody (headOf b)) e ∙ ap (λ x. indexReading (headOf b) (asIndex x)) (sym e)
-
 module _ (f : Figures) (bytes : List ℕ) (ready : Ready f) where
   pub stand-held : {x : ℕ} {xs : List Slot} → Stand (planOf f []) x xs → Stand (planIn f InImage bytes) x xs
   unfolding planIn
@@ -107,32 +67,32 @@ module _ (f : Figures) (bytes : List ℕ) (ready : Ready f) where
   held-keeps =
       keeps (planOf f (linesHeld f InImage bytes)) (sound f (linesHeld f InImage bytes) (ready .shaped) (ready .copies-fit))
 
-  pub index-decided :
-      (x i j : ℕ) {xs : List Slot} → Stand (planOf f []) x (slot i j ∷ xs) → i ≤ f .k → x < f .size →
-      (head : Head) (index : Index) (r : Bool) → head ≡ headOf (cycleBucket (planOf f []) x) →
-      index ≡ asIndex (cycleBucket (planIn f InImage bytes) x .body) →
-      Decides (asReading (readBucket (bucketBytes bytes x)) ≡ indexReading head index) r → Decides (MatchesAt (planIn f InImage bytes) bytes x) r
-  unfolding planIn planOf
-  index-decided x i j st low below head index r head-is index-is d =
-      let t : Plan = planIn f InImage bytes in
-      let a = stand-at {i = i} {j = j} (stand-held st) in
-      let rest : List Slot = a .next ++ a .behind in
-      let ps : List Pair = pairs t (rest ++ slots t) (lastSentBefore t x) (length (slots t) - x) (slot i j) in
-      let es : List Entry = entries t (rest ++ slots t) (slot i j) in
-      let body : cycleBucket t x .body ≡ indexBody ps es = index-at a low in
-      let wanted : indexReading head index ≡ indexReading (headOf (cycleBucket t x)) (asIndex (cycleBucket t x .body)) =
-      ap₂ indexReading (head-is ∙ head-held x below) index-is in
-      let o : Option Bucket = readBucket (bucketBytes bytes x) in
-      decides-by
-      (λ e.
-      record {
-        reads =
-            index-told o (cycleBucket t x) ps es (λ c m. print-of-read-bucket (bucketBytes bytes x) m .1) body
-            (pairs-later t (rest ++ slots t) (lastSentBefore t x) (length (slots t) - x) (slot i j)) (e ∙ wanted);
-        rises = none-falls t (held-keeps) a low;
-      })
-      (λ e. ap asReading (e .reads) ∙ (index-reads (cycleBucket t x) ps es body ∙ sym wanted))
-      d
+  -- a good one of the cycle, from its head and its index
+  module _ (x i j : ℕ) {xs : List Slot} (st : Stand (planOf f []) x (slot i j ∷ xs)) (low : i ≤ f .k)
+      (fine : good (cycleBucket (planIn f InImage bytes) x) ≡ true) where
+    pub index-held-in : HeldAt (planIn f InImage bytes) x (length (children (planOf f []) i j))
+    unfolding planIn planOf
+    index-held-in =
+        subst (λ cs. HeldAt (planIn f InImage bytes) x (length cs)) (children-shape f (linesHeld f InImage bytes) [] i j)
+        (held-at (stand-at {i = i} {j = j} (stand-held st)) low fine)
+
+    pub index-decided :
+        x < f .size → (head : Head) (index : Index) (r : Bool) → head ≡ headOf (cycleBucket (planOf f []) x) →
+        index ≡ asIndex (cycleBucket (planIn f InImage bytes) x .body) →
+        Decides (bucketBytes bytes x ≡ printBucket (bucketWith head (indexOf index))) r → Decides (MatchesAt (planIn f InImage bytes) bytes x) r
+    unfolding planIn planOf
+    index-decided below head index r head-is index-is d =
+        let t : Plan = planIn f InImage bytes in
+        let whole : bucketWith head (indexOf index) ≡ cycleBucket t x =
+        ap₂ (λ (h : Head) (y : Index). bucketWith h (indexOf y)) (head-is ∙ head-held x below) index-is ∙ index-held-in .whole in
+        decides-by
+        (λ e.
+        record {
+          reads = ap readBucket (e ∙ ap printBucket whole) ∙ read-of-print-bucket (cycleBucket t x) fine;
+          rises = none-falls t held-keeps (stand-at {i = i} {j = j} (stand-held st)) low;
+        })
+        (λ m. print-of-read-bucket (bucketBytes bytes x) (m .reads) .0 ∙ sym (ap printBucket whole))
+        d
 
 -- ---- data buckets
 
@@ -252,7 +212,7 @@ module _ (f : Figures) (bytes : List ℕ) (ready : Ready f) (x q : ℕ) (st : St
       ∙ ap (λ s. spelled (lineBytes s m)) (sym (told .0))
       ∙ sym (held-of z m (omega (arith, l, length-held-of))))
 
-  held-here : firstPlace (planIn f InImage bytes) (f .k + 1) q ≡ x
+  pub held-here : firstPlace (planIn f InImage bytes) (f .k + 1) q ≡ x
   unfolding planIn
   held-here = firstPlace-shape f (linesHeld f InImage bytes) [] (f .k + 1) q ∙ data-here
 

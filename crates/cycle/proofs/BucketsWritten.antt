@@ -19,6 +19,8 @@ use Rattle.buckets.specs.ListLine.{fits, printLine, cutLines, listLines, mispri
 use Rattle.buckets.specs.Bucket.{Pair, Entry, dataBody, printBucket, good, followOn}
 use Rattle.buckets.specs.Held.{bucketWith, headOf, indexOf}
 use Rattle.buckets.proofs.Lists.{length-printed, lines-of-printed, none-misprinted-of-printed}
+use Rattle.buckets.proofs.ListParts.{every-take, every-drop}
+use Rattle.buckets.proofs.Holding.{bucket-whole}
 use Rattle.cycle.specs.Tree.{Plan, children, linesOf, lastTag}
 use Rattle.cycle.specs.Layouts.{Slot, slot, slots}
 use Rattle.cycle.specs.Cycle.{pairs, entry, entries, followOnFrom}
@@ -31,8 +33,7 @@ use Rattle.cycle.proofs.Shapes.{stand-shape, children-shape}
 use Rattle.cycle.proofs.Positions.{At, stand-at, index-at, data-at}
 use Rattle.cycle.proofs.Stands.{stand-fits}
 use Rattle.cycle.proofs.ChildTrees.{tree-parts}
-use Rattle.cycle.proofs.WholeIndex.{good-held, bucket-whole}
-use Rattle.cycle.proofs.DataGood.{every-take, every-drop}
+use Rattle.cycle.proofs.WholeIndex.{good-held}
 use Rattle.cycle.proofs.Sendable.{sending-lines}
 use Rattle.cycle.proofs.Sending.{plan-in, long-in, good-in, bucket-in, head-in, lines-fit, lines-text}
 use Rattle.cycle.proofs.Written.{written-one}

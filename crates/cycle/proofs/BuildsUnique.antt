@@ -19,7 +19,7 @@ use Rattle.cycle.specs.declared.Restored.the-variants.{Lines}
 use Rattle.cycle.specs.ReadingBack.{Builds, ReadBack, settingsOut, imageOut, noList, noRoom, restored}
 use Rattle.cycle.specs.Held.{noBucket, cycleBucket}
 use Rattle.cycle.proofs.TreeLaws.{up-covers}
-use Rattle.cycle.proofs.BucketAt.{length-buckets}
+use Rattle.cycle.proofs.Positions.{length-buckets}
 use Rattle.cycle.proofs.Accepted.{Accepted, laid}
 use Rattle.cycle.proofs.Outcomes.{answered, accepted, accepted-list}
 use Rattle.cycle.proofs.BuiltImage.{image-reads}

@@ -14,8 +14,7 @@ use Rattle.cycle.specs.Layouts.{Slot, slots}
 use Rattle.cycle.specs.Cycle.{toNextSegment, isData, pairs, entries, followOnFrom, bodyOf, bucketOf, cycleSize}
 use Rattle.cycle.specs.Held.{lastOf, cycleBucket}
 use Rattle.cycle.proofs.Sequence.{dataCount}
-use Rattle.cycle.proofs.Distances.{distance-round}
-use Rattle.cycle.proofs.Occurring.{any-at}
+use Rattle.cycle.proofs.Distances.{some-hit, distance-round}
 use Rattle.cycle.proofs.Suffixes.{root}
 use Rattle.cycle.proofs.BucketAt.{Place, place-of, bucket-at}
 use Rattle.cycle.proofs.Accepted.{Accepted, laid}
@@ -39,7 +38,7 @@ module _
     unfolding toNextSegment cycleSize
     segment-reached =
         distance-round (λ y. y .starts) (slots t) before x rest splits
-        (rw (laid t a .keeps .root-first) (any-at (λ y. y .starts) [] root (laid t a .keeps .tail) refl))
+        (rw (laid t a .keeps .root-first) (some-hit (λ y. y .starts) [] root (laid t a .keeps .tail) refl))
 
     pub good-rest :
         (s : ℕ) → GoodBody (cycleSize t) (cycleSize t - length before) (bodyOf t (cycleSize t - length before) (lastOf t s) x rest (slots t))

@@ -13,15 +13,12 @@ use Rattle.columns.specs.Lists.{joined, every}
 use Rattle.columns.proofs.Joined.{length-joined-if, joined-at-if}
 use Rattle.buckets.specs.Bucket.{Bucket, printBucket, good, readBucket, cycleLength}
 use Rattle.buckets.proofs.Buckets.{length-printBucket, read-of-print-bucket}
-use Rattle.cycle.specs.Tree.{Settings, Plan, plan}
+use Rattle.cycle.specs.Tree.{Plan}
 use Rattle.cycle.specs.Cycle.{buckets, cycleSize, image}
-use Rattle.cycle.specs.Building.{build}
-use Rattle.cycle.specs.declared.Built.the-variants.{Cycle}
 use Rattle.cycle.specs.Held.{noBucket, cycleBucket}
-use Rattle.buckets.specs.ListLine.{listLines}
-use Rattle.cycle.proofs.BucketAt.{length-buckets, position-of, cycle-of}
+use Rattle.cycle.proofs.Positions.{length-buckets}
+use Rattle.cycle.proofs.BucketAt.{position-of, cycle-of}
 use Rattle.cycle.proofs.Accepted.{Accepted, laid}
-use Rattle.cycle.proofs.Outcomes.{answered, accepted}
 use Rattle.cycle.proofs.BuiltGood.{built-good}
 
 -- what passes at each place passes everywhere
@@ -37,9 +34,6 @@ module _ (t : Plan) (a : Accepted t) (short : cycleSize t ≤ 99999) where
 
   pub read-bucket : (x : ℕ) → x < cycleSize t → readBucket (printBucket (cycleBucket t x)) ≡ some (cycleBucket t x)
   read-bucket x h = read-of-print-bucket (cycleBucket t x) (built-good t a short x h)
-
-  pub length-built : (x : ℕ) → x < cycleSize t → length (printBucket (cycleBucket t x)) ≡ 240
-  length-built x h = length-printBucket (cycleBucket t x) (built-good t a short x h)
 
   pub length-image : length (image t) ≡ 240 * cycleSize t
   unfolding image
@@ -63,7 +57,6 @@ pub record CycleOf (bytes : List ℕ) (n : ℕ) (bk : ℕ → Bucket) : Type 0 w
   pub small : n ≤ 99999
   pub long : length bytes ≡ 240 * n
   pub part : (x : ℕ) → x < n → ListN.take 240 (drop (240 * x) bytes) ≡ printBucket (bk x)
-  pub keeps-rules : (x : ℕ) → x < n → good (bk x) ≡ true
   pub read : (x : ℕ) → x < n → readBucket (ListN.take 240 (drop (240 * x) bytes)) ≡ some (bk x)
   pub position-is : (x : ℕ) → x < n → bk x .position ≡ x
   pub cycle-is : (x : ℕ) → x < n → cycleLength (bk x) ≡ n
@@ -74,15 +67,7 @@ cycle-of-plan t a short =
       small = short;
       long = length-image t a short;
       part = image-bucket t a short;
-      keeps-rules = built-good t a short;
       read = image-reads t a short;
       position-is = position-of t (laid t a .keeps);
       cycle-is = cycle-of t (laid t a .keeps);
     }
-
-pub built-cycle :
-    (s : Settings) (list : List ℕ) (room n : ℕ) → build s list room .answer ≡ Cycle n →
-    CycleOf (build s list room .output) n (cycleBucket (plan s (listLines list)))
-built-cycle s list room n h =
-    let o = answered s list room n h in
-    rw (o .output-is, o .size-is) (cycle-of-plan (plan s (listLines list)) (accepted s list room n h) (o .short))

@@ -6,11 +6,12 @@ use native.Mathlib.Omega.{arith}
 use mathlib.Core.List.{List, [], _∷_, _++_, append-nil}
 use lib.ListN.{length, length-append}
 use Rattle.columns.specs.Lists.{joined, range, span}
+use Rattle.columns.proofs.Joined.{joined-append}
 use Rattle.cycle.specs.Tree.{width, children}
 use Rattle.cycle.specs.Layouts.{Slot, slot, subtree}
 use Rattle.cycle.specs.declared.Figures.{Figures}
 use Rattle.cycle.specs.Held.{planOf, Ready, InTree, Stand, treeAt}
-use Rattle.cycle.proofs.Ranges.{length-span, range-snoc, range-append, range-cons, joined-append}
+use Rattle.cycle.proofs.Ranges.{length-span, range-snoc, range-append, range-cons}
 use Rattle.cycle.proofs.Children.{child-inside}
 use Rattle.cycle.proofs.Stands.{stand-front, stand-behind}
 

@@ -5,16 +5,17 @@ use Prim.Native.Nat.{ℕ, zero, suc, _+_, _-_, _*_, _^_, _≤_, _<_, min}
 use native.Mathlib.Nat.{one-le-pow, mul-comm, mul-le-mul}
 use native.Mathlib.Omega.{arith}
 use mathlib.Core.List.{List, [], _∷_, _++_, append-nil}
-use mathlib.Core.Bool.{Bool, true, false}
 use lib.ListN.{length, length-append}
-use Rattle.columns.specs.Lists.{joined, span, range, up, pick}
+use Rattle.columns.specs.Lists.{joined, span, range, up}
+use Rattle.columns.proofs.Joined.{joined-append}
 use Rattle.cycle.specs.Tree.{Plan, width, children}
-use Rattle.cycle.specs.Layouts.{Slot, subtree, slots}
-use Rattle.cycle.specs.Cycle.{occurs, distanceTo, cycleSize}
+use Rattle.cycle.specs.Layouts.{subtree, slots}
+use Rattle.cycle.specs.Cycle.{occurs, cycleSize}
 use Rattle.cycle.specs.declared.Figures.{Figures}
 use Rattle.cycle.specs.Held.{planOf, fullSize, InTree, Ready, treeAt, firstPlace}
-use Rattle.cycle.proofs.Ranges.{length-range, span-append, joined-append}
+use Rattle.cycle.proofs.Ranges.{length-range, span-append}
 use Rattle.cycle.proofs.TreeLaws.{up-least, width-up, width-lt, length-children}
+use Rattle.cycle.proofs.Distances.{distance-all}
 use Rattle.cycle.proofs.Readiness.{Reached, reached}
 
 -- ---- N, and places in it
@@ -22,14 +23,6 @@ use Rattle.cycle.proofs.Readiness.{Reached, reached}
 pub size-slots : (f : Figures) → Ready f → f .size ≡ length (slots (planOf f []))
 unfolding cycleSize
 size-slots f ready = ready .size-is
-
-pub distance-all : (g : Slot → Bool) (xs : List Slot) → distanceTo g xs ≤ length xs
-distance-all g [] = omega arith
-distance-all g (x ∷ xs) = by-test (g x) (distance-all g xs)
-  where
-    by-test : (b : Bool) → distanceTo g xs ≤ length xs → pick b 1 (suc (distanceTo g xs)) ≤ suc (length xs)
-    by-test true h = omega arith
-    by-test false h = omega arith
 
 pub first-high : (t : Plan) (i j : ℕ) → firstPlace t i j ≤ length (slots t)
 unfolding firstPlace

@@ -7,15 +7,15 @@ use mathlib.Core.Bool.{Bool, true, false}
 use mathlib.Core.List.{List, [], _∷_, _++_}
 use lib.Dec.{eqb}
 use lib.ListN
-use lib.ListN.{length, drop, take-append-drop, length-append, length-take}
+use lib.ListN.{length, drop, length-append, length-take}
 use Rattle.columns.specs.Lists.{pick, every, lastOr}
 use Rattle.columns.proofs.Strict.{both}
-use Rattle.columns.proofs.Joined.{every-append}
 use Rattle.buckets.specs.declared.Line.{Line}
 use Rattle.buckets.specs.ListLine.{tagFits, fits}
 use Rattle.buckets.specs.Bucket.{pairTagFits}
 use Rattle.buckets.proofs.ListLines.{line-fits, small-tag}
 use Rattle.buckets.proofs.Good.{GoodData}
+use Rattle.buckets.proofs.ListParts.{every-take, every-drop}
 use Rattle.cycle.specs.Tree.{Plan, dataUnder, linesOf, firstTag, lastTag, largestTag}
 use Rattle.cycle.specs.Layouts.{Slot, slots}
 use Rattle.cycle.specs.Cycle.{isData, followOnFrom, cycleSize}
@@ -27,16 +27,6 @@ use Rattle.cycle.proofs.DataTags.{Filled, lines-of, last-tag, lines-ris
 use Rattle.cycle.proofs.Accepted.{Accepted, laid}
 
 -- ---- tags in range
-
-pub every-take : {A : Type 0} (f : A → Bool) (i : ℕ) (xs : List A) → every f xs ≡ true → every f (ListN.take i xs) ≡ true
-every-take f i xs h =
-    both (every f (ListN.take i xs)) (every f (drop i xs))
-    (sym (every-append f (ListN.take i xs) (drop i xs)) ∙ rw take-append-drop h) .0
-
-pub every-drop : {A : Type 0} (f : A → Bool) (i : ℕ) (xs : List A) → every f xs ≡ true → every f (drop i xs) ≡ true
-every-drop f i xs h =
-    both (every f (ListN.take i xs)) (every f (drop i xs))
-    (sym (every-append f (ListN.take i xs) (drop i xs)) ∙ rw take-append-drop h) .1
 
 pub last-small : (m : ℕ) (ls : List Line) → m ≤ 4294967295 → every fits ls ≡ true → lastFrom m ls ≤ 4294967295
 last-small m [] h e = h

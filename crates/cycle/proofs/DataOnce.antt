@@ -5,11 +5,11 @@ use mathlib.Core.Logic.{inl, inr, ⊎-elim}
 use Prim.Native.Nat.{ℕ, zero, suc, _+_, _-_, _≤_, _<_}
 use native.Mathlib.Nat.{add-zero, add-suc, suc-add}
 use native.Mathlib.Omega.{arith}
-use mathlib.Core.Bool.{Bool, true, false, _||_, true≢false}
+use mathlib.Core.Bool.{Bool, true, false, true≢false}
 use mathlib.Core.List.{List, [], _∷_, _++_, append-assoc}
 use lib.Dec.{eqb}
 use lib.ListN.{length, length-append}
-use borrow.Author.Tests.{eqb-true, eq-eqb}
+use borrow.Author.Tests.{eqb-true}
 use Rattle.columns.specs.Lists.{pick, any}
 use Rattle.cycle.specs.Tree.{Plan, firstTag, lastTag}
 use Rattle.cycle.specs.Layouts.{Slot, slots}
@@ -18,56 +18,10 @@ use Rattle.cycle.specs.Held.{firstPlace, aheadOf}
 use Rattle.cycle.proofs.Ranges.{le-or-lt}
 use Rattle.cycle.proofs.Sequence.{dataCount, Keeps}
 use Rattle.cycle.proofs.Suffixes.{data-occurs}
-use Rattle.cycle.proofs.Pieces.{count-append}
+use Rattle.cycle.proofs.Pieces.{data-level, count-append}
 use Rattle.cycle.proofs.Positions.{At}
+use Rattle.cycle.proofs.Distances.{some-hit, none-found}
 use Rattle.cycle.proofs.NextOccurrence.{first-hit, next-ahead, sentYet, toSend, at-parts, length-sentYet}
-
--- ---- buckets that pass
-
--- the first bucket that passes f
-pub record Found (f : Slot → Bool) (xs : List Slot) : Type 0 where
-  pub skipped : List Slot
-  pub hit : Slot
-  pub behind : List Slot
-  pub splits : xs ≡ skipped ++ (hit ∷ behind)
-  pub passes : f hit ≡ true
-  pub first : any f skipped ≡ false
-
-module _ (f : Slot → Bool) where
-  pub found : (xs : List Slot) → any f xs ≡ true → Found f xs
-  found [] h = absurd (true≢false (sym h))
-  found (x ∷ xs) h = by-test (f x) refl (found xs)
-    where
-      by-test : (b : Bool) → f x ≡ b → (any f xs ≡ true → Found f xs) → Found f (x ∷ xs)
-      by-test true e r = record { skipped = []; hit = x; behind = xs; splits = refl; passes = e; first = refl }
-      by-test false e r =
-          let g = r (rw e at h) in
-          record {
-            skipped = x ∷ g .skipped;
-            hit = g .hit;
-            behind = g .behind;
-            splits = ap (λ ys. x ∷ ys) (g .splits);
-            passes = g .passes;
-            first = rw e (g .first);
-          }
-
-  -- where a bucket that passes would be absurd, none does
-  pub none-found : (xs : List Slot) → (Found f xs → ⊥) → any f xs ≡ false
-  none-found xs h = by-test (any f xs) refl
-    where
-      by-test : (b : Bool) → any f xs ≡ b → any f xs ≡ false
-      by-test true e = absurd (h (found xs e))
-      by-test false e = e
-
-  pub some-hit : (xs : List Slot) (y : Slot) (ys : List Slot) → f y ≡ true → any f (xs ++ (y ∷ ys)) ≡ true
-  some-hit [] y ys e = rw e
-  some-hit (x ∷ xs) y ys e = by-test (f x) (some-hit xs y ys e)
-    where
-      by-test : (b : Bool) → any f (xs ++ (y ∷ ys)) ≡ true → b || any f (xs ++ (y ∷ ys)) ≡ true
-      by-test true h = refl
-      by-test false h = h
-
--- ---- data buckets
 
 pub occurs-data : (t : Plan) (q : ℕ) (y : Slot) → occurs (t .k + 1) q y ≡ true → (isData t y ≡ true) × (y .place ≡ q)
 unfolding occurs isData
@@ -117,7 +71,7 @@ quiet-none t xs h =
     (λ g.
     let e : dataCount t xs ≡ dataCount t (g .skipped) + (pick (isData t (g .hit)) 1 0 + dataCount t (g .behind)) =
     ap (dataCount t) (g .splits) ∙ count-append t (g .skipped) (g .hit ∷ g .behind) in
-    let e′ : dataCount t xs ≡ dataCount t (g .skipped) + (1 + dataCount t (g .behind)) = rw (g .passes) at e in
+    let e′ : dataCount t xs ≡ dataCount t (g .skipped) + (1 + dataCount t (g .behind)) = rw (g .is) at e in
     absurd (omega arith))
 
 module _ (t : Plan) (keeps : Keeps t) where
@@ -143,8 +97,8 @@ module _ (t : Plan) (keeps : Keeps t) where
         (λ g.
         let s : slots t ≡ g .skipped ++ (g .hit ∷ (g .behind ++ post)) =
         e ∙ ap (λ ys. ys ++ post) (g .splits) ∙ append-assoc (g .skipped) (g .hit ∷ g .behind) post in
-        let o = data-place (g .skipped) (g .hit) (g .behind ++ post) q s (g .passes) in
-        let d = occurs-data t q (g .hit) (g .passes) in
+        let o = data-place (g .skipped) (g .hit) (g .behind ++ post) q s (g .is) in
+        let d = occurs-data t q (g .hit) (g .is) in
         let c : dataCount t pre ≡ dataCount t (g .skipped) + (pick (isData t (g .hit)) 1 0 + dataCount t (g .behind)) =
         ap (dataCount t) (g .splits) ∙ count-append t (g .skipped) (g .hit ∷ g .behind) in
         let c′ : dataCount t pre ≡ dataCount t (g .skipped) + (1 + dataCount t (g .behind)) = rw (d .0) at c in
@@ -156,7 +110,7 @@ module _ (t : Plan) (keeps : Keeps t) where
         (λ g.
         let s : slots t ≡ (pre ++ g .skipped) ++ (g .hit ∷ g .behind) =
         e ∙ ap (λ ys. pre ++ ys) (g .splits) ∙ sym (append-assoc pre (g .skipped) (g .hit ∷ g .behind)) in
-        let o = data-place (pre ++ g .skipped) (g .hit) (g .behind) q s (g .passes) in
+        let o = data-place (pre ++ g .skipped) (g .hit) (g .behind) q s (g .is) in
         omega (arith, o .0, count-append t pre (g .skipped)))
 
   -- the distance to a data bucket from anywhere
@@ -198,8 +152,7 @@ follow-hit t last d (x ∷ xs) y ys h p = by-test (isData t x) refl (follow-hit 
 
 module _ (t : Plan) (keeps : Keeps t) {x q : ℕ} {xs : List Slot} (a : At t x (t .k + 1) q xs) where
   here-data : isData t (a .it) ≡ true
-  unfolding isData
-  here-data = eq-eqb (a .it .level) (t .k + 1) (a .level-is)
+  here-data = data-level t (a .it) (a .level-is)
 
   count-before : dataCount t (a .before) ≡ q
   count-before = sym (keeps .in-order (a .before) (a .it) (toSend a) (a .splits) here-data) ∙ a .place-is

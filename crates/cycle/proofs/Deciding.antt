@@ -2,7 +2,7 @@
 -- Assumes nothing.
 use mathlib.Core.Path.{_≡_, refl, sym}
 use Prim.Native.Nat.{ℕ}
-use mathlib.Core.Bool.{Bool, true, false, not, true≢false}
+use mathlib.Core.Bool.{Bool, true, false, not, _&&_, true≢false}
 use lib.Dec.{eqb}
 use borrow.Author.Tests.{eqb-true, eqb-false}
 use Rattle.cycle.specs.Comparing.{Decides}
@@ -29,3 +29,8 @@ module _ {P : Type 0} where
 
 pub decides-eqb : (a b : ℕ) → Decides (a ≡ b) (eqb a b)
 decides-eqb a b = record { yes = eqb-true a b; no = eqb-false a b }
+
+-- two tests in a row
+pub decides-both : {P Q : Type 0} {a b : Bool} → Decides P a → Decides Q b → Decides (P × Q) (a && b)
+decides-both {a = true} {b} d e = decides-by (λ q. (d .yes refl, q)) (λ p. p .1) e
+decides-both {a = false} {b} d e = decides-no (λ p. d .no refl (p .0))

@@ -3,12 +3,12 @@
 use mathlib.Core.Path.{_≡_, sym, ap, ap₂, _∙_}
 use Prim.Native.Nat.{ℕ, suc, _+_, _-_, _≤_, _<_}
 use native.Mathlib.Omega.{arith}
-use mathlib.Core.List.{List, [], _∷_, _++_, map, append-assoc}
+use mathlib.Core.List.{List, [], _∷_, _++_, map, map-append, append-assoc}
 use lib.ListN.{length, set, replicate, length-append, length-map}
 use lib.Seq.{set-at}
 use Rattle.columns.specs.Lists.{span, range}
 use Rattle.buckets.specs.Held.{filled}
-use Rattle.cycle.proofs.Ranges.{length-span, span-append, map-append}
+use Rattle.cycle.proofs.Ranges.{length-span, span-append}
 
 pub fill-more : (w : ℕ) (xs : List ℕ) (n v : ℕ) → length xs ≡ n → n < w → set (filled w xs) n v ≡ filled w (xs ++ (v ∷ []))
 unfolding filled

@@ -21,8 +21,8 @@ use Rattle.cycle.proofs.Paths.{pathTop-first}
 use Rattle.cycle.proofs.Pieces.{occurs-slot}
 use Rattle.cycle.proofs.Blocks.{blockLevel, blockCount}
 use Rattle.cycle.proofs.Positions.{At}
+use Rattle.cycle.proofs.Distances.{some-hit}
 use Rattle.cycle.proofs.NextOccurrence.{first-hit, toSend}
-use Rattle.cycle.proofs.DataOnce.{some-hit}
 use Rattle.cycle.proofs.TreeEntries.{other-level}
 use Rattle.cycle.proofs.Occurrences.{topOf, none-segments, placeOn, at-level, none-before-level}
 

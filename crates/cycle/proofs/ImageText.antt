@@ -12,31 +12,29 @@ use lib.ListN
 use lib.ListN.{length, drop, getD, length-append}
 use Rattle.columns.specs.Lists.{joined, span, range}
 use Rattle.columns.proofs.Put.{length-part}
-use Rattle.columns.proofs.Joined.{every-at}
+use Rattle.columns.proofs.Joined.{joined-append, every-at}
 use Rattle.columns.specs.PrintedNumbers.{value}
 use Rattle.buckets.specs.declared.Line.{Line}
 use Rattle.buckets.specs.ListLine.{fits, figures, printLine, spelled}
 use Rattle.buckets.proofs.ListLines.{spelled-alone}
 use Rattle.cycle.specs.Tree.{Plan, linesOf, lastTag, firstTag}
-use Rattle.cycle.specs.Cycle.{followOnFrom, cycleSize}
+use Rattle.cycle.specs.Cycle.{followOnFrom}
 use Rattle.cycle.specs.declared.Figures.{Figures}
 use Rattle.cycle.specs.declared.Source.the-variants.{Image as InImage}
 use Rattle.cycle.specs.Held.{planOf, firstPlace, lineAt, linesHeld, tagAt, planIn, cycleBucket}
-use Rattle.cycle.specs.Comparing.{bucketBytes, Matches, linesText, listText, Holding}
-use Rattle.cycle.proofs.Ranges.{range-snoc, joined-append, joined-range, joined-same}
+use Rattle.cycle.specs.Comparing.{bucketBytes, DataMatches, linesText, listText, Holding}
+use Rattle.cycle.proofs.Ranges.{range-snoc, joined-range, joined-same}
 use Rattle.cycle.proofs.Sequence.{Sound}
 use Rattle.cycle.proofs.Keeping.{keeps}
 use Rattle.cycle.proofs.Readiness.{sound}
 use Rattle.cycle.proofs.Shapes.{firstPlace-shape}
 use Rattle.cycle.proofs.Positions.{data-at}
-use Rattle.cycle.proofs.Sending.{size-shape}
 use Rattle.cycle.proofs.DataHeld.{data-ends}
 use Rattle.cycle.proofs.LinesHeld.{line-bucket, line-column}
 use Rattle.cycle.proofs.SentLines.{full-lines, last-full}
 use Rattle.cycle.proofs.Tags.{first-tag}
 use Rattle.cycle.proofs.ImageLines.{data-placed, spelled-front, lineBytes, image-line, printed-line, length-held}
-use Rattle.cycle.proofs.Matching.{matches-to}
-use Rattle.cycle.proofs.HeldImage.{at-below, place-in-bucket}
+use Rattle.cycle.proofs.HeldImage.{place-in-bucket}
 use Rattle.cycle.proofs.Restorable.{bytes-are, data-good}
 
 -- ---- the text of the lines
@@ -130,8 +128,8 @@ module _ (f : Figures) (bytes : List ℕ) (w : Holding f bytes) where
       let place : 240 * x + 29 + 26 * i ≡ 240 * x + (29 + 26 * i) = omega arith in
       rw (none-before, bucket, line, place)))
 
-  -- if each bucket is that of the lines read off the image, the columns of a line are its print
-  module _ (whole : Matches (planIn f InImage bytes) bytes 0 (f .size)) where
+  -- if each data bucket is that of the lines read off the image, the columns of a line are its print
+  module _ (datas : DataMatches (planIn f InImage bytes) bytes 0 (f .d)) where
     pub line-text :
         (i : ℕ) → i < f .lines →
         ListN.take 26 (drop (lineAt (planOf f []) InImage i) bytes) ≡ figures (spelled (drop (lineAt (planOf f []) InImage i) bytes))
@@ -140,8 +138,6 @@ module _ (f : Figures) (bytes : List ℕ) (w : Holding f bytes) where
         let ls : List Line = linesHeld f InImage bytes in
         let t : Plan = planOf f ls in
         let fine : Sound t = sound f ls (w .ready .shaped) (w .ready .copies-fit) in
-        let size : cycleSize t ≡ f .size = size-shape f ls [] ∙ sym (w .ready .size-is) in
-        let all : Matches t bytes 0 (cycleSize t) = matches-to (sym size) whole in
         let q : ℕ = i / f .p in
         let m : ℕ = i % f .p in
         let z : Line = spelled [] in
@@ -155,9 +151,9 @@ module _ (f : Figures) (bytes : List ℕ) (w : Holding f bytes) where
         let columns : ListN.take 26 (drop (240 * firstPlace (planOf f []) (f .k + 1) q + (29 + 26 * m)) bytes) ≡ figures (getD (linesOf t q) m z) =
         image-line bytes (firstPlace (planOf f []) (f .k + 1) q) m (omega arith)
         ∙ (ap (λ y. lineBytes (bucketBytes bytes y) m) place
-        ∙ (ap (λ b. lineBytes b m) (bytes-are t fine bytes all x (at-below there) .0)
+        ∙ (ap (λ b. lineBytes b m) (bytes-are t fine bytes datas q in-d .0)
         ∙ printed-line (cycleBucket t x) from (linesOf t q) z m (data-at there refl) inside)) in
-        let fit : fits (getD (linesOf t q) m z) ≡ true = every-at fits z (linesOf t q) m (data-good t fine bytes all q in-d .0) inside in
+        let fit : fits (getD (linesOf t q) m z) ≡ true = every-at fits z (linesOf t q) m (data-good t fine bytes datas q in-d .0) inside in
         columns
         ∙ ap figures
         (sym

@@ -8,12 +8,13 @@ use mathlib.Core.List.{List, [], _∷_, _++_, append-nil}
 use lib.ListN.{length, length-append}
 use borrow.Author.Tests.{eq-eqb, ne-eqb}
 use Rattle.columns.specs.Lists.{joined, range}
+use Rattle.columns.proofs.Joined.{joined-append}
 use Rattle.cycle.specs.Tree.{Plan}
 use Rattle.cycle.specs.Layouts.{Slot, segment, subtree, treeBelow, sent, path, distributedSegment, distributed, wholeSegment, oneM, slots}
 use Rattle.cycle.specs.Held.{treeAt}
 use Rattle.cycle.proofs.Sequence.{Sound, dataCount, Keeps}
 use Rattle.cycle.proofs.Keeping.{keeps}
-use Rattle.cycle.proofs.Ranges.{range-snoc, range-cons, joined-append, joined-range}
+use Rattle.cycle.proofs.Ranges.{range-snoc, range-cons, joined-range}
 use Rattle.cycle.proofs.Pieces.{count-append, count-sent, quiet-subtree}
 use Rattle.cycle.proofs.Blocks.{blockCount, blockStart, blockSize, block-start, count-block, quiet-path, count-segment}
 use Rattle.cycle.proofs.OneM.{partStart, part-step}
@@ -62,6 +63,10 @@ segment-starts p q r more h =
 
 -- ---- layout 1
 
+pub slots-blocks : (t : Plan) → t .layout ≡ 1 → slots t ≡ joined (distributedSegment t) (range 0 (blockCount t))
+unfolding slots distributed
+slots-blocks t one = rw (eq-eqb (t .layout) 1 one)
+
 module _ (t : Plan) (sound : Sound t) (one : t .layout ≡ 1) where
   fits : t .copies + 1 ≤ t .k
   fits = sound .path-fits one
@@ -81,10 +86,6 @@ module _ (t : Plan) (sound : Sound t) (one : t .layout ≡ 1) where
       count-segments t (distributedSegment t) (blockStart t) (blockCount t) (rw zero-mul (omega arith))
       (λ x u. count-block t sound one x u) b h
 
-  pub slots-blocks : slots t ≡ joined (distributedSegment t) (range 0 (blockCount t))
-  unfolding slots distributed
-  slots-blocks = rw (eq-eqb (t .layout) 1 one)
-
   pub laid-block :
       (b : ℕ) → b < blockCount t →
       Laid t (length (joined (distributedSegment t) (range 0 b))) (path t b) (treeAt t (blockHeight t) b) (b * blockWide t)
@@ -100,7 +101,7 @@ module _ (t : Plan) (sound : Sound t) (one : t .layout ≡ 1) where
       let whole : min (t .d) (b * blockSize t) ≡ b * blockSize t = omega arith in
       let time : dataCount t before ≡ b * blockWide t = block-time b (omega arith) ∙ whole ∙ ap (λ x. b * x) wide in
       laid t kept before (path t b) (treeAt t (blockHeight t) b) behind (b * blockWide t) (min (t .d) ((b + 1) * blockWide t))
-      (slots-blocks ∙ split-segments f b (blockCount t) h ∙ ap (λ xs. before ++ (xs ++ behind)) (block-holds b))
+      (slots-blocks t one ∙ split-segments f b (blockCount t) h ∙ ap (λ xs. before ++ (xs ++ behind)) (block-holds b))
       (bare-path t b)
       (bare-tree t (blockHeight t) b)
       (quiet-path t sound one b)
@@ -114,6 +115,10 @@ module _ (t : Plan) (sound : Sound t) (one : t .layout ≡ 1) where
       (cycle-starts t kept) (suc b) (blockCount t - suc b))
 
 -- ---- layout 2
+
+pub slots-wholes : (t : Plan) → (t .layout ≡ 1 → ⊥) → slots t ≡ joined (wholeSegment t) (range 0 (t .copies))
+unfolding slots oneM
+slots-wholes t other = rw (ne-eqb (t .layout) 1 other)
 
 module _ (t : Plan) (sound : Sound t) (other : t .layout ≡ 1 → ⊥) where
   parted : 0 < t .copies
@@ -145,10 +150,6 @@ module _ (t : Plan) (sound : Sound t) (other : t .layout ≡ 1 → ⊥) where
       omega arith)
       i (omega arith)
 
-  pub slots-wholes : slots t ≡ joined (wholeSegment t) (range 0 (t .copies))
-  unfolding slots oneM
-  slots-wholes = rw (ne-eqb (t .layout) 1 other)
-
   pub laid-whole :
       (i : ℕ) → i < t .copies →
       Laid t (length (joined (wholeSegment t) (range 0 i))) [] (treeAt t (t .k) 0) (partStart t i) (partStart t (suc i))
@@ -158,7 +159,7 @@ module _ (t : Plan) (sound : Sound t) (other : t .layout ≡ 1 → ⊥) where
       let behind : List Slot = joined f (range (suc i) (t .copies)) in
       let kept : Keeps t = keeps t sound in
       laid t kept before [] (treeAt t (t .k) 0) behind (partStart t i) (partStart t (suc i))
-      (slots-wholes ∙ split-segments f i (t .copies) h ∙ ap (λ xs. before ++ (xs ++ behind)) (whole-holds i))
+      (slots-wholes t other ∙ split-segments f i (t .copies) h ∙ ap (λ xs. before ++ (xs ++ behind)) (whole-holds i))
       refl
       (bare-tree t (t .k) 0)
       refl

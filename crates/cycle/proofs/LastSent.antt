@@ -7,11 +7,10 @@ use native.Mathlib.Nat.{zero-add, add-zero, add-assoc}
 use native.Mathlib.Numerals.{add-one}
 use native.Mathlib.Omega.{arith}
 use mathlib.Core.Bool.{Bool, true, false}
-use mathlib.Core.Option.{some}
+use mathlib.Core.Option.{none, some}
 use mathlib.Core.List.{List, [], _∷_, _++_, map, append-assoc}
 use lib.ListN.{length, take, drop, getD, length-append, length-take, length-map, take-append-drop, List·getD-map}
 use lib.Seq.{split-at}
-use borrow.Author.Tests.{eq-eqb}
 use Rattle.columns.specs.Lists.{pick, range}
 use Rattle.cycle.specs.Tree.{Plan, lastTag}
 use Rattle.cycle.specs.Layouts.{Slot, slot, sent, slots}
@@ -19,7 +18,7 @@ use Rattle.cycle.specs.Cycle.{isData, lastSent}
 use Rattle.cycle.specs.Held.{bare, Stand, firstPlace, lastSentIn, lastSentBefore, lastOf}
 use Rattle.cycle.proofs.Sequence.{dataCount, Keeps}
 use Rattle.cycle.proofs.Ranges.{length-range, getD-range}
-use Rattle.cycle.proofs.Pieces.{count-append, occurs-slot}
+use Rattle.cycle.proofs.Pieces.{occurs-slot, data-level, count-append}
 use Rattle.cycle.proofs.NextOccurrence.{first-hit}
 use Rattle.cycle.proofs.DataOnce.{none-before}
 
@@ -36,10 +35,6 @@ quiet-take t n xs h =
     let e : dataCount t (take n xs ++ drop n xs) ≡ 0 = ap (dataCount t) (take-append-drop n xs) ∙ h in
     let f = count-append t (take n xs) (drop n xs) in
     omega arith
-
-pub data-level : (t : Plan) (x : Slot) → x .level ≡ t .k + 1 → isData t x ≡ true
-unfolding isData
-data-level t x e = eq-eqb (x .level) (t .k + 1) e
 
 module _ (t : Plan) (keeps : Keeps t) where
   -- ---- the tag of the last line sent
@@ -72,11 +67,12 @@ module _ (t : Plan) (keeps : Keeps t) where
       ∙ last-among (before ++ (x ∷ [])) xs rest more
       ∙ ap (lastOf t) (ap (λ y. y + dataCount t xs) count ∙ add-assoc s one (dataCount t xs))
 
+  pub last-behind : (xs rest : List Slot) → slots t ≡ xs ++ rest → lastSentIn t none xs ≡ lastOf t (dataCount t xs)
+  last-behind xs rest splits = last-among [] xs rest splits ∙ ap (lastOf t) (zero-add (dataCount t xs))
+
   pub last-sent : (x : ℕ) → lastSentBefore t x ≡ lastOf t (dataCount t (take x (slots t)))
   unfolding lastSentBefore
-  last-sent x =
-      last-among [] (take x (slots t)) (drop x (slots t)) (sym (take-append-drop x (slots t)))
-      ∙ ap (lastOf t) (zero-add (dataCount t (take x (slots t))))
+  last-sent x = last-behind (take x (slots t)) (drop x (slots t)) (sym (take-append-drop x (slots t)))
 
   -- ---- the first place of a data bucket
 

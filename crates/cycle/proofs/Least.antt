@@ -8,6 +8,13 @@ use native.Mathlib.Omega.{arith}
 use Rattle.columns.specs.Lists.{pick, least}
 use Rattle.cycle.proofs.Ranges.{le-or-lt}
 
+pub least-found : (c i : ℕ) (f : ℕ → Bool) → f i ≡ true → least c i f ≡ i
+least-found zero i f e = refl
+least-found (suc c) i f e = rw e
+
+pub least-next : (c i : ℕ) (f : ℕ → Bool) → f i ≡ false → least (suc c) i f ≡ least c (suc i) f
+least-next c i f e = rw e
+
 pub least-from : (c i : ℕ) (f : ℕ → Bool) → i ≤ least c i f
 least-from zero i f = omega arith
 least-from (suc c) i f = by (f i) (least-from c (suc i) f)

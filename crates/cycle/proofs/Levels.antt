@@ -1,21 +1,16 @@
--- How many data buckets and levels there are: "the least k of at least 1 with n^k at least D".
+-- How many levels there are: "the least k of at least 1 with n^k at least D".
 -- Assumes nothing.
-use mathlib.Core.Path.{_≡_}
+use mathlib.Core.Path.{_≡_, ap, _∙_}
 use mathlib.Core.Logic.{⊎-elim}
-use Prim.Native.Nat.{ℕ, _^_, _≤_, _<_}
-use native.Mathlib.Nat.{le-mul-of-pos-right, pow-le-pow-left}
+use Prim.Native.Nat.{ℕ, suc, _-_, _*_, _^_, _≤_, _<_}
+use native.Mathlib.Nat.{pow-succ', pow-zero, mul-one, mul-le-mul, eq-or-lt-of-le}
 use native.Mathlib.Omega.{arith}
-use lib.Dec.{leb}
-use borrow.Author.Tests.{leb-true, leb-false}
-use Rattle.columns.specs.Lists.{up}
+use lib.Dec.{leb, lit≤}
+use borrow.Author.Tests.{leb-true, leb-false, le-leb}
 use Rattle.cycle.specs.Tree.{levels}
 use Rattle.cycle.proofs.Ranges.{le-or-lt}
-use Rattle.cycle.proofs.TreeLaws.{up-least}
-use Rattle.cycle.proofs.Least.{least-from, least-fails, least-passes}
-
--- rounding up adds nothing
-pub up-at-most : (c p : ℕ) → 1 ≤ p → up c p ≤ c
-up-at-most c p h = up-least c p c h (le-mul-of-pos-right c h)
+use Rattle.cycle.proofs.Least.{least-found, least-from, least-fails, least-passes}
+use Rattle.cycle.proofs.Powers.{power-reaches}
 
 module _ (n d : ℕ) where
   pub levels-low : 1 ≤ levels n d
@@ -33,7 +28,7 @@ module _ (n d : ℕ) where
         ⊎-elim
         (λ (l : levels n d ≤ 16). l)
         (λ (l : 16 < levels n d).
-        let much : 2 ^ 16 ≤ n ^ 16 = pow-le-pow-left grows 16 in
+        let much = power-reaches n 16 grows (lit≤ tt) in
         let over : n ^ 16 < d = levels-least 16 (omega arith) l in
         absurd (omega arith))
         (le-or-lt (levels n d) 16)
@@ -44,8 +39,31 @@ module _ (n d : ℕ) where
 
   -- the empty list has one level
   pub levels-lone : d ≡ 0 → levels n d ≡ 1
-  levels-lone e =
-      ⊎-elim
-      (λ (l : levels n d ≤ 1). omega (arith, levels-low))
-      (λ (l : 1 < levels n d). let over : n ^ 1 < d = levels-least 1 (omega arith) l in absurd (omega arith))
-      (le-or-lt (levels n d) 1)
+  unfolding levels
+  levels-lone e = least-found 16 1 (λ k. leb d (n ^ k)) (le-leb d (n ^ 1) (omega arith))
+
+-- the number of levels: enough of them, and not more than are needed
+pub record Levels (n d k : ℕ) : Type 0 where
+  pub low : 1 ≤ k
+  pub high : k ≤ 16
+  pub holds : d ≤ n ^ k
+  pub small : n ^ k ≤ 320000
+
+pub levels-fit : (n d : ℕ) → 2 ≤ n → n ≤ 8 → d ≤ 40000 → Levels n d (levels n d)
+levels-fit n d low high few =
+    let k : ℕ = levels n d in
+    record {
+      low = levels-low n d;
+      high = levels-high n d low few;
+      holds = levels-hold n d low few;
+      small =
+          ⊎-elim
+          (λ (e : 1 ≡ k). rw (← e) (let one : n ^ 1 ≡ n = pow-succ' n 0 ∙ rw pow-zero (mul-one n) in rw one (omega arith)))
+          (λ (l : 1 < k).
+          let g : n ^ (k - 1) < d = levels-least n d (k - 1) (omega arith) (omega arith) in
+          let e : k ≡ suc (k - 1) = omega arith in
+          let m : n * n ^ (k - 1) ≤ 8 * 40000 = mul-le-mul {n₂ = 8} {m₂ = 40000} high (omega arith) in
+          let p : n ^ k ≡ n * n ^ (k - 1) = ap (λ x. n ^ x) e ∙ pow-succ' n (k - 1) in
+          rw p m)
+          (eq-or-lt-of-le (levels-low n d));
+    }

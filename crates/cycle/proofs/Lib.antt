@@ -26,6 +26,8 @@ pub mod Fulls
 pub mod HeldImage
 pub mod HeldIndex
 pub mod ImageLines
+pub mod ImagePlaces
+pub mod ImageTags
 pub mod ImageText
 pub mod IndexBuckets
 pub mod IndexGood

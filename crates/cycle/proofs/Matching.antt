@@ -1,4 +1,4 @@
--- Parts of an image that are parts of the cycle: the laws of `Matches t bytes x y`.
+-- Parts of an image that are parts of the cycle: the laws of `Matches t bytes x y` and of `DataMatches t bytes a b`.
 -- Assumes nothing.
 use mathlib.Core.Path.{_≡_, subst}
 use mathlib.Core.Logic.{⊎-elim}
@@ -6,7 +6,7 @@ use Prim.Native.Nat.{ℕ, _+_, _≤_, _<_}
 use native.Mathlib.Omega.{arith}
 use mathlib.Core.List.{List}
 use Rattle.cycle.specs.Tree.{Plan}
-use Rattle.cycle.specs.Comparing.{MatchesAt, Matches}
+use Rattle.cycle.specs.Comparing.{MatchesAt, Matches, DataMatches}
 use Rattle.cycle.proofs.Ranges.{le-or-lt}
 
 module _ {t : Plan} {bytes : List ℕ} where
@@ -34,3 +34,20 @@ module _ {t : Plan} {bytes : List ℕ} where
 
   pub matches-to : {x y z : ℕ} → y ≡ z → Matches t bytes x y → Matches t bytes x z
   matches-to {x} e a = subst (Matches t bytes x) e a
+
+  -- ---- data buckets
+
+  pub datas-none : DataMatches t bytes 0 0
+  datas-none = record { each = λ q low high. absurd (omega arith) }
+
+  pub datas-on : {a b c : ℕ} → DataMatches t bytes a b → DataMatches t bytes b c → DataMatches t bytes a c
+  datas-on {a} {b} {c} g h =
+      record {
+        each = λ q low high. ⊎-elim (λ (l : b ≤ q). h .each q l high) (λ (l : q < b). g .each q low l) (le-or-lt b q);
+      }
+
+  pub datas-part : {a d : ℕ} (b c : ℕ) → a ≤ b → c ≤ d → DataMatches t bytes a d → DataMatches t bytes b c
+  datas-part b c h g w = record { each = λ q low high. w .each q (omega arith) (omega arith) }
+
+  pub datas-to : {a b c : ℕ} → b ≡ c → DataMatches t bytes a b → DataMatches t bytes a c
+  datas-to {a} e w = subst (DataMatches t bytes a) e w

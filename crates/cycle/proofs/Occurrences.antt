@@ -7,20 +7,21 @@ use native.Mathlib.Nat.{zero-add, eq-or-lt-of-le}
 use native.Mathlib.Decide.{ℕ-discrete}
 use native.Mathlib.Omega.{arith}
 use mathlib.Core.Bool.{Bool, true, false}
-use mathlib.Core.List.{List, [], _∷_, _++_, map, append-assoc}
+use mathlib.Core.List.{List, [], _∷_, _++_, map, map-append, append-assoc}
 use lib.ListN.{length, length-map, length-append}
 use Rattle.columns.specs.Lists.{any, joined, span, range}
+use Rattle.columns.proofs.Joined.{joined-append}
 use Rattle.cycle.specs.Tree.{Plan, width, children, above, dataUnder}
 use Rattle.cycle.specs.Layouts.{Slot, slot, slots, segment, subtree, treeBelow, sent, pathTop, path, distributedSegment}
 use Rattle.cycle.specs.Cycle.{occurs}
 use Rattle.cycle.proofs.Sequence.{Sound}
-use Rattle.cycle.proofs.Ranges.{length-range, range-cons, range-snoc, range-append, span-append, map-append, joined-append}
+use Rattle.cycle.proofs.Ranges.{length-range, range-cons, range-snoc, range-append, span-append}
 use Rattle.cycle.proofs.Paths.{pathTop-high}
 use Rattle.cycle.proofs.Blocks.{blockLevel, blockCount, onPath}
 use Rattle.cycle.proofs.Turns.{segmentsFrom}
 use Rattle.cycle.proofs.Distributed.{slots-segments}
 use Rattle.cycle.proofs.Positions.{At}
-use Rattle.cycle.proofs.NextOccurrence.{none-append, none-joined}
+use Rattle.cycle.proofs.Distances.{none-append, none-joined}
 use Rattle.cycle.proofs.TreeEntries.{other-level, other-place, none-cons, tree-low}
 
 -- ---- what a segment sends, B taken as the last bucket of its path

@@ -3,7 +3,7 @@
 use mathlib.Core.Path.{_≡_, refl, sym, ap, subst, _∙_}
 use Prim.Native.Nat.{ℕ, zero, suc, _+_, _-_, _*_, _^_, _≤_, _<_}
 use native.Mathlib.Omega.{arith}
-use mathlib.Core.Bool.{Bool, true, false, _||_}
+use mathlib.Core.Bool.{true, false}
 use mathlib.Core.List.{List, [], _∷_, _++_, append-assoc}
 use lib.Dec.{eqb}
 use borrow.Author.Tests.{eqb-true}
@@ -15,6 +15,7 @@ use Rattle.cycle.specs.Cycle.{occurs, isData}
 use Rattle.cycle.proofs.Sequence.{Sound, Keeps, Comes, dataCount, placeAbove}
 use Rattle.cycle.proofs.TreeLaws.{lt-above, above-first, width-lt}
 use Rattle.cycle.proofs.Suffixes.{root}
+use Rattle.cycle.proofs.Distances.{some-hit}
 use Rattle.cycle.proofs.Pieces.{occurs-slot, index-slot, count-append}
 
 pub occurs-is : (i j : ℕ) (x : Slot) → occurs i j x ≡ true → (x .level ≡ i) × (x .place ≡ j)
@@ -22,14 +23,6 @@ unfolding occurs
 occurs-is i j x h =
     let told = both (eqb (x .level) i) (eqb (x .place) j) h in
     (eqb-true (x .level) i (told .0), eqb-true (x .place) j (told .1))
-
-pub any-at : (f : Slot → Bool) (before : List Slot) (x : Slot) (rest : List Slot) → f x ≡ true → any f (before ++ (x ∷ rest)) ≡ true
-any-at f [] x rest h = rw h
-any-at f (y ∷ before) x rest h = rw (any-at f before x rest h) (or-true (f y))
-  where
-    or-true : (b : Bool) → (b || true) ≡ true
-    or-true true = refl
-    or-true false = refl
 
 -- bucket j of level i is sent where at most q data buckets are
 pub record SentBy (t : Plan) (q i j : ℕ) : Type 0 where
@@ -109,4 +102,4 @@ module _ (t : Plan) (sound : Sound t) (keeps : Keeps t) where
       let is : occurs i j (s .slot) ≡ true =
       subst (λ c. occurs i c (s .slot) ≡ true) (first-under i j)
       (subst (λ a. occurs a (placeAbove t a q) (s .slot) ≡ true) level (s .is)) in
-      rw (s .splits) (any-at (occurs i j) (s .before) (s .slot) (s .rest) is)
+      rw (s .splits) (some-hit (occurs i j) (s .before) (s .slot) (s .rest) is)

@@ -2,31 +2,30 @@
 -- Assumes nothing.
 use mathlib.Core.Path.{_≡_, sym, ap, ap₂, _∙_}
 use mathlib.Core.Logic.{⊎-elim}
-use Prim.Native.Nat.{ℕ, suc, _+_, _-_, _^_, _≤_, _<_}
+use Prim.Native.Nat.{ℕ, suc, _+_, _-_, _≤_, _<_}
 use native.Mathlib.Nat.{eq-zero-or-pos}
 use native.Mathlib.Omega.{arith}
 use mathlib.Core.List.{List, [], map}
-use lib.Dec.{eqb, leb}
-use lib.ListN.{length, length-map}
-use borrow.Author.Tests.{eq-eqb, le-leb}
-use Rattle.columns.specs.Lists.{pick, joined, range}
+use lib.Dec.{eqb}
+use lib.ListN.{length}
+use Rattle.columns.specs.Lists.{joined, range}
 use Rattle.buckets.specs.declared.Index.{Index}
 use Rattle.buckets.specs.declared.Line.{Line}
 use Rattle.buckets.specs.Bucket.{Pair, Entry}
 use Rattle.buckets.specs.Held.{filled, tagOr0, firstBlank, heldIndex}
-use Rattle.cycle.specs.Tree.{Plan, levels, width, children}
-use Rattle.cycle.specs.Layouts.{Slot, slot, slots, pathTop, path, distributedSegment, wholeSegment}
+use Rattle.cycle.specs.Tree.{Plan, width, children}
+use Rattle.cycle.specs.Layouts.{Slot, slot, slots, pathTop, distributedSegment}
 use Rattle.cycle.specs.Cycle.{laterPair, pairs, entries}
 use Rattle.cycle.specs.declared.Figures.{Figures}
 use Rattle.cycle.specs.declared.Segment.{Segment}
 use Rattle.cycle.specs.declared.Source.{Source}
 use Rattle.cycle.specs.Held.{planOf, Ready, Placed, pathOf, segmentSlots, segmentCount, linesHeld, planIn, lastOf, lastSentBefore, cycleBucket, asIndex, childTags, farDistances, placeOver, pairTags, pairDistances, OnPath}
 use Rattle.cycle.proofs.Sequence.{Sound}
-use Rattle.cycle.proofs.Ranges.{length-range}
-use Rattle.cycle.proofs.Powers.{least-found}
-use Rattle.cycle.proofs.Readiness.{sound}
+use Rattle.cycle.proofs.Readiness.{sound, one-level}
+use Rattle.cycle.proofs.PathSizes.{length-path}
+use Rattle.cycle.proofs.PlacedBlocks.{path-of, block-slots}
 use Rattle.cycle.proofs.Paths.{pathTop-low}
-use Rattle.cycle.proofs.Blocks.{blockCount, onPath}
+use Rattle.cycle.proofs.Blocks.{blockCount}
 use Rattle.cycle.proofs.Shapes.{children-shape, slots-shape, distributed-shape, farDistances-shape, pairDistances-shape}
 use Rattle.cycle.proofs.Positions.{at-length, index-at}
 use Rattle.cycle.proofs.Occurrences.{topOf, placeOn}
@@ -35,10 +34,6 @@ use Rattle.cycle.proofs.PathPairs.{pathAt}
 use Rattle.cycle.proofs.PathFigures.{path-here, path-inside, few-copies}
 use Rattle.cycle.proofs.HeldIndex.{first-blank}
 use Rattle.cycle.proofs.IndexBuckets.{entry-count, entry-tags, pathPlace, pathAhead, pathPairs, path-pairs-are, path-pair-count, path-pair-tags, path-pair-distances, far-path}
-
-pub levels-none : (n : ℕ) → levels n 0 ≡ 1
-unfolding levels
-levels-none n = least-found 16 1 (λ k. leb 0 (n ^ k)) (le-leb 0 (n ^ 1) (omega arith))
 
 module _ (f : Figures) (ready : Ready f) (source : Source) (text : List ℕ) (s : Segment) (placed : Placed (planIn f source text) s) (one : f .layout ≡ 1) (i x : ℕ) (top : s .top ≤ i) (high : i ≤ f .copies) (at : x ≡ s .start + (i - s .top)) where
   abbrev ls : List Line
@@ -69,15 +64,15 @@ module _ (f : Figures) (ready : Ready f) (source : Source) (text : List ℕ) (s 
   path-some =
       ⊎-elim
       (λ (z : f .d ≡ 0).
-      let single : f .k ≡ 1 = ready .shaped .k-is ∙ ap (levels (f .n)) z ∙ levels-none (f .n) in
+      let single : f .k ≡ 1 = one-level f (ready .shaped) z in
       absurd (omega (arith, path-low, few-copies f ready one .1)))
       (λ (p : 0 < f .d). p)
       (eq-zero-or-pos (f .d))
 
   start-is : (ms : List Line) → s .start ≡ length (joined (distributedSegment (planOf f ms)) (range 0 b))
-  unfolding segmentSlots planOf
+  unfolding planOf
   start-is ms =
-      let only : segmentSlots t ≡ distributedSegment t = λ k z. pick (eq-eqb (f .layout) 1 one k) (distributedSegment t z) (wholeSegment t z) in
+      let only : segmentSlots t ≡ distributedSegment t = block-slots t one in
       let shape : distributedSegment t ≡ distributedSegment (planOf f ms) = λ k z. distributed-shape f ls ms z k in
       place .start-is ∙ ap (λ g. length (joined g (range 0 b))) only ∙ ap (λ g. length (joined g (range 0 b))) shape
 
@@ -122,12 +117,10 @@ module _ (f : Figures) (ready : Ready f) (source : Source) (text : List ℕ) (s 
   path-before = omega (arith, size, here, at-length (pathAt t held single b i m from to count))
 
   before-data : x < s .«data_at»
-  unfolding pathOf path planOf
+  unfolding planOf
   before-data =
       let long : length (pathOf t b) ≡ f .copies + 1 - pathTop (f .n) (f .copies) b =
-      rw (eq-eqb (f .layout) 1 one)
-      (length-map (range (pathTop (f .n) (f .copies) b) (f .copies + 1)) (onPath t b)
-      ∙ length-range (pathTop (f .n) (f .copies) b) (f .copies + 1)) in
+      ap length (path-of t b one) ∙ length-path t b in
       omega (arith, place .path-length, place .tree-length, top-is)
 
   last-is : lastSentBefore t x ≡ lastOf t (s .first)

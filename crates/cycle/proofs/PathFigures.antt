@@ -1,30 +1,26 @@
 -- Layout 1, under the figures of a cycle: the buckets above one of B's level, by the powers of n.
 -- Assumes nothing.
 use mathlib.Core.Path.{_≡_, sym, ap, subst, _∙_}
-use mathlib.Core.Logic.{⊎-elim}
 use Prim.Native.Nat.{ℕ, suc, _+_, _-_, _*_, _/_, _^_, _≤_, _<_}
-use native.Mathlib.Nat.{zero-mul, pow-succ', mul-assoc, mul-le-mul-right, div-mul-le-self, one-le-pow, eq-zero-or-pos}
+use native.Mathlib.Nat.{pow-succ', mul-assoc, mul-le-mul-right, div-mul-le-self, one-le-pow}
 use native.Mathlib.Omega.{arith}
 use mathlib.Core.List.{List, []}
 use lib.ListN.{length}
 use lib.Pow.{pow-add}
-use borrow.Author.Tests.{eq-eqb}
 use Rattle.columns.specs.Lists.{up, joined, span}
 use Rattle.buckets.specs.declared.Line.{Line}
 use Rattle.cycle.specs.Tree.{Plan, width, above}
 use Rattle.cycle.specs.Layouts.{pathTop, distributedSegment}
 use Rattle.cycle.specs.declared.Figures.{Figures}
-use Rattle.cycle.specs.Held.{planOf, Ready, InTree, segmentCount, placeOver, OnPath}
+use Rattle.cycle.specs.Held.{planOf, Ready, InTree, placeOver, OnPath}
 use Rattle.cycle.proofs.TreeLaws.{above-div, above-le, width-up, width-lt}
 use Rattle.cycle.proofs.Blocks.{blockCount}
 use Rattle.cycle.proofs.Occurrences.{placeOn}
 use Rattle.cycle.proofs.Readiness.{path-facts, levels-are}
+use Rattle.cycle.proofs.PlacedBlocks.{count-of}
+use Rattle.cycle.proofs.Segmented.{block-in}
 
 -- ---- a path bucket's place
-
-pub count-segments : (t : Plan) → t .layout ≡ 1 → segmentCount t ≡ blockCount t
-unfolding segmentCount
-count-segments t one = rw (eq-eqb (t .layout) 1 one)
 
 pub path-here : {t : Plan} {b i x : ℕ} → OnPath t b i x → x ≡ placeOn t b i
 path-here {t} {b} {i} {x} p =
@@ -32,7 +28,7 @@ path-here {t} {b} {i} {x} p =
     p .here ∙ ap (λ c. length (joined (distributedSegment t) (span 0 c)) + (i - pathTop (t .n) (t .copies) b)) e
 
 pub path-inside : {t : Plan} {b i x : ℕ} → OnPath t b i x → b < blockCount t
-path-inside {t} {b} p = subst (λ c. b < c) (count-segments t (p .distributed)) (p .inside)
+path-inside {t} {b} p = subst (λ c. b < c) (count-of t (p .distributed)) (p .inside)
 
 -- ---- under figures
 
@@ -90,15 +86,5 @@ module _ (f : Figures) (ready : Ready f) (one : f .layout ≡ 1) where
 
   -- a B is in the tree
   pub block-inside : (b : ℕ) → b < blockCount (planOf f []) → InTree f (f .k - f .copies) b
-  unfolding InTree planOf
-  block-inside b h =
-      let e : f .k + 1 - (f .copies + 1) ≡ f .k - f .copies = omega arith in
-      ⊎-elim
-      (λ (z : b ≡ 0).
-      let none : b * f .n ^ (f .k - f .copies) ≡ 0 = ap (λ y. y * f .n ^ (f .k - f .copies)) z ∙ zero-mul (f .n ^ (f .k - f .copies)) in
-      (omega arith, omega arith))
-      (λ (p : 0 < b).
-      let l : b * f .n ^ (f .k + 1 - (f .copies + 1)) < f .d = width-lt (planOf f []) pos (f .copies + 1) b (omega arith) in
-      let l′ : b * f .n ^ (f .k - f .copies) < f .d = rw e at l in
-      (omega arith, omega arith))
-      (eq-zero-or-pos b)
+  unfolding planOf
+  block-inside b h = block-in f b ready one (subst (λ c. b < c) (sym (count-of (planOf f []) one)) h)

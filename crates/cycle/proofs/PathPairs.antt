@@ -12,18 +12,20 @@ use lib.Pow.{pow-add}
 use lib.ListN.{length, length-append}
 use borrow.Author.Tests.{ne-eqb}
 use Rattle.columns.specs.Lists.{any, joined, span, range}
+use Rattle.columns.proofs.Joined.{joined-append}
 use Rattle.cycle.specs.Tree.{Plan, width, children, above, dataUnder}
 use Rattle.cycle.specs.Layouts.{Slot, slots, subtree, sent, distributedSegment}
 use Rattle.cycle.specs.Cycle.{occurs, distanceTo, toNext}
 use Rattle.cycle.specs.Held.{firstPlace, aheadOf}
 use Rattle.cycle.proofs.Sequence.{Sound}
-use Rattle.cycle.proofs.Ranges.{le-or-lt, span-append, joined-append}
+use Rattle.cycle.proofs.Ranges.{le-or-lt, span-append}
 use Rattle.cycle.proofs.TreeLaws.{above-suc, above-le, above-lt, lt-above, above-first, above-mono, lt-width, width-lt}
 use Rattle.cycle.proofs.Blocks.{blockLevel, blockCount, onPath}
 use Rattle.cycle.proofs.Turns.{segmentsFrom}
 use Rattle.cycle.proofs.Pieces.{occurs-slot}
 use Rattle.cycle.proofs.Positions.{At, at-length}
-use Rattle.cycle.proofs.NextOccurrence.{none-append, distance-hit, sentYet, toSend, next-ahead, next-again}
+use Rattle.cycle.proofs.Distances.{none-append, distance-hit}
+use Rattle.cycle.proofs.NextOccurrence.{sentYet, toSend, next-ahead, next-again}
 use Rattle.cycle.proofs.TreeEntries.{other-level, none-cons}
 use Rattle.cycle.proofs.Occurrences.{wayFrom, topOf, path-other, Silent, none-way, none-segments, Met, met, slots-at, placeOn, at-level, none-before-level}
 use Rattle.cycle.proofs.FirstPlaces.{pathTop-stays, pathTop-parts, firstUnder, first-inside, first-turn, first-there, first-place}

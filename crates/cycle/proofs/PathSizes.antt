@@ -12,9 +12,10 @@ use lib.Dec.{eqb}
 use lib.ListN.{length, length-append, length-map}
 use borrow.Author.Tests.{eq-eqb, ne-eqb}
 use Rattle.columns.specs.Lists.{pick, joined, range, up}
+use Rattle.columns.proofs.Joined.{joined-append}
 use Rattle.cycle.specs.Tree.{Plan, above}
 use Rattle.cycle.specs.Layouts.{slot, lowest, pathTop, path}
-use Rattle.cycle.proofs.Ranges.{length-range, joined-append, range-snoc}
+use Rattle.cycle.proofs.Ranges.{length-range, range-snoc}
 use Rattle.cycle.proofs.TreeLaws.{above-suc, le-above, lt-above, lt-up, up-lt, up-least, up-covers}
 
 -- ---- rounding up, exactly

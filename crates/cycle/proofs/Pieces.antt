@@ -31,9 +31,13 @@ pub index-slot : (t : Plan) (x : Slot) → x .level ≤ t .k → isData t x ≡ 
 unfolding isData
 index-slot t x h = ne-eqb (x .level) (t .k + 1) (λ e. omega arith)
 
+pub data-level : (t : Plan) (x : Slot) → x .level ≡ t .k + 1 → isData t x ≡ true
+unfolding isData
+data-level t x e = eq-eqb (x .level) (t .k + 1) e
+
 pub data-slot : (t : Plan) (q : ℕ) → isData t (slot (t .k + 1) q) ≡ true
-unfolding isData slot
-data-slot t q = eq-eqb (t .k + 1) (t .k + 1) refl
+unfolding slot
+data-slot t q = data-level t (slot (t .k + 1) q) refl
 
 -- an index bucket, which may start a segment if it has control pairs
 pub next-index :

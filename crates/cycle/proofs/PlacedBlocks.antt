@@ -142,3 +142,4 @@ module _ (f : Figures) (b : ℕ) (ready : Ready f) (one : f .layout ≡ 1) (insi
       (rw (count-shape f ls) inside)
       (omega arith)
       (omega arith)
+      (λ z. (first-is, last-is))

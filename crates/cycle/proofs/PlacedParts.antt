@@ -136,3 +136,4 @@ module _ (f : Figures) (i : ℕ) (ready : Ready f) (other : f .layout ≡ 1 → 
       (rw (count-wholes t other) inside)
       part-first
       (let end = part-last in omega arith)
+      (λ one. absurd (other one))

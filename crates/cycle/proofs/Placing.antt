@@ -1,11 +1,11 @@
 -- Segments as the code holds them: one that is laid out in its cycle is placed, and ends within N.
 -- Assumes nothing.
 use mathlib.Core.Path.{_≡_, refl, sym, ap, subst, _∙_}
-use Prim.Native.Nat.{ℕ, suc, _+_, _-_, _≤_, _<_, max}
+use Prim.Native.Nat.{ℕ, suc, _+_, _-_, _*_, _^_, _≤_, _<_, min, max}
 use native.Mathlib.Omega.{arith}
-use mathlib.Core.List.{List, [], _++_}
+use mathlib.Core.List.{List, []}
 use lib.Dec.{eqb}
-use lib.ListN.{length, length-append, length-map}
+use lib.ListN.{length}
 use Rattle.columns.specs.Lists.{pick, joined, range}
 use Rattle.buckets.specs.declared.Line.{Line}
 use Rattle.cycle.specs.Tree.{Plan, width}
@@ -13,27 +13,18 @@ use Rattle.cycle.specs.Layouts.{Slot, pathTop, sent}
 use Rattle.cycle.specs.Cycle.{cycleSize}
 use Rattle.cycle.specs.declared.Figures.{Figures}
 use Rattle.cycle.specs.declared.Segment.{Segment}
-use Rattle.cycle.specs.Held.{planOf, segmentCount, segmentSlots, bare, Stand, pathOf, treeAt, Placed}
+use Rattle.cycle.specs.Held.{planOf, segmentCount, segmentSlots, Stand, pathOf, treeAt, Placed}
 use Rattle.cycle.proofs.Ranges.{length-range}
 use Rattle.cycle.proofs.SegmentSizes.{length-sent}
 use Rattle.cycle.proofs.Laid.{Laid}
-
--- what stands in the cycle ends within it
-pub stand-fits : (t : Plan) (x : ℕ) (xs : List Slot) → Stand t x xs → x + length xs ≤ cycleSize t
-unfolding cycleSize
-stand-fits t x xs s =
-    let all = ap length (s .splits) ∙ length-append (s .before) (s .middle ++ s .behind) in
-    let more = length-append (s .middle) (s .behind) in
-    let own = sym (length-map (s .middle) bare) ∙ ap length (s .alike) in
-    let here = s .here in
-    omega arith
+use Rattle.cycle.proofs.Stands.{stand-fits}
 
 -- a segment ends within the cycle
 pub laid-fits :
     (t : Plan) (start : ℕ) (p q : List Slot) (first last : ℕ) → Laid t start p q first last →
     start + length p + length q + (last - first) ≤ cycleSize t
 laid-fits t start p q first last l =
-    let fits = stand-fits t (start + length p + length q) (sent t (range first last)) (l .data-stands) in
+    let fits = stand-fits (l .data-stands) in
     let own = length-sent t (range first last) ∙ length-range first last in
     omega arith
 
@@ -47,8 +38,9 @@ pub placed :
     s .height ≡ pick (eqb (t .layout) 1) (t .k - t .copies) (t .k) →
     s .start ≡ length (joined (segmentSlots t) (range 0 (s .number))) →
     s .end ≡ length (joined (segmentSlots t) (range 0 (suc (s .number)))) → s .number < segmentCount t → s .first < max 1 (t .d) →
-    s .last ≤ t .d → Placed t s
-placed t s l tree-is data-is end-is grows top-is no-path root-is low high height-is start-sum end-sum number-in first-in last-in =
+    s .last ≤ t .d →
+    (t .layout ≡ 1 → (s .first ≡ s .root * t .n ^ s .height) × (s .last ≡ min (t .d) ((s .root + 1) * t .n ^ s .height))) → Placed t s
+placed t s l tree-is data-is end-is grows top-is no-path root-is low high height-is start-sum end-sum number-in first-in last-in data-under =
     let p : List Slot = pathOf t (s .number) in
     let q : List Slot = treeAt t (s .height) (s .root) in
     let tree-at : s .start + length p ≡ s .«tree_at» = sym tree-is in
@@ -72,6 +64,7 @@ placed t s l tree-is data-is end-is grows top-is no-path root-is low high height
       sent-before = λ x from to. l .sent-before x from (omega arith);
       start-is = start-sum;
       end-is = end-sum;
+      data-under = data-under;
       number-in = number-in;
       first-in = first-in;
       last-in = last-in;

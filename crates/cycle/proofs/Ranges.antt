@@ -3,11 +3,12 @@
 use mathlib.Core.Path.{_≡_, refl, sym, ap, ap₂, _∙_}
 use mathlib.Core.Logic.{_⊎_, inl, inr, ⊎-elim}
 use Prim.Native.Nat.{ℕ, zero, suc, _+_, _-_, _*_, _≤_, _<_, min}
-use native.Mathlib.Nat.{zero-add, suc-add, add-zero, add-suc, add-mul, eq-or-lt-of-le, lt-of-not-le}
+use native.Mathlib.Nat.{zero-add, suc-add, add-zero, add-suc, add-mul, lt-of-not-le}
 use native.Mathlib.Decide.{decLe}
 use native.Mathlib.Omega.{arith}
-use mathlib.Core.List.{List, [], _∷_, _++_, map, append-assoc, List·Memᴰ, List·Memᴰ·head, List·Memᴰ·tail, List·Memᴰ·not-nil, List·Memᴰ·cases-cons}
+use mathlib.Core.List.{List, [], _∷_, _++_, map, List·Memᴰ, List·Memᴰ·not-nil, List·Memᴰ·cases-cons}
 use lib.ListN.{length, getD}
+use Rattle.columns.proofs.Joined.{joined-append}
 use Rattle.columns.specs.Lists.{joined, lastOr, span, range}
 
 -- ---- numbers in a row
@@ -79,38 +80,14 @@ in-span {x} a (suc c) m =
     (λ (b : List·Memᴰ x (span (suc a) c)). let h = in-span (suc a) c b in (omega arith, omega arith))
     (List·Memᴰ·cases-cons m)
 
-pub span-has : (a c x : ℕ) → a ≤ x → x < a + c → List·Memᴰ x (span a c)
-span-has a zero x h g = absurd (omega arith)
-span-has a (suc c) x h g =
-    ⊎-elim
-    (λ (e : a ≡ x). List·Memᴰ·head (sym e))
-    (λ (l : a < x). List·Memᴰ·tail (span-has (suc a) c x l (omega arith)))
-    (eq-or-lt-of-le h)
-
 pub in-range : {x : ℕ} (a b : ℕ) → List·Memᴰ x (range a b) → (a ≤ x) × (x < b)
 in-range {x} a b m = let h = in-span a (b - a) m in (h .0, omega arith)
 
-pub range-has : (a b x : ℕ) → a ≤ x → x < b → List·Memᴰ x (range a b)
-range-has a b x h g = span-has a (b - a) x h (omega arith)
-
 -- ---- lists joined
 
-module _ {A B : Type 0} where
-  pub joined-append : (f : A → List B) (xs ys : List A) → joined f (xs ++ ys) ≡ joined f xs ++ joined f ys
-  joined-append f [] ys = refl
-  joined-append f (x ∷ xs) ys = rw (joined-append f xs ys) (simp append-assoc)
-
-  pub map-joined : (f : A → B) (xs : List A) → map f xs ≡ joined (λ x. f x ∷ []) xs
-  map-joined f [] = refl
-  map-joined f (x ∷ xs) = ap (λ ys. f x ∷ ys) (map-joined f xs)
-
-  pub map-append : (f : A → B) (xs ys : List A) → map f (xs ++ ys) ≡ map f xs ++ map f ys
-  map-append f [] ys = refl
-  map-append f (x ∷ xs) ys = ap (λ zs. f x ∷ zs) (map-append f xs ys)
-
-pub map-of-joined : {A B C : Type 0} (g : B → C) (f : A → List B) (xs : List A) → map g (joined f xs) ≡ joined (λ x. map g (f x)) xs
-map-of-joined g f [] = refl
-map-of-joined g f (x ∷ xs) = map-append g (f x) (joined f xs) ∙ ap (λ ys. map g (f x) ++ ys) (map-of-joined g f xs)
+pub map-joined : {A B : Type 0} (f : A → B) (xs : List A) → map f xs ≡ joined (λ x. f x ∷ []) xs
+map-joined f [] = refl
+map-joined f (x ∷ xs) = ap (λ ys. f x ∷ ys) (map-joined f xs)
 
 module _ {B : Type 0} where
   pub joined-range :

@@ -2,10 +2,10 @@
 -- Assumes nothing.
 use mathlib.Core.Path.{_≡_, refl, sym, ap, _∙_}
 use mathlib.Core.Logic.{⊎-elim}
-use mathlib.Core.Bool.{Bool, true, false, _&&_, false≢true}
+use mathlib.Core.Bool.{true, _&&_}
 use mathlib.Core.List.{List, []}
 use Prim.Native.Nat.{ℕ, suc, _+_, _-_, _*_, _^_, _≤_, _<_, min, max}
-use native.Mathlib.Nat.{mul-le-mul, mul-le-mul-left, suc-mul, one-le-pow, eq-zero-or-pos}
+use native.Mathlib.Nat.{mul-le-mul-left, suc-mul, one-le-pow, eq-zero-or-pos}
 use native.Mathlib.Numerals.{add-one}
 use native.Mathlib.Decide.{ℕ-discrete}
 use native.Mathlib.Omega.{arith}
@@ -13,14 +13,16 @@ use lib.Dec.{leb, ltb}
 use lib.ListN.{length}
 use borrow.Author.Tests.{leb-true, le-leb, lt-leb, lt-ltb, le-ltb, eq-eqb, ne-eqb}
 use Rattle.columns.specs.Lists.{up}
+use Rattle.columns.proofs.Strict.{both}
 use Rattle.buckets.specs.declared.Line.{Line}
-use Rattle.cycle.specs.Tree.{Plan, levels}
+use Rattle.cycle.specs.Tree.{Plan}
 use Rattle.cycle.specs.Building.{copiesFit}
 use Rattle.cycle.specs.declared.Figures.{Figures}
 use Rattle.cycle.specs.Held.{planOf, fullSize, Shaped, InTree, treeAt, treeHeight, lastPlace, lastTree, sized, Trees}
 use Rattle.cycle.proofs.Ranges.{le-or-lt}
-use Rattle.cycle.proofs.TreeLaws.{up-least}
-use Rattle.cycle.proofs.Powers.{Levels, least-found, levels-fit, power-below}
+use Rattle.cycle.proofs.TreeLaws.{up-at-most}
+use Rattle.cycle.proofs.Levels.{Levels, levels-fit, levels-lone}
+use Rattle.cycle.proofs.Powers.{power-below}
 use Rattle.cycle.proofs.Fulls.{full-below}
 use Rattle.cycle.proofs.TreeSizes.{tree-small}
 use Rattle.cycle.proofs.PathSizes.{up-is, up-none, last-part}
@@ -35,11 +37,6 @@ same-ltb-leb a b x y f g =
     (λ (h : b ≤ a). le-ltb a b h ∙ sym (lt-leb x y (g h)))
     (λ (h : a < b). lt-ltb a b h ∙ sym (le-leb x y (f h)))
     (le-or-lt b a)
-
-pub both-true : (a b : Bool) → (a && b) ≡ true → (a ≡ true) × (b ≡ true)
-both-true true true e = (refl, refl)
-both-true true false e = (refl, e)
-both-true false b e = (e, absurd (false≢true e))
 
 -- ---- copies
 
@@ -58,15 +55,13 @@ module _ (t : Plan) where
 
   pub parts-facts : copiesFit t ≡ true → (t .layout ≡ 1 → ⊥) → (1 ≤ t .copies) × (t .copies ≤ max 1 (t .d))
   parts-facts fit other =
-      let h = both-true (leb 1 (t .copies)) (leb (t .copies) (max 1 (t .d))) (sym (copies-whole other) ∙ fit) in
+      let h = both (leb 1 (t .copies)) (leb (t .copies) (max 1 (t .d))) (sym (copies-whole other) ∙ fit) in
       (leb-true 1 (t .copies) (h .0), leb-true (t .copies) (max 1 (t .d)) (h .1))
 
 -- ---- figures
 
 pub few-data : (lines p : ℕ) → 1 ≤ p → lines ≤ 40000 → up lines p ≤ 40000
-few-data lines p low h =
-    let m : 40000 * 1 ≤ 40000 * p = mul-le-mul {n₁ = 40000} {n₂ = 40000} (omega arith) low in
-    up-least lines p 40000 low (omega arith)
+few-data lines p low h = omega (arith, up-at-most lines p low)
 
 pub data-high : (f : Figures) → Shaped f → f .d ≤ 40000
 data-high f s = rw (s .d-is) (few-data (f .lines) (f .p) (s .p-low) (s .lines-high))
@@ -180,8 +175,7 @@ reached f e j s inside =
 
 -- the empty list has one level
 pub one-level : (f : Figures) → Shaped f → f .d ≡ 0 → f .k ≡ 1
-unfolding levels
-one-level f s none = s .k-is ∙ least-found 16 1 (λ k. leb (f .d) (f .n ^ k)) (le-leb (f .d) (f .n ^ 1) (omega arith))
+one-level f s none = s .k-is ∙ levels-lone (f .n) (f .d) none
 
 -- ---- layout 1's blocks
 

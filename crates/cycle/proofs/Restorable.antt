@@ -28,21 +28,23 @@ use Rattle.cycle.specs.declared.Built.the-variants.{Cycle}
 use Rattle.cycle.specs.declared.Figures.{Figures}
 use Rattle.cycle.specs.declared.Source.the-variants.{Image as InImage}
 use Rattle.cycle.specs.Held.{planOf, Ready, firstPlace, linesHeld, planIn, cycleBucket, noBucket}
-use Rattle.cycle.specs.Comparing.{bucketBytes, RisesAt, Matches}
+use Rattle.cycle.specs.Comparing.{bucketBytes, RisesAt, Matches, DataMatches}
 use Rattle.cycle.proofs.TreeLaws.{up-covers, up-lt}
 use Rattle.cycle.proofs.Sequence.{Sound}
 use Rattle.cycle.proofs.Rising.{Rising, lastFrom, rising-tags, tags-rising}
 use Rattle.cycle.proofs.Keeping.{keeps}
 use Rattle.cycle.proofs.Positions.{data-at}
-use Rattle.cycle.proofs.BucketAt.{length-buckets}
+use Rattle.cycle.proofs.Positions.{length-buckets}
 use Rattle.cycle.proofs.DataTags.{Filled, filled-by, restFrom, lines-of, last-tag}
-use Rattle.cycle.proofs.Accepted.{ranged-sound}
+use Rattle.cycle.proofs.Accepted.{Ranged, Accepted, ranged-sound, ranged-accepted}
 use Rattle.cycle.proofs.Sendable.{copies-shape, shaped-ranged}
 use Rattle.cycle.proofs.Outcomes.{builds-cycle}
 use Rattle.cycle.proofs.LinesSent.{lines-joined}
 use Rattle.cycle.proofs.ImageLines.{data-placed, length-held}
 use Rattle.cycle.proofs.HeldImage.{at-below, Figured, plan-same}
 use Rattle.cycle.proofs.Sending.{size-shape}
+use Rattle.cycle.proofs.Readiness.{sound}
+use Rattle.cycle.proofs.Matching.{matches-to}
 
 -- ---- parts in order
 
@@ -60,30 +62,19 @@ rising-append m (x ∷ xs) ys r s = (r .0, rising-append (x .tag) xs ys (r .1) s
 
 -- ---- the plan read off the image
 
-module _ (t : Plan) (sound : Sound t) (image-is : List ℕ) (whole : Matches t image-is 0 (cycleSize t)) where
-  pub bytes-are : (x : ℕ) → x < cycleSize t → (bucketBytes image-is x ≡ printBucket (cycleBucket t x)) × (good (cycleBucket t x) ≡ true)
-  bytes-are x h = let told = print-of-read-bucket (bucketBytes image-is x) (whole .each x (omega arith) h .reads) in (told .0, told .1)
-
-  -- the lines of a data bucket keep its rules
-  pub data-good : (q : ℕ) → q < t .d → (every fits (linesOf t q) ≡ true) × Rising 0 (linesOf t q)
-  data-good q h =
-      let there = data-placed t (keeps t sound) q h in
-      let x : ℕ = firstPlace t (t .k + 1) q in
-      let b : Bucket = cycleBucket t x in
-      let told : GoodData (b .toCycle) (followOnFrom t (lastTag t q) 1 (there .next ++ there .behind)) (linesOf t q) =
-      rw (data-at there refl) at (bucket-good b (bytes-are x (at-below there) .1) .good-rest) in
-      (told .lines-fit, rising-tags 0 (linesOf t q) (told .in-order))
-
-  -- no tag falls from it to the next
-  pub in-order : (q : ℕ) → RisesAt t q
-  in-order q h =
-      let there = data-placed t (keeps t sound) q (omega arith) in
-      whole .each (firstPlace t (t .k + 1) q) (omega arith) (at-below there) .rises q refl h
+module _ (t : Plan) (sound : Sound t) (image-is : List ℕ) where
+  -- data buckets are buckets
+  pub whole-datas : Matches t image-is 0 (cycleSize t) → DataMatches t image-is 0 (t .d)
+  whole-datas whole =
+      record {
+        each = λ q low high.
+            whole .each (firstPlace t (t .k + 1) q) (omega arith) (at-below (data-placed t (keeps t sound) q high));
+      }
 
   -- the image is that of the plan
-  pub image-same : length image-is ≡ 240 * cycleSize t → image t ≡ image-is
+  pub image-same : Matches t image-is 0 (cycleSize t) → length image-is ≡ 240 * cycleSize t → image t ≡ image-is
   unfolding image bucketBytes cycleBucket
-  image-same long =
+  image-same whole long =
       let n : ℕ = cycleSize t in
       let all : ListN.take (n * 240) image-is ≡ image-is = take-all (n * 240) image-is (omega (arith, long, mul-comm n 240)) in
       let cut : parts n 240 image-is ≡ map printBucket (buckets t) =
@@ -93,13 +84,35 @@ module _ (t : Plan) (sound : Sound t) (image-is : List ℕ) (whole : Matches t i
       let below : x < n = omega (arith, length-parts n 240 image-is) in
       parts-at n 240 image-is [] x below
       ∙ ap (λ k. ListN.take 240 (drop k image-is)) (mul-comm x 240)
-      ∙ bytes-are x below .0
+      ∙ print-of-read-bucket (bucketBytes image-is x) (whole .each x (omega arith) below .reads) .0
       ∙ sym (map-at printBucket (buckets t) x noBucket [] (omega (arith, length-buckets t)))) in
       sym (joined-map (buckets t)) ∙ (ap (joined (λ p. p)) (sym cut) ∙ (joined-parts n 240 image-is ∙ all))
     where
       joined-map : (bs : List Bucket) → joined (λ p. p) (map printBucket bs) ≡ joined printBucket bs
       joined-map [] = refl
       joined-map (b ∷ bs) = ap (λ s. printBucket b ++ s) (joined-map bs)
+
+module _ (t : Plan) (sound : Sound t) (image-is : List ℕ) (datas : DataMatches t image-is 0 (t .d)) where
+  pub bytes-are :
+      (q : ℕ) → q < t .d →
+      (bucketBytes image-is (firstPlace t (t .k + 1) q) ≡ printBucket (cycleBucket t (firstPlace t (t .k + 1) q)))
+      × (good (cycleBucket t (firstPlace t (t .k + 1) q)) ≡ true)
+  bytes-are q h =
+      let told = print-of-read-bucket (bucketBytes image-is (firstPlace t (t .k + 1) q)) (datas .each q (omega arith) h .reads) in
+      (told .0, told .1)
+
+  -- the lines of a data bucket keep its rules
+  pub data-good : (q : ℕ) → q < t .d → (every fits (linesOf t q) ≡ true) × Rising 0 (linesOf t q)
+  data-good q h =
+      let there = data-placed t (keeps t sound) q h in
+      let b : Bucket = cycleBucket t (firstPlace t (t .k + 1) q) in
+      let told : GoodData (b .toCycle) (followOnFrom t (lastTag t q) 1 (there .next ++ there .behind)) (linesOf t q) =
+      rw (data-at there refl) at (bucket-good b (bytes-are q h .1) .good-rest) in
+      (told .lines-fit, rising-tags 0 (linesOf t q) (told .in-order))
+
+  -- no tag falls from it to the next
+  pub in-order : (q : ℕ) → RisesAt t q
+  in-order q h = datas .each q (omega arith) (omega arith) .rises q refl h
 
   module _ (full : length (t .lines) ≤ t .d * t .p) (low : (q : ℕ) → q < t .d → q * t .p < length (t .lines)) where
     pub lines-good : every fits (t .lines) ≡ true
@@ -128,6 +141,38 @@ module _ (t : Plan) (sound : Sound t) (image-is : List ℕ) (whole : Matches t i
     pub lines-rise : Rising 0 (t .lines)
     lines-rise = subst (Rising 0) (lines-joined t full) (rises-from 0 0 (t .d) (omega arith) (λ h. omega arith))
 
+-- ---- the plan that building accepts
+
+module _ (f : Figures) (bytes : List ℕ) (ready : Ready f) where
+  pub held-datas : Matches (planIn f InImage bytes) bytes 0 (f .size) → DataMatches (planIn f InImage bytes) bytes 0 (f .d)
+  unfolding planIn planOf
+  held-datas whole =
+      let ls : List Line = linesHeld f InImage bytes in
+      let t : Plan = planOf f ls in
+      let size : cycleSize t ≡ f .size = size-shape f ls [] ∙ sym (ready .size-is) in
+      whole-datas t (sound f ls (ready .shaped) (ready .copies-fit)) bytes (matches-to (sym size) whole)
+
+  pub held-fit : copiesFit (planIn f InImage bytes) ≡ true
+  unfolding planIn
+  held-fit = copies-shape f (linesHeld f InImage bytes) [] ∙ ready .copies-fit
+
+  pub held-ranged : Ranged (planIn f InImage bytes)
+  unfolding planIn
+  held-ranged = shaped-ranged f (linesHeld f InImage bytes) (ready .shaped) (length-held f bytes)
+
+  pub held-accepted : DataMatches (planIn f InImage bytes) bytes 0 (f .d) → Accepted (planIn f InImage bytes)
+  unfolding planIn planOf
+  held-accepted datas =
+      let t : Plan = planIn f InImage bytes in
+      let ls : List Line = linesHeld f InImage bytes in
+      let fine : Sound t = ranged-sound t held-ranged held-fit in
+      let d-is : f .d ≡ up (length ls) (f .p) = held-ranged .d-is in
+      let covers : length ls ≤ up (length ls) (f .p) * f .p = up-covers (length ls) (f .p) (ready .shaped .p-low) in
+      let full : length ls ≤ f .d * f .p = subst (λ d. length ls ≤ d * f .p) (sym d-is) covers in
+      let low : (q : ℕ) → q < f .d → q * f .p < length ls = λ q h. up-lt (length ls) (f .p) q (ready .shaped .p-low) (omega (arith, d-is)) in
+      ranged-accepted t held-ranged held-fit (lines-good t fine bytes datas full low)
+      (tags-rising 0 ls (lines-rise t fine bytes datas full low))
+
 -- ---- the list that builds the image
 
 module _ (s : Settings) (f : Figures) (bytes : List ℕ) (fit : settingsFit s ≡ true) (g : Figured s f) (ready : Ready f)
@@ -140,29 +185,23 @@ module _ (s : Settings) (f : Figures) (bytes : List ℕ) (fit : settingsFit s �
       let list : List ℕ = joined printLine ls in
       let count : length ls ≡ f .lines = length-held f bytes in
       let shaped = ready .shaped in
-      let copies : copiesFit t ≡ true = copies-shape f ls [] ∙ ready .copies-fit in
-      let fine : Sound t = ranged-sound t (shaped-ranged f ls shaped count) copies in
+      let fine : Accepted t = held-accepted f bytes ready (held-datas f bytes ready whole) in
+      let copies : copiesFit t ≡ true = held-fit f bytes ready in
       let size : cycleSize t ≡ f .size = size-shape f ls [] ∙ sym (ready .size-is) in
-      let same : Matches t bytes 0 (cycleSize t) = rw size whole in
-      let d-is : f .d ≡ up (length ls) (f .p) = shaped .d-is ∙ ap (λ c. up c (f .p)) (sym count) in
-      let covers : length ls ≤ up (length ls) (f .p) * f .p = up-covers (length ls) (f .p) (shaped .p-low) in
-      let full : length ls ≤ f .d * f .p = subst (λ d. length ls ≤ d * f .p) (sym d-is) covers in
-      let low : (q : ℕ) → q < f .d → q * f .p < length ls = λ q h. up-lt (length ls) (f .p) q (shaped .p-low) (omega (arith, d-is)) in
-      let good-lines : every fits ls ≡ true = lines-good t fine bytes same full low in
-      let rises : Rising 0 ls = lines-rise t fine bytes same full low in
-      let lines-back : listLines list ≡ ls = lines-of-printed ls good-lines in
+      let same : Matches t bytes 0 (cycleSize t) = matches-to (sym size) whole in
+      let lines-back : listLines list ≡ ls = lines-of-printed ls (fine .lines-fit) in
       let size-bytes : length list ≡ length ls * 27 = length-printed ls in
       let lines-count : length list / 27 ≡ length ls = rw size-bytes (mul-div-cancel (length ls) {n = 27} (lit< tt)) in
       let lines-left : length list % 27 ≡ 0 = rw size-bytes (mul-mod-left (length ls) 27) in
       let few : length list / 27 ≤ 40000 = omega (arith, lines-count, count, shaped .lines-high) in
       let wholes : eqb (length list % 27) 0 && leb (length list / 27) 40000 ≡ true = rw (eq-eqb (length list % 27) 0 lines-left, le-leb (length list / 27) 40000 few) in
-      let falls : fallFrom 0 0 (listLines list) ≡ none = rw lines-back (rising-none-falls 0 0 ls (tags-rising 0 ls rises)) in
+      let falls : fallFrom 0 0 (listLines list) ≡ none = rw lines-back (rising-none-falls 0 0 ls (fine .tags-rise)) in
       let plans : plan s (listLines list) ≡ t = ap (plan s) lines-back ∙ sym (plan-same s f ls g count) in
       let n-is : cycleSize (plan s (listLines list)) ≡ f .size = ap cycleSize plans ∙ size in
-      let built = builds-cycle s list (length bytes) fit wholes (none-misprinted-of-printed ls good-lines) falls
+      let built = builds-cycle s list (length bytes) fit wholes (none-misprinted-of-printed ls (fine .lines-fit)) falls
       (ap copiesFit plans ∙ copies) (omega (arith, n-is, ready .size-high)) (omega (arith, n-is, long)) in
       let back : length bytes / 240 ≡ f .size = rw (long, mul-comm 240 (f .size)) (mul-div-cancel (f .size) {n = 240} (lit< tt)) in
       record {
         answers = ap (λ o. o .answer) built ∙ ap Cycle (n-is ∙ sym back);
-        writes = ap (λ o. o .output) built ∙ (ap image plans ∙ image-same t fine bytes same (long ∙ ap (λ c. 240 * c) (sym size)));
+        writes = ap (λ o. o .output) built ∙ (ap image plans ∙ image-same t (fine .sound) bytes same (long ∙ ap (λ c. 240 * c) (sym size)));
       }

@@ -29,7 +29,7 @@ use Rattle.cycle.proofs.Matching.{matches-to}
 use Rattle.cycle.proofs.ImageLines.{length-held}
 use Rattle.cycle.proofs.ImageText.{text-list}
 use Rattle.cycle.proofs.HeldImage.{Figured, BuiltFrom, built-lines, few-lines, built-from}
-use Rattle.cycle.proofs.Restorable.{restored-builds}
+use Rattle.cycle.proofs.Restorable.{held-datas, restored-builds}
 
 -- ---- conditions 1 and 11
 
@@ -115,7 +115,7 @@ module _ (s : Settings) (f : Figures) (bytes : List ℕ) (fit : settingsFit s �
       record {
         list = list;
         outcome = subst (λ c. ReadBack s bytes (length d) (Lines c) list) count (restored fit whole list built (omega (arith, length-list)));
-        written = e ∙ (ap (put d 0) (text-list f bytes w same) ∙ ap (λ k. list ++ drop k d) (zero-add (length list)));
+        written = e ∙ (ap (put d 0) (text-list f bytes w (held-datas f bytes (w .ready) same)) ∙ ap (λ k. list ++ drop k d) (zero-add (length list)));
       }
 
 -- ---- figures with their size

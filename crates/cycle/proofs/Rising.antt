@@ -1,13 +1,13 @@
 -- Lines whose tags never fall.
 -- Assumes nothing.
 use mathlib.Core.Path.{_≡_, refl}
-use Prim.Native.Nat.{ℕ, zero, suc, _≤_, _<_}
+use Prim.Native.Nat.{ℕ, _≤_}
 use mathlib.Core.Bool.{true}
 use mathlib.Core.List.{List, [], _∷_, _++_, map}
 use native.Mathlib.Omega.{arith}
 use lib.Dec.{leb}
 use lib.ListN
-use lib.ListN.{length, drop, getD, take-append-drop}
+use lib.ListN.{drop, take-append-drop}
 use borrow.Author.Tests.{leb-true, le-leb}
 use Rattle.columns.specs.Lists.{lastOr}
 use Rattle.columns.proofs.Strict.{both}
@@ -58,20 +58,3 @@ rising-take m i ls r = rising-front m (ListN.take i ls) (drop i ls) (rw take-app
 
 pub rising-drop : (m i : ℕ) (ls : List Line) → Rising m ls → Rising (lastFrom m (ListN.take i ls)) (drop i ls)
 rising-drop m i ls r = rising-back m (ListN.take i ls) (drop i ls) (rw take-append-drop r)
-
--- ---- by place
-
-pub rising-least : (m : ℕ) (ls : List Line) (z : Line) (i : ℕ) → Rising m ls → i < length ls → m ≤ getD ls i z .tag
-rising-least m [] z i r h = absurd (omega arith)
-rising-least m (l ∷ ls) z zero r h = r .0
-rising-least m (l ∷ ls) z (suc i) r h =
-    let b : l .tag ≤ getD ls i z .tag = rising-least (l .tag) ls z i (r .1) (omega arith) in omega arith
-
--- a later line's tag is no smaller
-pub rising-order :
-    (m : ℕ) (ls : List Line) (z : Line) (i j : ℕ) → Rising m ls → i ≤ j → j < length ls → getD ls i z .tag ≤ getD ls j z .tag
-rising-order m [] z i j r h l = absurd (omega arith)
-rising-order m (x ∷ ls) z zero zero r h l = omega arith
-rising-order m (x ∷ ls) z zero (suc j) r h l = rising-least (x .tag) ls z j (r .1) (omega arith)
-rising-order m (x ∷ ls) z (suc i) zero r h l = absurd (omega arith)
-rising-order m (x ∷ ls) z (suc i) (suc j) r h l = rising-order (x .tag) ls z i j (r .1) (omega arith) (omega arith)

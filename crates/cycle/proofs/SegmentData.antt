@@ -22,7 +22,8 @@ use Rattle.cycle.proofs.Pieces.{count-append, count-sent}
 use Rattle.cycle.proofs.Blocks.{quiet-path}
 use Rattle.cycle.proofs.LaidSegments.{quiet-tree}
 use Rattle.cycle.proofs.SegmentSizes.{length-sent}
-use Rattle.cycle.proofs.LastSent.{count-bare, data-level}
+use Rattle.cycle.proofs.LastSent.{count-bare}
+use Rattle.cycle.proofs.Pieces.{data-level}
 use Rattle.cycle.proofs.Positions.{At, stand-at, at-before}
 
 -- how many data buckets are sent before position x

@@ -1,25 +1,29 @@
 -- Where the parts of a segment stand: its path buckets, its tree, its data buckets, each within the cycle.
 -- Assumes nothing.
 use mathlib.Core.Path.{_≡_, refl, sym, ap, ap₂, _∙_, subst}
-use Prim.Native.Nat.{ℕ, suc, _+_, _-_, _≤_, _<_, max}
+use Prim.Native.Nat.{ℕ, suc, _+_, _-_, _≤_, _<_}
 use native.Mathlib.Numerals.{add-one}
 use native.Mathlib.Omega.{arith}
 use mathlib.Core.Bool.{Bool, true, false}
-use mathlib.Core.List.{List, [], _∷_, _++_, map}
+use mathlib.Core.List.{List, [], _∷_, _++_, map, map-append}
 use lib.Dec.{eqb}
 use lib.ListN.{length, length-append, length-map}
-use borrow.Author.Tests.{eqb-true, eqb-false, eq-eqb, ne-eqb}
-use Rattle.columns.specs.Lists.{pick, joined, range}
+use borrow.Author.Tests.{eqb-true, eqb-false, eq-eqb}
+use Rattle.columns.specs.Lists.{joined, range}
+use Rattle.columns.proofs.Joined.{joined-append}
 use Rattle.buckets.specs.declared.Line.{Line}
-use Rattle.cycle.specs.Tree.{Plan, width, above}
-use Rattle.cycle.specs.Layouts.{Slot, slot, sent, path, pathTop, distributedSegment, distributed, wholeSegment, oneM, slots}
+use Rattle.cycle.specs.Tree.{Plan, above}
+use Rattle.cycle.specs.Layouts.{Slot, slot, sent, path, pathTop, slots}
 use Rattle.cycle.specs.Cycle.{cycleSize}
 use Rattle.cycle.specs.declared.Figures.{Figures}
 use Rattle.cycle.specs.declared.Segment.{Segment}
 use Rattle.cycle.specs.Held.{planOf, Ready, Stand, Placed, pathOf, segmentSlots, segmentCount}
-use Rattle.cycle.proofs.Ranges.{length-range, range-append, range-cons, joined-append, map-append}
+use Rattle.cycle.proofs.Ranges.{length-range, range-append, range-cons}
 use Rattle.cycle.proofs.PathSizes.{length-path}
-use Rattle.cycle.proofs.SegmentSizes.{length-sent}
+use Rattle.cycle.proofs.SegmentSizes.{length-sent, count-wholes}
+use Rattle.cycle.proofs.LaidSegments.{slots-blocks, slots-wholes}
+use Rattle.cycle.proofs.PlacedBlocks.{path-of, count-of, block-slots}
+use Rattle.cycle.proofs.PlacedParts.{no-path-of, whole-slots}
 use Rattle.cycle.proofs.Accepted.{copies-fit}
 use Rattle.cycle.proofs.Stands.{stand-front, stand-behind, stand-fits}
 
@@ -35,29 +39,17 @@ stand-row {t} {x} g a b i low high s =
     subst (λ y. Stand t (x + y) (g i ∷ map g (range (suc i) b))) wide
     (stand-behind (map g (range a i)) (g i ∷ map g (range (suc i) b)) (subst (Stand t x) row s))
 
-distributed-are : (t : Plan) → eqb (t .layout) 1 ≡ true → slots t ≡ joined (segmentSlots t) (range 0 (segmentCount t))
-unfolding slots distributed segmentSlots segmentCount
-distributed-are t e =
-    ap (λ c. pick c (distributed t) (oneM t)) e
-    ∙ sym
-    (ap₂ (λ g m. joined g (range 0 m)) (λ k b. ap (λ c. pick c (distributedSegment t b) (wholeSegment t b)) e k)
-    (ap (λ c. pick c (max 1 (width t (t .copies + 1))) (t .copies)) e))
-
-whole-are : (t : Plan) → eqb (t .layout) 1 ≡ false → slots t ≡ joined (segmentSlots t) (range 0 (segmentCount t))
-unfolding slots oneM segmentSlots segmentCount
-whole-are t e =
-    ap (λ c. pick c (distributed t) (oneM t)) e
-    ∙ sym
-    (ap₂ (λ g m. joined g (range 0 m)) (λ k b. ap (λ c. pick c (distributedSegment t b) (wholeSegment t b)) e k)
-    (ap (λ c. pick c (max 1 (width t (t .copies + 1))) (t .copies)) e))
-
 -- the segments, one behind the other, are the cycle
 pub slots-are : (t : Plan) → slots t ≡ joined (segmentSlots t) (range 0 (segmentCount t))
 slots-are t = go (eqb (t .layout) 1) refl
   where
     go : (b : Bool) → eqb (t .layout) 1 ≡ b → slots t ≡ joined (segmentSlots t) (range 0 (segmentCount t))
-    go true e = distributed-are t e
-    go false e = whole-are t e
+    go true e =
+        let one : t .layout ≡ 1 = eqb-true (t .layout) 1 e in
+        slots-blocks t one ∙ sym (ap₂ (λ g m. joined g (range 0 m)) (block-slots t one) (count-of t one))
+    go false e =
+        let other : t .layout ≡ 1 → ⊥ = eqb-false (t .layout) 1 e in
+        slots-wholes t other ∙ sym (ap₂ (λ g m. joined g (range 0 m)) (whole-slots t other) (count-wholes t other))
 
 -- the buckets before segment b
 unfoldable pub before : Plan → ℕ → ℕ
@@ -125,18 +117,18 @@ module _ (f : Figures) (s : Segment) (ready : Ready f) (placed : (ls : List Line
   -- ---- the path
 
   distributed-path : f .layout ≡ 1 → s .«tree_at» ≡ s .start + (f .copies + 1 - s .top)
-  unfolding pathOf planOf
+  unfolding planOf
   distributed-path one =
       let p = placed [] in
       let long : length (pathOf (planOf f []) (s .number)) ≡ f .copies + 1 - pathTop (f .n) (f .copies) (s .number) =
-      rw (eq-eqb (f .layout) 1 one) (length-path (planOf f []) (s .number)) in
+      ap length (path-of (planOf f []) (s .number) one) ∙ length-path (planOf f []) (s .number) in
       omega (arith, p .path-length, long, p .top-is one)
 
   no-path : (f .layout ≡ 1 → ⊥) → (s .«tree_at» ≡ s .start) × (s .top ≡ f .copies + 1)
-  unfolding pathOf planOf
+  unfolding planOf
   no-path other =
       let p = placed [] in
-      let long : length (pathOf (planOf f []) (s .number)) ≡ 0 = rw (ne-eqb (f .layout) 1 other) in
+      let long : length (pathOf (planOf f []) (s .number)) ≡ 0 = ap length (no-path-of (planOf f []) (s .number) other) in
       (omega (arith, p .path-length, long), p .no-path other)
 
   pub path-size : s .«tree_at» ≡ s .start + (f .copies + 1 - s .top)

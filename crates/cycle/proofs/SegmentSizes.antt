@@ -11,11 +11,12 @@ use mathlib.Core.List.{List, [], _∷_, _++_, append-nil}
 use lib.ListN.{length, length-append, length-map}
 use borrow.Author.Tests.{eq-eqb, ne-eqb}
 use Rattle.columns.specs.Lists.{joined, range, up}
+use Rattle.columns.proofs.Joined.{joined-append}
 use Rattle.cycle.specs.Tree.{Plan, width, dataUnder}
 use Rattle.cycle.specs.Layouts.{Slot, slot, segment, treeBelow, sent, path, distributedSegment, distributed, wholeSegment, oneM, slots}
 use Rattle.cycle.specs.Cycle.{cycleSize}
 use Rattle.cycle.specs.Held.{fullSize, treeAt, segmentCount}
-use Rattle.cycle.proofs.Ranges.{length-range, range-snoc, joined-append}
+use Rattle.cycle.proofs.Ranges.{length-range, range-snoc}
 use Rattle.cycle.proofs.TreeLaws.{up-lt, width-up, dataUnder-range}
 use Rattle.cycle.proofs.TreeSizes.{tree-full, tree-empty}
 use Rattle.cycle.proofs.PathSizes.{climbs, climbs-none, climbs-next, length-path, up-is, up-none}

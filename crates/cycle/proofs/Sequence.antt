@@ -2,11 +2,11 @@
 -- to keep it once; the listener's laws know nothing of layouts.
 -- Assumes nothing.
 use mathlib.Core.Path.{_≡_}
-use Prim.Native.Nat.{ℕ, zero, suc, _+_, _-_, _*_, _^_, _≤_, _<_, max}
-use mathlib.Core.Bool.{Bool, true, false}
+use Prim.Native.Nat.{ℕ, _+_, _-_, _^_, _≤_, _<_, max}
+use mathlib.Core.Bool.{true, false}
 use mathlib.Core.List.{List, [], _∷_, _++_}
 use Rattle.columns.specs.Lists.{pick, any}
-use Rattle.cycle.specs.Tree.{Plan, above, width, children}
+use Rattle.cycle.specs.Tree.{Plan, above}
 use Rattle.cycle.specs.Layouts.{Slot, slots}
 use Rattle.cycle.specs.Cycle.{occurs, isData, hasPairs}
 
@@ -70,7 +70,7 @@ pub record Keeps (t : Plan) : Type 0 where
   pub in-order :
       (before : List Slot) (x : Slot) (rest : List Slot) → slots t ≡ before ++ (x ∷ rest) → isData t x ≡ true →
       x .place ≡ dataCount t before
-  -- an index bucket is never a segment's start by a data bucket
+  -- a data bucket never starts a segment
   pub data-starts :
       (before : List Slot) (x : Slot) (rest : List Slot) → slots t ≡ before ++ (x ∷ rest) → isData t x ≡ true →
       x .starts ≡ false

@@ -7,7 +7,7 @@ use native.Mathlib.Nat.{zero-add, suc-add, add-suc}
 use native.Mathlib.Omega.{arith}
 use mathlib.Core.Bool.{false}
 use mathlib.Core.Option.{none}
-use mathlib.Core.List.{List, [], _∷_, _++_, map, append-assoc}
+use mathlib.Core.List.{List, [], _∷_, _++_, map, map-append, append-assoc}
 use lib.ListN.{length, take, drop, length-append, length-take, length-drop, length-map, take-append-drop}
 use lib.Seq.{take-at, drop-at, drop-append-le, drop-append-add}
 use Rattle.columns.specs.Lists.{joined, span, range}
@@ -15,7 +15,6 @@ use Rattle.cycle.specs.Tree.{Plan, children, above}
 use Rattle.cycle.specs.Layouts.{Slot, slot, segment, subtree, sent, path, pathTop, slots}
 use Rattle.cycle.specs.Cycle.{distanceTo, toNextSegment}
 use Rattle.cycle.specs.Held.{bare, Stand, treeAt}
-use Rattle.cycle.proofs.Ranges.{map-append}
 
 -- ---- lists
 

@@ -10,7 +10,7 @@ use mathlib.Core.Bool.{Bool, true, false, true≢false}
 use mathlib.Core.List.{List, [], _∷_, _++_}
 use lib.Dec.{leb, eqb}
 use borrow.Author.Tests.{ne-eqb, eq-eqb}
-use Rattle.columns.specs.Lists.{pick, any}
+use Rattle.columns.specs.Lists.{pick}
 use Rattle.cycle.specs.Tree.{Plan, above}
 use Rattle.cycle.specs.Layouts.{Slot, slots}
 use Rattle.cycle.specs.Cycle.{occurs, isData, hasPairs}

@@ -25,10 +25,10 @@ use Rattle.cycle.proofs.Keeping.{keeps}
 use Rattle.cycle.proofs.Ranges.{le-or-lt}
 use Rattle.cycle.proofs.Readiness.{sound}
 use Rattle.cycle.proofs.Shapes.{children-shape, treeAt-shape, slots-shape, stand-shape, farDistances-shape, nearDistances-shape}
-use Rattle.cycle.proofs.Positions.{At, stand-at, at-length, index-at}
+use Rattle.cycle.proofs.Positions.{At, stand-at, index-at}
 use Rattle.cycle.proofs.NextOccurrence.{toSend}
 use Rattle.cycle.proofs.TreeEntries.{tree-low, at-among}
-use Rattle.cycle.proofs.Children.{size-slots, nil-of, no-children}
+use Rattle.cycle.proofs.Children.{size-slots}
 use Rattle.cycle.proofs.IndexBuckets.{entry-count, entry-tags, far-data, near-index, tree-pairs-are}
 
 -- a bucket with children in the tree: one more level below it
@@ -77,9 +77,6 @@ module _ (f : Figures) (ready : Ready f) (source : Source) (text : List ℕ) (s 
 
   size : f .size ≡ length (slots t)
   size = size-slots f ready ∙ ap length (slots-shape f [] ls)
-
-  pub tree-here : x < f .size
-  tree-here = omega (arith, size, at-length treeAtHere)
 
   before-data : x < s .«data_at»
   unfolding treeAt
@@ -149,10 +146,6 @@ module _ (f : Figures) (ready : Ready f) (source : Source) (text : List ℕ) (s 
 
   pub tree-distance-count : length (treeDistances (planOf f []) (f .size) x e j) ≡ length (children (planOf f []) i j)
   tree-distance-count = ap length (sym tree-distances) ∙ length-map treeEntries (λ y. y .distance) ∙ tree-count
-
-  -- the empty list's root has none
-  pub tree-none : f .d ≡ 0 → treeEntries ≡ []
-  tree-none z = nil-of treeEntries (tree-count ∙ ap length (no-children f ready e j low inside z))
 
   -- the bucket from its parts
   pub tree-held :

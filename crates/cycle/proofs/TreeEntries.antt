@@ -19,8 +19,8 @@ use Rattle.cycle.specs.Held.{bare, Stand}
 use Rattle.cycle.proofs.Ranges.{range-cons, joined-range}
 use Rattle.cycle.proofs.Pieces.{slot-occurs}
 use Rattle.cycle.proofs.Positions.{At}
-use Rattle.cycle.proofs.NextOccurrence.{none-joined, distance-within, distance-hit, toSend}
-use Rattle.cycle.proofs.DataOnce.{some-hit}
+use Rattle.cycle.proofs.Distances.{none-joined, some-hit, distance-within, distance-hit}
+use Rattle.cycle.proofs.NextOccurrence.{toSend}
 
 -- ---- the mark of a segment's start does not matter
 

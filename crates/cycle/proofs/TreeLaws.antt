@@ -4,15 +4,15 @@
 use mathlib.Core.Path.{_≡_, refl, sym, ap, subst, _∙_}
 use mathlib.Core.Logic.{⊎-elim}
 use Prim.Native.Nat.{ℕ, zero, suc, _+_, _-_, _*_, _/_, _^_, _≤_, _<_, min}
-use native.Mathlib.Nat.{zero-add, suc-add, pow-zero, pow-succ', suc-mul, mul-one, mul-assoc, one-le-pow, div-one, div-div-eq-div-mul, le-div-iff-mul-le, div-lt-iff-lt-mul, div-mul-le-self, lt-div-mul-add, mul-div-cancel, mul-le-mul-right, lt-of-mul-lt-mul-right, zero-div, le-antisymm, le-trans, div-eq-of-lt-le}
+use native.Mathlib.Nat.{zero-add, suc-add, pow-zero, pow-succ', suc-mul, mul-one, mul-assoc, one-le-pow, div-one, div-div-eq-div-mul, le-div-iff-mul-le, div-lt-iff-lt-mul, div-mul-le-self, lt-div-mul-add, mul-div-cancel, mul-le-mul-right, le-mul-of-pos-right, lt-of-mul-lt-mul-right, zero-div, le-antisymm, le-trans, div-eq-of-lt-le}
 use native.Mathlib.Numerals.{add-one}
 use native.Mathlib.Omega.{arith}
 use mathlib.Core.List.{_∷_, List·Memᴰ}
 use lib.Pow.{pow-add}
-use lib.ListN.{length, getD}
+use lib.ListN.{length}
 use Rattle.columns.specs.Lists.{lastOr, range, up}
 use Rattle.cycle.specs.Tree.{Plan, grouped, width, children, above, under, dataUnder}
-use Rattle.cycle.proofs.Ranges.{le-or-lt, length-range, getD-range, range-empty, range-cons, range-cut, in-range, range-has, last-range, joined-ranges}
+use Rattle.cycle.proofs.Ranges.{le-or-lt, length-range, range-empty, range-cons, range-cut, in-range, last-range, joined-ranges}
 
 -- ---- above
 
@@ -66,6 +66,11 @@ module _ (a b c : ℕ) (pos : 0 < b) where
   pub up-least : a ≤ c * b → up a b ≤ c
   up-least h = ⊎-elim (λ (l : up a b ≤ c). l) (λ (l : c < up a b). let g = up-lt l in absurd (omega arith)) (le-or-lt (up a b) c)
 
+-- what fits into a is not above it
+pub le-up : (a b c : ℕ) → 0 < b → c * b ≤ a → c ≤ up a b
+unfolding up
+le-up a b c pos h = le-div-iff-mul-le {x = c} pos .1 (omega arith)
+
 pub up-covers : (a b : ℕ) → 0 < b → a ≤ up a b * b
 up-covers a b pos =
     ⊎-elim
@@ -73,9 +78,9 @@ up-covers a b pos =
     (λ (l : up a b * b < a). let g = lt-up a b (up a b) pos l in absurd (omega arith))
     (le-or-lt a (up a b * b))
 
-pub up-one : (a : ℕ) → up a 1 ≡ a
-unfolding up
-up-one a = let e : a + (1 - 1) ≡ a = omega arith in rw e (div-one a)
+-- rounding up adds nothing
+pub up-at-most : (c p : ℕ) → 1 ≤ p → up c p ≤ c
+up-at-most c p h = up-least c p c h (le-mul-of-pos-right c h)
 
 -- two numbers with the same numbers below them
 pub same-below : (a b : ℕ) → ((c : ℕ) → c < a → c < b) → ((c : ℕ) → c < b → c < a) → a ≡ b
@@ -165,13 +170,6 @@ module _ (t : Plan) (pos : 0 < t .n) where
       let none : above (t .n) up j < 1 = lt-above (t .n) up pos 1 j (omega arith) in
       omega arith
 
-  pub width-parent : (i c : ℕ) → i ≤ t .k → c < width t (suc i) → c / t .n < width t i
-  unfolding width
-  width-parent i c h l =
-      let e : t .k + 1 - i ≡ suc (t .k + 1 - suc i) = omega arith in
-      let g : c / t .n * t .n ≤ c = div-mul-le-self c (t .n) in
-      rw e (lt-up (grouped (t .n) (t .d) (t .k + 1 - suc i)) (t .n) (c / t .n) pos (omega arith))
-
   -- ---- children
 
   pub children-bounds :
@@ -192,21 +190,10 @@ module _ (t : Plan) (pos : 0 < t .n) where
       let b = in-range (j * t .n) (min (j * t .n + t .n) (width t (suc i))) m in
       (bounds-child j c (b .0) (omega arith), omega arith)
 
-  pub children-has : (i j c : ℕ) → c / t .n ≡ j → c < width t (suc i) → List·Memᴰ c (children t i j)
-  unfolding children
-  children-has i j c e l =
-      let b = children-bounds i j c e l in
-      range-has (j * t .n) (min (j * t .n + t .n) (width t (suc i))) c (b .0) (b .1)
-
   -- how many: they are numbered from j * n on
   pub length-children : (i j : ℕ) → length (children t i j) ≡ min (j * t .n + t .n) (width t (suc i)) - j * t .n
   unfolding children
   length-children i j = length-range (j * t .n) (min (j * t .n + t .n) (width t (suc i)))
-
-  pub getD-children :
-      (z i j x : ℕ) → j * t .n + x < min (j * t .n + t .n) (width t (suc i)) → getD (children t i j) x z ≡ j * t .n + x
-  unfolding children
-  getD-children z i j x h = getD-range z (j * t .n) (min (j * t .n + t .n) (width t (suc i))) x h
 
   -- ---- the data under a bucket
 

@@ -1,8 +1,9 @@
 -- The subtrees of a segment's tree: where they stand, and bounds on their places.
 -- Assumes nothing.
-use mathlib.Core.Path.{_≡_, sym, subst}
-use Prim.Native.Nat.{ℕ, suc, _+_, _-_, _*_, _≤_, _<_}
-use native.Mathlib.Nat.{mul-le-mul}
+use mathlib.Core.Path.{_≡_, sym, ap, _∙_, subst}
+use Prim.Native.Nat.{ℕ, suc, _+_, _-_, _*_, _^_, _≤_, _<_}
+use native.Mathlib.Nat.{mul-le-mul, mul-le-mul-right, mul-assoc, suc-mul, pow-succ'}
+use native.Mathlib.Numerals.{add-one}
 use native.Mathlib.Omega.{arith}
 use mathlib.Core.List.{List, [], _∷_, _++_}
 use lib.ListN.{length, drop}
@@ -13,11 +14,12 @@ use Rattle.cycle.specs.Layouts.{Slot, slot, slots}
 use Rattle.cycle.specs.Cycle.{toNextSegment}
 use Rattle.cycle.specs.declared.Figures.{Figures}
 use Rattle.cycle.specs.declared.Segment.{Segment}
-use Rattle.cycle.specs.Held.{planOf, Ready, InTree, Stand, Placed, treeAt, TreePlace}
-use Rattle.cycle.proofs.Levels.{up-at-most}
+use Rattle.cycle.specs.Held.{planOf, Ready, InTree, Stand, Placed, treeAt, Under, TreePlace}
 use Rattle.cycle.proofs.Readiness
+use Rattle.cycle.proofs.Children
 use Rattle.cycle.proofs.Inside.{Inside, slot-inside}
 use Rattle.cycle.proofs.Positions.{At, stand-at}
+use Rattle.cycle.proofs.Children.{children-count}
 use Rattle.cycle.proofs.SegmentParts.{seated}
 use Rattle.cycle.proofs.ChildTrees.{tree-parts, tree-lowest, earlier, earlier-all, child}
 
@@ -30,11 +32,23 @@ place-inside f ready a =
     slot-inside (planOf f []) sound (a .before) (a .it) (a .next ++ a .behind) (a .splits) in
     rw (a .level-is, a .place-is) at one
 
+-- what is under a child is under its parent
+pub child-under :
+    (f : Figures) (s : Segment) (e j i : ℕ) → 1 ≤ e → i < f .n → Under f s e j → Under f s (e - 1) (j * f .n + i)
+child-under f s e j i low h u =
+    let m : ℕ = f .n ^ (e - 1) in
+    let one-up : suc (e - 1) ≡ e = omega arith in
+    let power : f .n ^ e ≡ f .n * m = ap (λ z. f .n ^ z) (sym one-up) ∙ pow-succ' (f .n) (e - 1) in
+    let first : j * f .n ^ e ≡ j * f .n * m = ap (λ z. j * z) power ∙ sym (mul-assoc j (f .n) m) in
+    let wide : (j + 1) * f .n ≡ j * f .n + f .n = ap (λ z. z * f .n) (add-one j) ∙ suc-mul j (f .n) in
+    let last : (j + 1) * f .n ^ e ≡ (j * f .n + f .n) * m = ap (λ z. (j + 1) * z) power ∙ sym (mul-assoc (j + 1) (f .n) m) ∙ ap (λ z. z * m) wide in
+    let up : j * f .n * m ≤ (j * f .n + i) * m = mul-le-mul-right m (omega arith) in
+    let down : (j * f .n + i + 1) * m ≤ (j * f .n + f .n) * m = mul-le-mul-right m (omega arith) in
+    record { from = λ one. omega (arith, u .from one, first, up); to = λ one. omega (arith, u .to one, last, down) }
+
 module _ (f : Figures) (s : Segment) (ready : Ready f) (placed : (ls : List Line) → Placed (planOf f ls) s) where
   pub d-high : f .d ≤ 40000
-  d-high =
-      let shaped = ready .shaped in
-      omega (arith, up-at-most (f .lines) (f .p) (shaped .p-low), shaped .d-is, shaped .lines-high)
+  d-high = Readiness.data-high f (ready .shaped)
 
   pub head-asked :
       (x : ℕ) → s .start ≤ x → x < s .end →
@@ -55,6 +69,7 @@ module _ (f : Figures) (s : Segment) (ready : Ready f) (placed : (ls : List Line
         behind-path = omega arith;
         before-data = omega (arith, p .tree-length);
         stands = p .tree-stands;
+        under = record { from = λ one. omega arith; to = λ one. omega arith };
       }
 
   pub data-in : (q : ℕ) → q < s .last → q < f .d
@@ -70,9 +85,7 @@ module _ (f : Figures) (s : Segment) (ready : Ready f) (placed : (ls : List Line
     place-small = Readiness.reached f e j (ready .shaped) (p .inside) .place
 
     pub first-small : j * f .n ≤ 320000
-    first-small =
-        let small = place-small in
-        mul-le-mul {n₂ = 40000} {m₂ = 8} (omega arith) (ready .shaped .n-high)
+    first-small = Children.first-small f ready e j (p .low) (p .inside)
 
     -- its own bucket stands at x, its children's subtrees behind it
     pub bucket-stands :
@@ -102,6 +115,7 @@ module _ (f : Figures) (s : Segment) (ready : Ready f) (placed : (ls : List Line
           behind-path = omega (arith, p .behind-path);
           before-data = omega (arith, c .fits, p .before-data);
           stands = subst (λ y. Stand (planOf f []) y (treeAt (planOf f []) (e - 1) (j * f .n + i))) (sym is) (c .stands);
+          under = child-under f s e j i (p .low) (omega (arith, children-count f ready e j (p .low) (p .inside))) (p .under);
         }
 
     pub child-inside :

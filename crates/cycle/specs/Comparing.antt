@@ -2,41 +2,25 @@
 -- when a part of it is that part of a plan's cycle.
 -- Assumes nothing.
 use mathlib.Core.Path.{_≡_}
-use Prim.Native.Nat.{ℕ, _+_, _-_, _*_, _/_, _≤_, _<_}
+use Prim.Native.Nat.{ℕ, _+_, _-_, _*_, _/_, _^_, _≤_, _<_, min}
 use mathlib.Core.Bool.{Bool, true, false}
 use mathlib.Core.Option.{some}
 use mathlib.Core.List.{List, [], _∷_, _++_}
 use lib.Dec.{eqb, ltb}
-use lib.ListN.{length, take, drop, getD, replicate}
+use lib.ListN.{length, take, drop, getD}
 use Rattle.columns.specs.Lists.{pick, parts, joined, range}
 use Rattle.buckets.specs.Bucket.{readBucket, followOn}
 use Rattle.buckets.specs.declared.Line.{Line}
-use Rattle.buckets.specs.declared.Head.{Head}
-use Rattle.buckets.specs.declared.Index.{Index}
-use Rattle.buckets.specs.declared.Kind.the-variants.{Index as KindIndex}
-use Rattle.buckets.specs.declared.Reading.{Reading}
 use Rattle.cycle.specs.Tree.{Plan, firstTag, lastTag}
 use Rattle.cycle.specs.declared.Figures.{Figures}
 use Rattle.cycle.specs.declared.Segment.{Segment}
 use Rattle.cycle.specs.declared.Source.the-variants.{Image as InImage}
-use Rattle.cycle.specs.Held.{planOf, Ready, Placed, firstPlace, lineAt, cycleBucket}
+use Rattle.cycle.specs.Held.{planOf, planIn, Ready, Placed, firstPlace, lineAt, cycleBucket}
 
 -- the test's answer decides whether P holds
 pub record Decides (P : Type 0) (answer : Bool) : Type 0 where
   pub yes : answer ≡ true → P
   pub no : answer ≡ false → P → ⊥
-
--- ---- what is held of two index buckets
-
-pub record SamePairs (a b : Index) : Type 0 where
-  pub same-count : a .pairs ≡ b .pairs
-  pub same-tags : a .«pair_tags» ≡ b .«pair_tags»
-  pub same-distances : a .«pair_distances» ≡ b .«pair_distances»
-
-pub record SameEntries (a b : Index) : Type 0 where
-  pub same-count : a .entries ≡ b .entries
-  pub same-tags : a .«entry_tags» ≡ b .«entry_tags»
-  pub same-distances : a .«entry_distances» ≡ b .«entry_distances»
 
 -- ---- how many lines
 
@@ -71,15 +55,18 @@ pub record MatchesAt (t : Plan) (image : List ℕ) (x : ℕ) : Type 0 where
 pub record Matches (t : Plan) (image : List ℕ) (x y : ℕ) : Type 0 where
   pub each : (z : ℕ) → x ≤ z → z < y → MatchesAt t image z
 
+-- the same of data buckets a up to but without b, each at its place
+pub record DataMatches (t : Plan) (image : List ℕ) (a b : ℕ) : Type 0 where
+  pub each : (q : ℕ) → a ≤ q → q < b → MatchesAt t image (firstPlace t (t .k + 1) q)
+
 -- data bucket q, which stands at x, has this follow-on, and no tag falls from it to the next
 pub record Followed (t : Plan) (q x follow : ℕ) : Type 0 where
   pub follow-is : follow ≡ followOn (cycleBucket t x .body)
   pub in-order : RisesAt t q
 
--- what a strict reading finds in the index bucket with this head and index
-unfoldable pub indexReading : Head → Index → Reading
-indexReading h i =
-    record { kind = KindIndex; head = h; «follow_on» = 0; index = i; lines = 0; tags = replicate 8 0 }
+-- where the image has the last line under bucket j of height e
+unfoldable pub imagePlace : Figures → ℕ → ℕ → ℕ
+imagePlace f e j = lineAt (planOf f []) InImage (min (f .lines) ((j + 1) * f .n ^ e * f .p) - 1)
 
 -- lines that stand side by side, from a place of the image on, as list lines
 unfoldable pub linesText : List ℕ → ℕ → ℕ → List ℕ
@@ -98,3 +85,8 @@ pub record Holding (f : Figures) (image : List ℕ) : Type 0 where
 pub record Comparing (f : Figures) (image : List ℕ) (s : Segment) : Type 0 where
   pub holding : Holding f image
   pub placed : (ls : List Line) → Placed (planOf f ls) s
+
+-- the same, where all data buckets match
+pub record Checking (f : Figures) (image : List ℕ) (s : Segment) : Type 0 where
+  pub comparing : Comparing f image s
+  pub datas : DataMatches (planIn f InImage image) image 0 (f .d)

@@ -171,6 +171,8 @@ pub record Placed (t : Plan) (s : Segment) : Type 0 where
   pub next-starts : (x : ℕ) → s .start ≤ x → x < s .end → toNextSegment (drop (suc x) (slots t) ++ slots t) ≡ s .end - x
   -- the data buckets sent before the segment are those up to `first`
   pub sent-before : (x : ℕ) → s .start ≤ x → x < s .«data_at» → lastSentBefore t x ≡ lastOf t (s .first)
+  -- in layout 1 they are those under its tree
+  pub data-under : t .layout ≡ 1 → (s .first ≡ s .root * t .n ^ s .height) × (s .last ≡ min (t .d) ((s .root + 1) * t .n ^ s .height))
   pub number-in : s .number < segmentCount t
   pub first-in : s .first < max 1 (t .d)
   pub last-in : s .last ≤ t .d
@@ -295,6 +297,11 @@ pub record Writing (f : Figures) (list : List ℕ) (s : Segment) (room : ℕ) : 
   pub roomy : 240 * f .size ≤ room
   pub placed : (ls : List Line) → Placed (planOf f ls) s
 
+-- in layout 1, bucket j of height e has no data buckets under it but the segment's
+pub record Under (f : Figures) (s : Segment) (e j : ℕ) : Type 0 where
+  pub from : f .layout ≡ 1 → s .root * f .n ^ s .height ≤ j * f .n ^ e
+  pub to : f .layout ≡ 1 → (j + 1) * f .n ^ e ≤ (s .root + 1) * f .n ^ s .height
+
 -- the subtree of bucket j of height e stands at x, in the segment's tree
 pub record TreePlace (f : Figures) (s : Segment) (e j x : ℕ) : Type 0 where
   pub low : 1 ≤ e
@@ -302,3 +309,4 @@ pub record TreePlace (f : Figures) (s : Segment) (e j x : ℕ) : Type 0 where
   pub behind-path : s .«tree_at» ≤ x
   pub before-data : x + length (treeAt (planOf f []) e j) ≤ s .«data_at»
   pub stands : Stand (planOf f []) x (treeAt (planOf f []) e j)
+  pub under : Under f s e j

@@ -19,11 +19,11 @@ use super::sizes::lesser;
 use super::sizes::with_size;
 use buckets::Head;
 use buckets::Index;
-use buckets::LineRead;
-use buckets::lines::read_line;
+use buckets::lines::line_tag;
 use buckets::writer::copy_index;
 use buckets::writer::write_data;
 use buckets::writer::write_index;
+use columns::MISPRINT;
 ghost use mathlib.Core.Path.{_≡_};
 ghost use mathlib.Core.Bool.{true};
 ghost use mathlib.Core.Option.{none};
@@ -221,9 +221,9 @@ fn first_misprint(list: &[u8], lines: u64) -> u64
     while i < lines {
         let at = (27 * i) as usize;
         let to = at + 27;
-        let LineRead::Read(_) = read_line(&list[at..to]) else {
+        if line_tag(&list[at..to]) == MISPRINT {
             return i;
-        };
+        }
         i += 1;
     }
     lines
@@ -258,13 +258,14 @@ fn all_rise(list: &[u8], lines: u64) -> bool
     while i < lines {
         let at = (27 * i) as usize;
         let to = at + 27;
-        let LineRead::Read(line) = read_line(&list[at..to]) else {
-            return false;
-        };
-        if line.tag < last {
+        let tag = line_tag(&list[at..to]);
+        if tag == MISPRINT {
             return false;
         }
-        last = line.tag;
+        if tag < last {
+            return false;
+        }
+        last = tag;
         i += 1;
     }
     true

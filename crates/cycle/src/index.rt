@@ -7,7 +7,6 @@ use super::places::first_place;
 use super::places::largest_tag;
 use super::places::last_line;
 use super::places::tag_of;
-use super::sizes::lesser;
 use super::sizes::power;
 use super::sizes::tree_size;
 use super::sizes::up;
@@ -17,11 +16,11 @@ ghost use mathlib.Core.Path.{_≡_};
 ghost use mathlib.Core.List.{[], _∷_, _++_, map};
 ghost use Prim.Native.Nat.{suc, _+_, _-_, _*_, _%_, _≤_, _<_, max};
 ghost use lib.ListN.{length, drop};
-ghost use Rattle.buckets.specs.Held.{filled, tagOr0, heldIndex, headOf, entered};
+ghost use Rattle.buckets.specs.Held.{filled, tagOr0, heldIndex, headOf};
 ghost use Rattle.cycle.specs.Tree.{width, children};
 ghost use Rattle.cycle.specs.Layouts.{slots};
 ghost use Rattle.cycle.specs.Cycle.{toNextSegment, firstPair};
-ghost use Rattle.cycle.specs.Held.{planOf, Ready, InTree, Stand, Placed, treeAt, TextFits, planIn, cycleBucket, asIndex};
+ghost use Rattle.cycle.specs.Held.{planOf, Ready, InTree, Placed, TextFits, planIn, cycleBucket, asIndex};
 ghost use Rattle.cycle.specs.Held.{firstPlace, aheadOf, lastOf, childTags, farDistances, nearDistances};
 ghost use Rattle.cycle.specs.Held.{treePairs, pairReach, placeOver, pairTags, pairDistances, OnPath, treeDistances, tagPlace};
 
@@ -85,11 +84,15 @@ pub fn child_count(f: Figures, e: usize, j: u64) -> usize
 {
     let below = e - 1;
     let from = j * f.n;
-    let to = lesser(from + f.n, up(f.d, power(f.n, below)));
-    if to < from {
+    let span = power(f.n, below);
+    if (from + f.n) * span <= f.d {
+        return f.n as usize;
+    }
+    let behind = up(f.d, span);
+    if behind < from {
         return 0;
     }
-    (to - from) as usize
+    (behind - from) as usize
 }
 
 // The largest tags below the children of bucket j of height e.
@@ -220,40 +223,6 @@ pub fn tree_pairs(text: &[u8], f: Figures, source: Source, sent: u64, e: usize, 
         return no_index();
     }
     no_index()
-}
-
-// Bucket j of height e in a segment's tree, at x.
-pub fn tree_index(
-    text: &[u8],
-    f: Figures,
-    source: Source,
-    s: Segment,
-    e: usize,
-    j: u64,
-    x: u64,
-) -> Index
-    requires { ⌜ Ready f × TextFits f source (length (now text)) × Placed (planIn f source (now text)) s × (1 ≤ e) × InTree f e j × (s .«tree_at» ≤ x) × (x + length (treeAt (planOf f []) e j) ≤ s .«data_at») × Stand (planOf f []) x (treeAt (planOf f []) e j) ⌝ }
-    ensures { λ r. ⌜ r ≡ asIndex (cycleBucket (planIn f source (now (text .entry))) x .body) ⌝ }
-{
-    let index = tree_pairs(text, f, source, s.first, e, x);
-    if f.d == 0 {
-        return index;
-    }
-    let count = child_count(f, e, j);
-    let tags = child_tags(text, f, source, e, j, count);
-    let distances = tree_distances(f, e, j, count, x);
-    with_entries(index, count, tags, distances)
-}
-
-// An index bucket with these entries.
-fn with_entries(index: Index, count: usize, tags: [u64; 8], distances: [u64; 8]) -> Index
-    ensures { λ r. ⌜ r ≡ entered index count tags distances ⌝ }
-{
-    let mut next = index;
-    next.entries = count;
-    next.entry_tags = tags;
-    next.entry_distances = distances;
-    next
 }
 
 // The tags of the pairs of the path bucket of level i before bucket b of level r + 1, the first one's given.

@@ -56,7 +56,7 @@ pub fn data_place(f: Figures, q: u64) -> u64
 }
 
 // The place of line i's first byte.
-fn line_place(f: Figures, source: Source, i: u64) -> usize
+pub fn line_place(f: Figures, source: Source, i: u64) -> usize
     requires { ⌜ Ready f × (i < f .lines) ⌝ }
     ensures { λ r. ⌜ r ≡ lineAt (planOf f []) source i ⌝ }
 {

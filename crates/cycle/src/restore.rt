@@ -7,32 +7,39 @@ use super::build::settings_fit;
 use super::index::child_count;
 use super::index::head_at;
 use super::index::path_index;
-use super::index::tree_index;
+use super::index::tree_distances;
+use super::index::tree_pairs;
 use super::places::data_place;
+use super::places::last_line;
+use super::places::line_place;
 use super::places::spelled_tag;
 use super::segments::segment_count;
 use super::segments::segment_of;
 use super::sizes::copies_fit;
 use super::sizes::figures_of;
 use super::sizes::lesser;
+use super::sizes::power;
 use super::sizes::tree_size;
 use super::sizes::with_size;
 use buckets::Head;
-use buckets::Index;
 use buckets::Kind;
 use buckets::reader::read_bucket;
+use buckets::writer::copy_index;
+use buckets::writer::write_index;
 use columns::copy_columns;
 ghost use mathlib.Core.Path.{_≡_};
-ghost use mathlib.Core.List.{[], _∷_, _++_};
+ghost use mathlib.Core.Bool.{_&&_};
+ghost use mathlib.Core.List.{List, [], _∷_, _++_, map};
+ghost use lib.Dec.{eqb};
 ghost use Prim.Native.Nat.{_+_, _-_, _*_, _/_, _%_, _≤_, _<_, min};
 ghost use lib.ListN.{length, take, drop};
 ghost use Rattle.columns.specs.Lists.{put};
-ghost use Rattle.buckets.specs.Bucket.{readBucket};
-ghost use Rattle.buckets.specs.Held.{asReading};
-ghost use Rattle.cycle.specs.Tree.{settings, lastTag};
+ghost use Rattle.buckets.specs.declared.Line.{Line};
+ghost use Rattle.buckets.specs.Held.{filled};
+ghost use Rattle.cycle.specs.Tree.{settings, children, lastTag};
 ghost use Rattle.cycle.specs.ReadingBack.{ReadsBack};
-ghost use Rattle.cycle.specs.Held.{planOf, Shaped, Ready, Placed, firstPlace, treeAt, planIn, TreePlace};
-ghost use Rattle.cycle.specs.Comparing.{Decides, SamePairs, SameEntries, counted, bucketBytes, MatchesAt, Matches, Followed, indexReading, linesText, listText, Holding, Comparing};
+ghost use Rattle.cycle.specs.Held.{planOf, Shaped, Ready, InTree, Placed, Under, firstPlace, treeAt, planIn, TreePlace};
+ghost use Rattle.cycle.specs.Comparing.{Decides, counted, bucketBytes, MatchesAt, Matches, DataMatches, Followed, imagePlace, linesText, listText, Holding, Comparing, Checking};
 ghost use Rattle.cycle.specs.declared.Source.the-variants as Source;
 
 fn same_head(a: Head, b: Head) -> bool
@@ -47,95 +54,103 @@ fn same_head(a: Head, b: Head) -> bool
     a.to_segment == b.to_segment
 }
 
-fn same_numbers(a: &[u64], b: &[u64]) -> bool
+// Whether two columns are the same and those before them are.
+fn still_same(before: bool, a: u8, b: u8) -> bool
+    ensures { λ r. ⌜ r ≡ (before && eqb a b) ⌝ }
+{
+    if a == b {
+        return before;
+    }
+    false
+}
+
+// Whether two buckets are the same. It looks at each column, so that many are tested at once.
+fn same_bucket(a: &[u8], b: &[u8]) -> bool
+    requires { ⌜ (length (now a) ≡ 240) × (length (now b) ≡ 240) ⌝ }
     ensures { λ r. ⌜ Decides (now (a .entry) ≡ now (b .entry)) r ⌝ }
 {
-    if a.len() != b.len() {
-        return false;
-    }
+    let mut same = true;
     let mut i = 0;
-    while i < a.len() {
-        if a[i] != b[i] {
-            return false;
-        }
+    while i < 240 {
+        same = still_same(same, a[i], b[i]);
         i += 1;
     }
-    true
+    same
 }
 
-fn same_pairs(a: Index, b: Index) -> bool
-    ensures { λ r. ⌜ Decides (SamePairs a b) r ⌝ }
-{
-    if a.pairs != b.pairs {
-        return false;
-    }
-    let tags = a.pair_tags;
-    let other_tags = b.pair_tags;
-    if !same_numbers(&tags, &other_tags) {
-        return false;
-    }
-    let distances = a.pair_distances;
-    let other_distances = b.pair_distances;
-    same_numbers(&distances, &other_distances)
-}
-
-fn same_entries(a: Index, b: Index) -> bool
-    ensures { λ r. ⌜ Decides (SameEntries a b) r ⌝ }
-{
-    if a.entries != b.entries {
-        return false;
-    }
-    let tags = a.entry_tags;
-    let other_tags = b.entry_tags;
-    if !same_numbers(&tags, &other_tags) {
-        return false;
-    }
-    let distances = a.entry_distances;
-    let other_distances = b.entry_distances;
-    same_numbers(&distances, &other_distances)
-}
-
-// Whether the bucket at x is the index bucket with this head and index.
-fn is_index(image: &[u8], x: u64, head: Head, index: Index) -> bool
-    requires { ⌜ (240 * x + 240 ≤ length (now image)) × (x ≤ 99999) ⌝ }
-    ensures { λ r. ⌜ Decides (asReading (readBucket (bucketBytes (now (image .entry)) x)) ≡ indexReading head index) r ⌝ }
+// Whether these columns are the bucket at x.
+fn is_at(image: &[u8], x: u64, wanted: &[u8]) -> bool
+    requires { ⌜ (240 * x + 240 ≤ length (now image)) × (x ≤ 99999) × (length (now wanted) ≡ 240) ⌝ }
+    ensures { λ r. ⌜ Decides (bucketBytes (now (image .entry)) x ≡ now (wanted .entry)) r ⌝ }
 {
     let at = (240 * x) as usize;
     let to = at + 240;
-    let r = read_bucket(&image[at..to]);
-    let kind = r.kind;
-    match kind {
-        Kind::Index => {
-            let read = r.index;
-            let read_head = r.head;
-            if read.blank != index.blank {
-                return false;
-            }
-            if !same_head(read_head, head) {
-                return false;
-            }
-            if !same_pairs(read, index) {
-                return false;
-            }
-            same_entries(read, index)
-        }
-        Kind::Data => false,
-        Kind::Misprinted => false,
+    same_bucket(&image[at..to], wanted)
+}
+
+// Where the image has the last line under bucket j of height e, whose data buckets a segment of layout 1 has.
+fn segment_place(f: Figures, s: Segment, e: usize, j: u64) -> usize
+    requires { ⌜ Ready f × ((ls : List Line) → Placed (planOf f ls) s) × (f .layout ≡ 1) × (1 ≤ f .d) × InTree f e j × Under f s e j ⌝ }
+    ensures { λ r. ⌜ r ≡ imagePlace f e j ⌝ }
+{
+    let q = lesser(f.d, (j + 1) * power(f.n, e)) - 1;
+    let lines = lesser(f.p, f.lines - q * f.p);
+    let x = s.data_at + (q - s.first);
+    (240 * x + 26 * lines + 3) as usize
+}
+
+// Where the image has the last line under bucket j of height e in a segment's tree.
+fn image_place(f: Figures, s: Segment, e: usize, j: u64) -> usize
+    requires { ⌜ Ready f × ((ls : List Line) → Placed (planOf f ls) s) × (1 ≤ f .d) × InTree f e j × Under f s e j ⌝ }
+    ensures { λ r. ⌜ r ≡ imagePlace f e j ⌝ }
+{
+    if f.layout == 1 {
+        return segment_place(f, s, e, j);
     }
+    line_place(f, Source::Image, last_line(f, e, j))
+}
+
+// Where the image has the largest tags below the children of bucket j of height e in a segment's tree.
+fn image_places(f: Figures, s: Segment, e: usize, j: u64, count: usize) -> [usize; 8]
+    requires { ⌜ Ready f × ((ls : List Line) → Placed (planOf f ls) s) × (1 ≤ e) × InTree f e j × Under f s e j × (count ≡ length (children (planOf f []) (f .k + 1 - e) j)) ⌝ }
+    ensures { λ r. ⌜ r ≡ filled 8 (map (imagePlace f (e - 1)) (children (planOf f []) (f .k + 1 - e) j)) ⌝ }
+{
+    let below = e - 1;
+    let from = j * f.n;
+    let mut places = [0usize; 8];
+    let mut i = 0;
+    while i < count {
+        places[i] = image_place(f, s, below, from + i as u64);
+        i += 1;
+    }
+    places
 }
 
 // Whether bucket j of height e of a segment's tree stands at x.
 fn is_tree_bucket(image: &[u8], f: Figures, s: Segment, e: usize, j: u64, x: u64) -> bool
-    requires { ⌜ Comparing f (now image) s × TreePlace f s e j x ⌝ }
+    requires { ⌜ Checking f (now image) s × TreePlace f s e j x ⌝ }
     ensures { λ r. ⌜ Decides (MatchesAt (planIn f Source.Image (now (image .entry))) (now (image .entry)) x) r ⌝ }
 {
-    let index = tree_index(image, f, Source::Image, s, e, j, x);
-    is_index(image, x, head_at(f, s, x), index)
+    let index = tree_pairs(image, f, Source::Image, s.first, e, x);
+    let count = child_count(f, e, j);
+    let places = image_places(f, s, e, j, count);
+    let distances = tree_distances(f, e, j, count, x);
+    let mut wanted = [0u8; 240];
+    copy_index(
+        &mut wanted,
+        head_at(f, s, x),
+        index,
+        count,
+        image,
+        &places,
+        &distances,
+    );
+    is_at(image, x, &wanted)
 }
 
 // Whether the subtree of bucket j of height e stands from x on.
 fn is_subtree(image: &[u8], f: Figures, s: Segment, e: usize, j: u64, x: u64) -> bool
-    requires { ⌜ Comparing f (now image) s × TreePlace f s e j x ⌝ }
+    requires { ⌜ Checking f (now image) s × TreePlace f s e j x ⌝ }
     ensures { λ r. ⌜ Decides (Matches (planIn f Source.Image (now (image .entry))) (now (image .entry)) x (x + length (treeAt (planOf f []) e j))) r ⌝ }
 {
     if !is_tree_bucket(image, f, s, e, j, x) {
@@ -162,16 +177,18 @@ fn is_subtree(image: &[u8], f: Figures, s: Segment, e: usize, j: u64, x: u64) ->
 
 // Whether the path bucket of level i of a segment stands at x.
 fn is_path_bucket(image: &[u8], f: Figures, s: Segment, i: u64, x: u64) -> bool
-    requires { ⌜ Comparing f (now image) s × (s .top ≤ i) × (i ≤ f .copies) × (x ≡ s .start + (i - s .top)) ⌝ }
+    requires { ⌜ Checking f (now image) s × (s .top ≤ i) × (i ≤ f .copies) × (x ≡ s .start + (i - s .top)) ⌝ }
     ensures { λ r. ⌜ Decides (MatchesAt (planIn f Source.Image (now (image .entry))) (now (image .entry)) x) r ⌝ }
 {
     let index = path_index(image, f, Source::Image, s, i, x);
-    is_index(image, x, head_at(f, s, x), index)
+    let mut wanted = [0u8; 240];
+    write_index(&mut wanted, head_at(f, s, x), index);
+    is_at(image, x, &wanted)
 }
 
 // Whether the path of a segment stands in its place.
 fn is_path(image: &[u8], f: Figures, s: Segment) -> bool
-    requires { ⌜ Comparing f (now image) s ⌝ }
+    requires { ⌜ Checking f (now image) s ⌝ }
     ensures { λ r. ⌜ Decides (Matches (planIn f Source.Image (now (image .entry))) (now (image .entry)) (s .start) (s .«tree_at»)) r ⌝ }
 {
     let mut x = s.start;
@@ -272,23 +289,36 @@ fn are_datas(image: &[u8], f: Figures, s: Segment) -> bool
     true
 }
 
-// Whether a segment stands in its place: its path, its tree, its data buckets.
+// Whether the index buckets of a segment, its path and its tree, stand in their places as its data buckets do.
 fn is_segment(image: &[u8], f: Figures, s: Segment) -> bool
-    requires { ⌜ Comparing f (now image) s ⌝ }
+    requires { ⌜ Checking f (now image) s ⌝ }
     ensures { λ r. ⌜ Decides (Matches (planIn f Source.Image (now (image .entry))) (now (image .entry)) (s .start) (s .end)) r ⌝ }
 {
     if !is_path(image, f, s) {
         return false;
     }
-    if !is_subtree(image, f, s, s.height, s.root, s.tree_at) {
-        return false;
-    }
-    are_datas(image, f, s)
+    is_subtree(image, f, s, s.height, s.root, s.tree_at)
 }
 
-// Whether the image is the cycle of the lines that stand in it.
-fn is_cycle(image: &[u8], f: Figures) -> bool
+// Whether all data buckets stand in their places.
+fn all_datas(image: &[u8], f: Figures) -> bool
     requires { ⌜ Holding f (now image) ⌝ }
+    ensures { λ r. ⌜ Decides (DataMatches (planIn f Source.Image (now (image .entry))) (now (image .entry)) 0 (f .d)) r ⌝ }
+{
+    let count = segment_count(f);
+    let mut i = 0;
+    while i < count {
+        if !are_datas(image, f, segment_of(f, i)) {
+            return false;
+        }
+        i += 1;
+    }
+    true
+}
+
+// Whether all segments stand in their places, as their data buckets do.
+fn all_segments(image: &[u8], f: Figures) -> bool
+    requires { ⌜ Holding f (now image) × DataMatches (planIn f Source.Image (now image)) (now image) 0 (f .d) ⌝ }
     ensures { λ r. ⌜ Decides (Matches (planIn f Source.Image (now (image .entry))) (now (image .entry)) 0 (f .size)) r ⌝ }
 {
     let count = segment_count(f);
@@ -300,6 +330,18 @@ fn is_cycle(image: &[u8], f: Figures) -> bool
         i += 1;
     }
     true
+}
+
+// Whether the image is the cycle of the lines that stand in it. Once its data buckets are known to be good, so are the index
+// buckets that belong to them, and the image's are held against these column by column.
+fn is_cycle(image: &[u8], f: Figures) -> bool
+    requires { ⌜ Holding f (now image) ⌝ }
+    ensures { λ r. ⌜ Decides (Matches (planIn f Source.Image (now (image .entry))) (now (image .entry)) 0 (f .size)) r ⌝ }
+{
+    if !all_datas(image, f) {
+        return false;
+    }
+    all_segments(image, f)
 }
 
 // How many lines the image has: p for each data bucket but the last, and what the last one's count says.

@@ -2,7 +2,7 @@
 -- tag from there on is handed over.
 -- Assumes nothing.
 use mathlib.Core.Path.{_≡_, refl, sym, _∙_, ap, subst}
-use mathlib.Core.Logic.{_⊎_, ⊎-elim}
+use mathlib.Core.Logic.{⊎-elim}
 use Prim.Native.Nat.{ℕ, zero, suc, _+_, _-_, _≤_, _<_}
 use mathlib.Core.Bool.{Bool, true, false, _&&_, _||_, not, true≢false, false≢true}
 use mathlib.Core.Option.{Option}
@@ -21,12 +21,14 @@ use Rattle.cycle.specs.Held.{lastOf, cycleBucket}
 use Rattle.cycle.proofs.Sequence.{dataCount}
 use Rattle.cycle.proofs.DataTags.{Laid, Filled, filled, lines-rise, last-tag}
 use Rattle.cycle.proofs.Pieces.{count-append}
+use Rattle.cycle.proofs.Distances.{First, first-or-none}
+use Rattle.cycle.proofs.DataOnce.{follow-none, follow-hit}
 use Rattle.listener.specs.Listener.{dozes, finds, misses, choice, bodyChoice, dataChoice, lastIs, matching, before, letterAwaited}
 use Rattle.listener.specs.Hearing.{found}
 use Rattle.listener.specs.declared.Phase.{Phase}
 use Rattle.listener.specs.declared.Phase.the-variants.{TuneIn, Index, Either, Data, Ended}
 use Rattle.listener.proofs.DataLines.{linesFrom, runsFrom, lines-next, runs-hold, last-from, holds-first, Stops, stops-over, stops-end, stops-break}
-use Rattle.listener.proofs.Places.{First, first-or-none, count-data}
+use Rattle.listener.proofs.Places.{count-data}
 use Rattle.listener.proofs.Walk.{finds-here, awake, linesAt}
 use Rattle.listener.proofs.Ways.{Spot, here, sentTo, here-below, WalkOn, further, further-sent, hop-within, walk-as, body-here}
 use Rattle.listener.proofs.TagRuns.{holds, matching-none, matching-some, matching-run}
@@ -60,38 +62,6 @@ module _ (tag f : ℕ) (ls : List Line) where
       dataChoice tag f ls ≡ dozes f Data (before tag ls) (length (matching tag ls))
   unfolding dataChoice
   data-follows h l n = rw (some-length (matching tag ls) (matching-some tag ls h), l, ne-eqb f 0 n)
-
--- ---- the follow-on
-
-pub follow-none :
-    (t : Plan) (last d : ℕ) (rest : List Slot) → any (isData t) rest ≡ false → followOnFrom t last d rest ≡ 0
-follow-none t last d [] n = refl
-follow-none t last d (x ∷ xs) n = by (isData t x) n (follow-none t last (suc d) xs)
-  where
-    by :
-        (b : Bool) → (b || any (isData t) xs) ≡ false → (any (isData t) xs ≡ false → followOnFrom t last (suc d) xs ≡ 0) →
-        pick b (pick (eqb (firstTag t (x .place)) last) d 0) (followOnFrom t last (suc d) xs) ≡ 0
-    by true n k = absurd (true≢false n)
-    by false n k = k n
-
-pub follow-first :
-    (t : Plan) (last d : ℕ) (skipped : List Slot) (hit : Slot) (behind : List Slot) → any (isData t) skipped ≡ false →
-    isData t hit ≡ true →
-    followOnFrom t last d (skipped ++ (hit ∷ behind)) ≡ pick (eqb (firstTag t (hit .place)) last) (d + length skipped) 0
-follow-first t last d [] hit behind n h =
-    let e : d + 0 ≡ d = omega arith in rw (h, e)
-follow-first t last d (x ∷ xs) hit behind n h = by (isData t x) n (follow-first t last (suc d) xs hit behind)
-  where
-    by :
-        (b : Bool) → (b || any (isData t) xs) ≡ false →
-        (any (isData t) xs ≡ false → isData t hit ≡ true →
-        followOnFrom t last (suc d) (xs ++ (hit ∷ behind)) ≡ pick (eqb (firstTag t (hit .place)) last) (suc d + length xs) 0) →
-        pick b (pick (eqb (firstTag t (x .place)) last) d 0) (followOnFrom t last (suc d) (xs ++ (hit ∷ behind))) ≡
-        pick (eqb (firstTag t (hit .place)) last) (d + suc (length xs)) 0
-    by true n k = absurd (true≢false n)
-    by false n k =
-        let e : suc d + length xs ≡ d + suc (length xs) = omega arith in
-        k n h ∙ ap (λ z. pick (eqb (firstTag t (hit .place)) last) z 0) e
 
 pub count-none : (t : Plan) (xs : List Slot) → any (isData t) xs ≡ false → dataCount t xs ≡ 0
 count-none t [] n = refl
@@ -217,7 +187,7 @@ module _ (t : Plan) (a : Laid t) (tag b : ℕ) (hb : b ≤ cycleSize t) where
       let place : f .hit .place ≡ suc q = hit-place t a s d f in
       let follow : followOnFrom t (lastTag t q) 1 (s .rest) ≡ suc (length (f .skipped)) =
       ap (followOnFrom t (lastTag t q) 1) (f .splits) ∙
-      (follow-first t (lastTag t q) 1 (f .skipped) (f .hit) (f .behind) (f .fresh) (f .is) ∙
+      (follow-hit t (lastTag t q) 1 (f .skipped) (f .hit) (f .behind) (f .fresh) (f .is) ∙
       rw (place, eq-eqb (firstTag t (suc q)) (lastTag t q) (first ∙ sym last)) (omega arith)) in
       walk-as
       (sym (runs-hold t tag q below h))
@@ -261,7 +231,7 @@ module _ (t : Plan) (a : Laid t) (tag b : ℕ) (hb : b ≤ cycleSize t) where
           let other : firstTag t (suc q) ≡ tag → ⊥ = eqb-false (firstTag t (suc q)) tag e in
           let none-follows : follow ≡ 0 =
           ap (followOnFrom t (lastTag t q) 1) (f .splits) ∙
-          (follow-first t (lastTag t q) 1 (f .skipped) (f .hit) (f .behind) (f .fresh) (f .is) ∙
+          (follow-hit t (lastTag t q) 1 (f .skipped) (f .hit) (f .behind) (f .fresh) (f .is) ∙
           rw (hit-place t a s d f, ne-eqb (firstTag t (suc q)) (lastTag t q) (λ z. other (z ∙ l)))) in
           finds-last s d ph w takes h (ends none-follows (eq-eqb (lastTag t q) tag l))
           (stops-break t a tag q (next-below t a s d f) l other)

@@ -33,7 +33,8 @@ use Rattle.listener.specs.declared.Phase.the-variants.{TuneIn}
 use Rattle.listener.specs.declared.Looked.the-variants
 use Rattle.listener.proofs.Walk.{Walk, misses-here, finds-here, hops}
 use Rattle.listener.proofs.Mechanics.{start-awaits}
-use Rattle.listener.proofs.Walked.{Reads, goneBy, finish, Walked, walked}
+use Rattle.listener.proofs.WalkedSteps.{goneBy, finish, Walked}
+use Rattle.listener.proofs.Walked.{Reads, walked}
 use Rattle.listener.proofs.Arrival.{wanted, runs}
 use Rattle.listener.proofs.SegmentStart.{Within}
 use Rattle.listener.proofs.TuneIn.{tunes-in-at}

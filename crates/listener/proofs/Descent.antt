@@ -3,20 +3,22 @@
 -- Assumes nothing.
 use mathlib.Core.Path.{_≡_, refl, sym, _∙_, ap}
 use Prim.Native.Nat.{ℕ, zero, suc, _+_, _-_, _*_, _/_, _^_, _≤_, _<_, min, max}
-use mathlib.Core.Bool.{Bool, true, false, _&&_, false≢true}
+use mathlib.Core.Bool.{true, false}
 use mathlib.Core.List.{List, _++_}
 use native.Mathlib.Nat.{suc-add}
 use native.Mathlib.Numerals.{add-one}
 use native.Mathlib.Omega.{arith}
-use lib.Dec.{ltb, eqb}
+use lib.Dec.{ltb}
 use lib.ListN.{length}
-use borrow.Author.Tests.{eqb-true, eq-eqb, ne-eqb, le-ltb}
+use borrow.Author.Tests.{le-ltb}
 use Rattle.cycle.specs.Tree.{Plan, above, width, children, largestTag}
 use Rattle.cycle.specs.Layouts.{Slot, slots}
 use Rattle.cycle.specs.Cycle.{occurs, toNext, isData, hasPairs, laterPair, entry, entries, cycleSize}
 use Rattle.cycle.specs.Held.{cycleBucket}
 use Rattle.cycle.proofs.Sequence.{IndexKeeps, Comes, placeAbove}
 use Rattle.cycle.proofs.TreeLaws.{above-add, above-suc, above-le, lt-width, children-bounds}
+use Rattle.cycle.proofs.Pieces.{index-slot, data-level}
+use Rattle.cycle.proofs.Occurring.{occurs-is}
 use Rattle.cycle.proofs.DataTags.{Laid}
 use Rattle.listener.specs.Listener.{dozes, choice, tagBelow}
 use Rattle.listener.specs.declared.Phase.{Phase}
@@ -58,28 +60,12 @@ above-width t pos i q h =
 
 -- ---- slots
 
-pub is-data : (t : Plan) (x : Slot) → x .level ≡ t .k + 1 → isData t x ≡ true
-unfolding isData
-is-data t x e = eq-eqb (x .level) (t .k + 1) e
-
-pub is-index : (t : Plan) (x : Slot) → x .level ≤ t .k → isData t x ≡ false
-unfolding isData
-is-index t x h = ne-eqb (x .level) (t .k + 1) (λ e. omega arith)
-
 pub record Is (i j : ℕ) (x : Slot) : Type 0 where
   pub level-is : x .level ≡ i
   pub place-is : x .place ≡ j
 
--- both parts of a test hold
-pub both : (b c : Bool) → (b && c) ≡ true → (b ≡ true) × (c ≡ true)
-both true c e = (refl, e)
-both false c e = absurd (false≢true e)
-
-pub occurs-is : (i j : ℕ) (x : Slot) → occurs i j x ≡ true → Is i j x
-unfolding occurs
-occurs-is i j x h =
-    let b = both (eqb (x .level) i) (eqb (x .place) j) h in
-    record { level-is = eqb-true (x .level) i (b .0); place-is = eqb-true (x .place) j (b .1) }
+pub named : (i j : ℕ) (x : Slot) → occurs i j x ≡ true → Is i j x
+named i j x h = let b = occurs-is i j x h in record { level-is = b .0; place-is = b .1 }
 
 -- the distance to what comes in the rest of the cycle
 pub comes-at :
@@ -100,7 +86,7 @@ landing s c = further s (c .skipped) (c .hit) (c .behind) (c .splits)
 
 pub landing-is : {t : Plan} (s : Spot t) {n q i j : ℕ} (c : Comes t n q i j (s .rest)) → Is i j (landing s c .slot)
 unfolding landing further
-landing-is s {n} {q} {i} {j} c = occurs-is i j (c .hit) (c .is)
+landing-is s {n} {q} {i} {j} c = named i j (c .hit) (c .is)
 
 pub landing-sent :
     {t : Plan} (s : Spot t) {q i j : ℕ} (c : Comes t (sentTo s) q i j (s .rest)) → isData t (s .slot) ≡ false →
@@ -184,7 +170,7 @@ module _ (t : Plan) (a : Laid t) (tag : ℕ) (below : target t tag < t .d) where
       n .slot .place ≡ placeAbove t (n .slot .level) (target t tag) → Leads t tag b (here n) Either (h + max 1 (runs t tag))) →
       Leads t tag b (here s) ph (suc h + max 1 (runs t tag))
   goes-down b hb h s e unsent is ph w takes more =
-      let n : isData t (s .slot) ≡ false = is-index t (s .slot) (omega arith) in
+      let n : isData t (s .slot) ≡ false = index-slot t (s .slot) (omega arith) in
       walk-as (sym (suc-add h (max 1 (runs t tag)))) refl
       (enters b hb s n unsent is ph w takes (h + max 1 (runs t tag))
       (λ c.
@@ -198,7 +184,7 @@ module _ (t : Plan) (a : Laid t) (tag : ℕ) (below : target t tag < t .d) where
       s .slot .place ≡ placeAbove t (s .slot .level) (target t tag) → Leads t tag b (here s) Either (h + max 1 (runs t tag))
   descends b hb zero s e unsent is =
       let l : s .slot .level ≡ t .k + 1 = omega arith in
-      let d : isData t (s .slot) ≡ true = is-data t (s .slot) l in
+      let d : isData t (s .slot) ≡ true = data-level t (s .slot) l in
       let p : s .slot .place ≡ target t tag = is ∙ (ap (λ z. placeAbove t z (target t tag)) l ∙ above-data t (target t tag)) in
       walk-as (omega arith) refl (arrives t a tag b hb s d (sym (place-sent t a s d) ∙ p) Either refl (λ f ls. refl))
   descends b hb (suc h) s e unsent is =

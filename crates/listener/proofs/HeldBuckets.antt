@@ -2,8 +2,8 @@
 -- Assumes nothing.
 use mathlib.Core.Path.{_≡_, refl, sym, _∙_, ap, subst}
 use mathlib.Core.Bool.{true}
-use mathlib.Core.List.{List, [], _∷_, _++_, map}
-use Prim.Native.Nat.{ℕ, _+_, _-_, _≤_}
+use mathlib.Core.List.{List, [], _∷_, map, map-id}
+use Prim.Native.Nat.{ℕ, _-_, _≤_}
 use native.Mathlib.Omega.{arith}
 use lib.ListN
 use lib.ListN.{length, replicate, length-map}
@@ -13,24 +13,11 @@ use Rattle.columns.specs.Lists.{every}
 use Rattle.columns.proofs.Strict.{both}
 use Rattle.buckets.specs.declared.Line.{Line}
 use Rattle.buckets.specs.Bucket.{Pair, Entry, Bucket, pairFits, entryFits}
-use Rattle.buckets.specs.Held.{entriesOf, filled, tagOr0, heldIndex, headOf}
-use Rattle.buckets.proofs.Holding.{length-filled}
+use Rattle.buckets.specs.Held.{filled, tagOr0, heldIndex, headOf}
+use Rattle.buckets.proofs.Holding.{length-filled, entries-of, inNumbers}
 use Rattle.buckets.proofs.Good.{Good, GoodIndex, Reaches, pair-fits, entry-fits}
 use Rattle.listener.specs.OnReading.{held, pairsHeld, entriesHeld, near, SoundHead, SoundIndex, tagged, taggedLines}
 use Rattle.listener.proofs.TagsAlone.{bare}
-
--- a pair's numbers, 0 for a blank tag
-unfoldable pub inNumbers : Pair → Entry
-inNumbers p = record { tag = tagOr0 (p .tag); distance = p .distance }
-
--- two arrays that begin with two lists of the same length
-pub entries-filled :
-    {A : Type 0} (f g : A → ℕ) (u v : List ℕ) (xs : List A) →
-    ListN.take (length xs) (entriesOf (map f xs ++ u) (map g xs ++ v)) ≡
-    map (λ x. record { tag = f x; distance = g x }) xs
-entries-filled f g u v [] = refl
-entries-filled f g u v (x ∷ xs) =
-    ap (λ (r : List Entry). record { tag = f x; distance = g x } ∷ r) (entries-filled f g u v xs)
 
 -- an array that begins with the numbers of few items
 length-held : {A : Type 0} (w : ℕ) (f : A → ℕ) (xs : List A) → length xs ≤ w → length (filled w (map f xs)) ≡ w
@@ -38,25 +25,12 @@ length-held w f xs h = length-filled w (map f xs) (rw (length-map xs f) h)
 
 module _ (ps : List Pair) (es : List Entry) where
   pub pairs-held : pairsHeld (heldIndex ps es) ≡ map inNumbers ps
-  unfolding pairsHeld held heldIndex filled inNumbers
-  pairs-held =
-      entries-filled (λ (p : Pair). tagOr0 (p .tag)) (λ (p : Pair). p .distance)
-      (replicate (4 - length (map (λ (p : Pair). tagOr0 (p .tag)) ps)) 0)
-      (replicate (4 - length (map (λ (p : Pair). p .distance) ps)) 0)
-      ps
+  unfolding pairsHeld held heldIndex filled
+  pairs-held = entries-of (λ (p : Pair). tagOr0 (p .tag)) (λ (p : Pair). p .distance) ps _ _
 
   pub entries-held : entriesHeld (heldIndex ps es) ≡ es
   unfolding entriesHeld held heldIndex filled
-  entries-held =
-      entries-filled (λ (e : Entry). e .tag) (λ (e : Entry). e .distance)
-      (replicate (8 - length (map (λ (e : Entry). e .tag) es)) 0)
-      (replicate (8 - length (map (λ (e : Entry). e .distance) es)) 0)
-      es ∙
-      alike es
-    where
-      alike : (xs : List Entry) → map (λ (e : Entry). record { tag = e .tag; distance = e .distance }) xs ≡ xs
-      alike [] = refl
-      alike (x ∷ xs) = ap (λ (r : List Entry). x ∷ r) (alike xs)
+  entries-held = entries-of (λ (e : Entry). e .tag) (λ (e : Entry). e .distance) es _ _ ∙ map-id es
 
 -- the lines that are held are those that were read, by their tags
 pub lines-held : (ls : List Line) → taggedLines (length ls) (filled 8 (map (λ l. l .tag) ls)) ≡ bare ls
@@ -77,7 +51,6 @@ near-distance n e h r = rw (le-leb 1 (e .distance) (r .onward), le-leb (e .dista
 
 module _ (n : ℕ) (h : n ≤ 99999) where
   near-pairs : (ps : List Pair) → every (pairFits n) ps ≡ true → every near (map inNumbers ps) ≡ true
-  unfolding inNumbers
   near-pairs [] k = refl
   near-pairs (p ∷ ps) k =
       let b = both (pairFits n p) (every (pairFits n) ps) k in

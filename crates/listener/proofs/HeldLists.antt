@@ -1,7 +1,7 @@
 -- Lists that arrays hold, element by element: the entries that two arrays hold together, and lines known by their tags.
 -- Assumes nothing.
 use mathlib.Core.Path.{_≡_, refl, _∙_, ap}
-use mathlib.Core.Bool.{Bool, true}
+use mathlib.Core.Bool.{Bool}
 use mathlib.Core.List.{List, [], _∷_, map}
 use Prim.Native.Nat.{ℕ, zero, suc, _+_, _≤_, _<_}
 use native.Mathlib.Numerals.{add-one}
@@ -9,12 +9,12 @@ use native.Mathlib.Omega.{arith}
 use borrow.Author.Tests.{eq-eqb, ne-eqb}
 use lib.Dec.{leb}
 use lib.ListN.{length, take, drop, getD, length-take, length-map, drop-of-length-le, List·getD-map}
-use lib.Seq.{drop-nil, drop-cons, getD-take, length-take-le}
-use Rattle.columns.specs.Lists.{pick, every}
-use Rattle.columns.proofs.Strict.{both}
+use lib.Seq.{drop-cons, getD-take, length-take-le}
+use Rattle.columns.specs.Lists.{pick}
 use Rattle.buckets.specs.declared.Index.{Index}
 use Rattle.buckets.specs.Bucket.{Entry}
 use Rattle.buckets.specs.Held.{entriesOf}
+use Rattle.buckets.proofs.Fronts.{length-entries}
 use Rattle.listener.specs.Listener.{before, matching}
 use Rattle.listener.specs.OnReading.{held, pairsHeld, chosen, firstChosen, SoundIndex, tagged, taggedLines}
 
@@ -24,20 +24,7 @@ entry t d = record { tag = t; distance = d }
 pub next {ℓ} : {A : Type ℓ} (xs : List A) (i : ℕ) (d : A) → i < length xs → drop i xs ≡ getD xs i d ∷ drop (i + 1) xs
 next xs i d h = rw (add-one, drop-cons xs i d h)
 
-pub every-drop {ℓ} : {A : Type ℓ} (f : A → Bool) (i : ℕ) (xs : List A) → every f xs ≡ true → every f (drop i xs) ≡ true
-every-drop f i [] h = rw (drop-nil i)
-every-drop f zero (x ∷ xs) h = h
-every-drop f (suc i) (x ∷ xs) h = every-drop f i xs (both (f x) (every f xs) h .1)
-
 -- ---- entries
-
-pub length-entries : (n : ℕ) (ts ds : List ℕ) → n ≤ length ts → n ≤ length ds → n ≤ length (entriesOf ts ds)
-length-entries zero ts ds h g = omega arith
-length-entries (suc n) [] ds h g = omega arith
-length-entries (suc n) (t ∷ ts) [] h g = omega arith
-length-entries (suc n) (t ∷ ts) (d ∷ ds) h g =
-    let r : n ≤ length (entriesOf ts ds) = length-entries n ts ds (omega arith) (omega arith) in
-    omega arith
 
 pub entry-at :
     (i : ℕ) (ts ds : List ℕ) → i < length ts → i < length ds →
@@ -55,8 +42,7 @@ module _ (f : Entry → Bool) (ts ds : List ℕ) (n i : ℕ) where
       pick (f (entry (getD ts i 0) (getD ds i 0))) (getD ds i 0) (chosen f (drop (i + 1) (held n ts ds)))
   unfolding entry held
   chosen-more h g k =
-      let l : length (take n (entriesOf ts ds)) ≡ n =
-      length-take-le n (entriesOf ts ds) (length-entries n ts ds g k) in
+      let l : length (take n (entriesOf ts ds)) ≡ n = length-entries ts ds n g k in
       let e : getD (take n (entriesOf ts ds)) i (entry 0 0) ≡ entry (getD ts i 0) (getD ds i 0) =
       getD-take n (entriesOf ts ds) i (entry 0 0) h ∙ entry-at i ts ds (omega arith) (omega arith) in
       rw (next (take n (entriesOf ts ds)) i (entry 0 0) (omega arith), e)
@@ -73,8 +59,7 @@ module _ (tag : ℕ) (blank : Bool) (ts ds : List ℕ) where
       firstChosen tag blank (held n ts ds) ≡ pick blank 0 (pick (leb tag (getD ts 0 0)) (getD ds 0 0) 0)
   unfolding entry held
   first-entry n h g k =
-      let l : length (take n (entriesOf ts ds)) ≡ n =
-      length-take-le n (entriesOf ts ds) (length-entries n ts ds g k) in
+      let l : length (take n (entriesOf ts ds)) ≡ n = length-entries ts ds n g k in
       let e : getD (take n (entriesOf ts ds)) 0 (entry 0 0) ≡ entry (getD ts 0 0) (getD ds 0 0) =
       getD-take n (entriesOf ts ds) 0 (entry 0 0) h ∙ entry-at 0 ts ds (omega arith) (omega arith) in
       ap (firstChosen tag blank) (next (take n (entriesOf ts ds)) 0 (entry 0 0) (omega arith)) ∙ rw e

@@ -2,6 +2,7 @@
 pub mod SampleYard
 pub mod Walk
 pub mod Mechanics
+pub mod WalkedSteps
 pub mod Walked
 pub mod TagRuns
 pub mod Target
@@ -12,6 +13,7 @@ pub mod DataRun
 pub mod Arrival
 pub mod IndexTells
 pub mod Descent
+pub mod Roots
 pub mod SegmentStart
 pub mod TuneIn
 pub mod Images

@@ -2,7 +2,7 @@
 -- counts and the place awaited move on.
 -- Assumes nothing.
 use mathlib.Core.Path.{_≡_, refl, sym, _∙_, ap, ap₂}
-use Prim.Native.Nat.{ℕ, _+_, _-_, _*_, _%_, _≤_, _<_}
+use Prim.Native.Nat.{ℕ, _+_, _*_, _%_, _≤_, _<_}
 use mathlib.Core.Bool.{true, false, false≢true}
 use mathlib.Core.Option.{some}
 use mathlib.Core.List.{List}

@@ -10,7 +10,7 @@ use Rattle.buckets.specs.declared.Kind.the-variants
 use Rattle.buckets.specs.declared.Reading.{Reading}
 use Rattle.buckets.specs.Bucket.{Body, indexBody, dataBody, Bucket, good, readBucket}
 use Rattle.buckets.specs.Held.{indexOf, bucketWith, headOf, asReading}
-use Rattle.buckets.proofs.Holding.{index-of-held}
+use Rattle.buckets.proofs.Holding.{index-held}
 use Rattle.buckets.proofs.Good.{bucket-good}
 use Rattle.buckets.proofs.Buckets.{print-of-read-bucket}
 use Rattle.listener.specs.Listener.{take, takeRead}
@@ -47,7 +47,7 @@ module _ (p c g : ℕ) where
       record {
         head = sound-head (bucket (indexBody ps es)) b;
         index = sound-index (p + c) (b .short-cycle) ps es (b .good-rest);
-        is = λ s. ap (λ x. take s (bucket x)) (index-of-held ps es (b .good-rest .later-printed));
+        is = λ s. ap (λ x. take s (bucket x)) (index-held ps es (b .good-rest .later-printed));
       }
   index-of (dataBody f ls) k e = let z : _≡_ {A = ℕ} 0 1 = cc in absurd (omega arith)
 

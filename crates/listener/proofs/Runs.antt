@@ -1,12 +1,13 @@
 -- A lookup's run, bucket by bucket: what is left of it, and that the lines got only grow.
 -- Assumes nothing.
 use mathlib.Core.Path.{_≡_, refl, sym, _∙_, ap, subst}
-use mathlib.Core.List.{List, [], _∷_, _++_}
+use mathlib.Core.List.{List, [], _++_}
 use Prim.Native.Nat.{ℕ, zero, suc, _+_, _-_, _*_, _≤_, _<_, _%_}
 use native.Mathlib.Omega.{arith}
 use native.Mathlib.Nat.{mod-lt}
 use lib.ListN.{length, length-append}
 use Rattle.buckets.specs.declared.Line.{Line}
+use Rattle.cycle.proofs.Children.{nil-of}
 use Rattle.listener.specs.Listener.{start, step, named}
 use Rattle.listener.specs.Hearing.{bucketAt}
 use Rattle.listener.specs.Lookup.{Finish, found, refused, afterAnswer, run}
@@ -53,10 +54,6 @@ module _ (image : List ℕ) (count : ℕ) where
   -- the rest of a run, at the bucket heard that it starts from
   unfoldable pub at-heard : {h : Heard} → WasHeard image count h → SoFar image count (runOn image count h []) h 0
   at-heard w = record { heard = w; got = []; counted = refl; rest = refl; few = omega (arith, w .few) }
-
-none-got : (got : List Line) → length got ≡ 0 → got ≡ []
-none-got [] e = refl
-none-got (l ∷ ls) e = absurd (omega arith)
 
 module _ {image : List ℕ} {count : ℕ} {goal : Finish} {h : Heard} {lines : ℕ} (f : SoFar image count goal h lines) where
   -- the lines got with this bucket
@@ -121,7 +118,7 @@ module _ {image : List ℕ} {count : ℕ} {goal : Finish} {h : Heard} (f : SoFar
       rw next (subst (SoFar image count goal (heardNext image count h d)) none (onward f d k more))
 
   pub sought : WasHeard image count h × (goal ≡ runOn image count h [])
-  sought = (f .heard, f .rest ∙ ap (runOn image count h) (none-got (f .got) (f .counted)))
+  sought = (f .heard, f .rest ∙ ap (runOn image count h) (nil-of (f .got) (f .counted)))
 
 -- ---- the lines got only grow
 

@@ -1,38 +1,38 @@
--- From the start of a segment, or of a cycle: down to the target, round to the next cycle where the target was sent, or to a
--- root where the tag is above the whole list.
+-- From the start of a segment: down to the target, round to the next cycle where the target was sent, or to a root where the
+-- tag is above the whole list.
 -- Assumes nothing.
 use mathlib.Core.Path.{_≡_, refl, sym, _∙_, ap, subst}
-use mathlib.Core.Logic.{_⊎_, ⊎-elim}
-use Prim.Native.Nat.{ℕ, suc, _+_, _-_, _*_, _≤_, _<_, min, max}
+use mathlib.Core.Logic.{⊎-elim}
+use Prim.Native.Nat.{ℕ, suc, _+_, _-_, _≤_, _<_, max}
 use mathlib.Core.Bool.{Bool, true, false}
-use mathlib.Core.List.{List, [], _∷_, _++_, map}
-use native.Mathlib.Nat.{one-mul}
-use native.Mathlib.Numerals.{add-one}
+use mathlib.Core.List.{List, _++_, map}
 use native.Mathlib.Omega.{arith}
 use lib.Dec.{ltb}
-use lib.ListN.{length, length-append}
+use lib.ListN.{length}
 use borrow.Author.Tests.{ltb-true, ltb-false}
 use Rattle.columns.specs.Lists.{any, span}
 use Rattle.buckets.specs.Bucket.{Entry}
-use Rattle.cycle.specs.Tree.{Plan, above, width, children}
+use Rattle.cycle.specs.Tree.{Plan, above}
 use Rattle.cycle.specs.Layouts.{Slot, slots}
-use Rattle.cycle.specs.Cycle.{distanceTo, occurs, toNext, isData, hasPairs, laterPair, entry, entries, cycleSize}
+use Rattle.cycle.specs.Cycle.{occurs, toNext, isData, hasPairs, laterPair, entries, cycleSize}
 use Rattle.cycle.specs.Held.{lastOf, cycleBucket}
-use Rattle.cycle.proofs.Sequence.{IndexKeeps, Comes, dataCount, placeAbove}
+use Rattle.cycle.proofs.Sequence.{IndexKeeps, Comes, placeAbove}
 use Rattle.cycle.proofs.Ranges.{le-or-lt}
-use Rattle.cycle.proofs.TreeLaws.{above-mono, lt-above}
+use Rattle.cycle.proofs.TreeLaws.{above-mono}
 use Rattle.cycle.proofs.DataTags.{Laid}
-use Rattle.cycle.proofs.Pieces.{count-append}
+use Rattle.cycle.proofs.Distances.{First, first-or-none}
+use Rattle.cycle.proofs.Occurring.{root-above}
 use Rattle.listener.specs.Listener.{dozes, choice, laterChoice, tagBelow}
 use Rattle.listener.specs.declared.Phase.{Phase}
 use Rattle.listener.specs.declared.Phase.the-variants.{Index}
-use Rattle.listener.proofs.Target.{target, target-le, pair-test, over-entry, over-pair}
-use Rattle.listener.proofs.Places.{First, first-or-none, distance-within, distance-hit}
-use Rattle.listener.proofs.Walk.{misses-here, linesAt}
-use Rattle.listener.proofs.Ways.{Spot, here, sentTo, here-below, further, hop-within, hop-round, walk-as}
-use Rattle.listener.proofs.Arrival.{runs, Leads, wanted-over}
-use Rattle.listener.proofs.IndexTells.{entry-none, later-first, Below, first-quiet, first-fires, pairs-first, pairs-later, index-heard, index-choice, entry-choice}
-use Rattle.listener.proofs.Descent.{above-of, above-width, is-index, Is, occurs-is, comes-at, index-keeps, landing, landing-is, landing-sent, descends-from}
+use Rattle.listener.proofs.Target.{target, target-le, pair-test, over-pair}
+use Rattle.listener.proofs.Places.{distance-within}
+use Rattle.listener.proofs.Walk.{linesAt}
+use Rattle.listener.proofs.Ways.{Spot, here, sentTo, here-below, further, hop-within, hop-round}
+use Rattle.listener.proofs.Arrival.{runs, Leads}
+use Rattle.listener.proofs.IndexTells.{later-first, Below, first-quiet, first-fires, pairs-first, pairs-later, index-heard, index-choice}
+use Rattle.listener.proofs.Descent.{above-of, above-width, Is, named, comes-at, index-keeps, landing, landing-is, landing-sent, descends-from}
+use Rattle.listener.proofs.Roots.{rest-length, root, root-here, root-is, sent-le, root-occurs, to-root, from-root, over-root}
 
 -- a walk of a number of steps up to a bound
 pub record Within (t : Plan) (tag b x : ℕ) (ph : Phase) (bound : ℕ) : Type 0 where
@@ -46,286 +46,211 @@ pub further-level :
 unfolding further
 further-level s r e = e
 
-pub rest-length : {t : Plan} (s : Spot t) → here s + suc (length (s .rest)) ≡ cycleSize t
-unfolding here cycleSize
-rest-length {t} s = sym (ap length (s .splits) ∙ length-append (s .before) (s .slot ∷ s .rest))
+module _ (t : Plan) (a : Laid t) (tag : ℕ) (s : Spot t) (n : isData t (s .slot) ≡ false) (p : hasPairs t (s .slot) ≡ true) where
+  -- the target was sent: round to the next cycle
+  pub goes-round : target t tag < sentTo s → Leads t tag 0 (here s) Index (suc (t .k + max 1 (runs t tag)))
+  unfolding linesAt
+  goes-round sent =
+      let b : here s < cycleSize t = here-below s in
+      hop-round s tag (cycleSize t - here s) 0 0 (index-heard t a s n Index (λ ps es. refl))
+      (index-choice t a s n Index tag refl ∙
+      pairs-first t (s .rest ++ slots t) (lastOf t (sentTo s)) (cycleSize t - here s) (s .slot) tag
+      (entries t (s .rest ++ slots t) (s .slot)) p (first-fires t a tag (sentTo s) sent (sent-le t a s)))
+      refl (omega arith)
+      (from-root t a tag (omega (arith, sent-le t a s)) (cycleSize t) (omega arith))
 
-module _ (t : Plan) (a : Laid t) where
-  -- ---- the root
+  -- else a later pair or an entry is followed
+  pub later-choice :
+      sentTo s ≤ target t tag →
+      choice Index tag (cycleBucket t (here s)) ≡
+      laterChoice tag (map (laterPair t (s .rest ++ slots t) (s .slot)) (span 2 (s .slot .level + 1 - 2)))
+      (entries t (s .rest ++ slots t) (s .slot))
+  later-choice unsent =
+      index-choice t a s n Index tag refl ∙
+      pairs-later t (s .rest ++ slots t) (lastOf t (sentTo s)) (cycleSize t - here s) (s .slot) tag
+      (entries t (s .rest ++ slots t) (s .slot)) p (first-quiet t tag (sentTo s) unsent)
 
-  unfoldable pub root : Spot t
-  root =
-      record { before = []; slot = record { level = 1; place = 0; starts = true }; rest = a .keeps .tail; splits = a .keeps .root-first }
+  -- the bucket of level h above this one
+  pub anc : ℕ → ℕ
+  anc h = above (t .n) (s .slot .level - h) (s .slot .place)
 
-  pub root-here : here root ≡ 0
-  unfolding here root
-  root-here = refl
+  module _ (below : target t tag < t .d) (unsent : sentTo s ≤ target t tag) where
+    k : IndexKeeps t (s .before) (s .slot) (s .rest)
+    k = index-keeps t a s n
 
-  pub root-sent : sentTo root ≡ 0
-  unfolding sentTo root
-  root-sent = refl
+    pub anc-left : (h : ℕ) → h ≤ s .slot .level → anc h ≤ placeAbove t h (target t tag)
+    unfolding anc sentTo
+    anc-left h l =
+        subst (λ z. anc h ≤ z) (above-of t (s .slot .level) h (target t tag) l (omega (arith, k .high)))
+        (above-mono (t .n) (s .slot .level - h) (omega (arith, a .sound .grows)) (s .slot .place)
+        (placeAbove t (s .slot .level) (target t tag)) (k .left-of p (target t tag) below unsent))
 
-  pub root-is : Is 1 0 (root .slot)
-  unfolding root
-  root-is = record { level-is = refl; place-is = refl }
+    -- its tag is below ours if it is before the target's bucket
+    pub anc-test :
+        (h : ℕ) → h ≤ s .slot .level →
+        tagBelow (laterPair t (s .rest ++ slots t) (s .slot) h .tag) tag ≡ ltb (anc h) (placeAbove t h (target t tag))
+    unfolding anc laterPair
+    anc-test h l =
+        pair-test t a tag h (anc h) below (omega (arith, k .high))
+        (omega (arith, anc-left h l, above-width t (omega (arith, a .sound .grows)) h (target t tag) below))
 
-  -- the root is above every data bucket
-  pub root-above : (q : ℕ) → q < t .d → placeAbove t 1 q ≡ 0
-  unfolding placeAbove
-  root-above q h =
-      let e : t .k + 1 - 1 ≡ t .k = omega arith in
-      let l : above (t .n) (t .k) q < 1 =
-      lt-above (t .n) (t .k) (omega (arith, a .sound .grows)) 1 q (rw one-mul (omega (arith, a .sound .holds))) in
-      rw e (omega arith)
+    -- if it is not, it is the target's bucket
+    pub anc-same :
+        (h : ℕ) → h ≤ s .slot .level →
+        tagBelow (laterPair t (s .rest ++ slots t) (s .slot) h .tag) tag ≡ false → anc h ≡ placeAbove t h (target t tag)
+    anc-same h l e =
+        omega (arith, anc-left h l, ltb-false (anc h) (placeAbove t h (target t tag)) (sym (anc-test h l) ∙ e))
 
-  pub sent-le : (s : Spot t) → sentTo s ≤ t .d
-  unfolding sentTo
-  sent-le s =
-      omega (arith, count-append t (s .before) (s .slot ∷ s .rest), ap (dataCount t) (s .splits), a .keeps .all-sent)
+    pub anc-root : anc 1 ≡ placeAbove t 1 (target t tag)
+    unfolding anc
+    anc-root = k .rooted ∙ sym (root-above t (a .sound) (a .keeps) (target t tag) below)
 
-  pub root-occurs : occurs 1 0 (record { level = 1; place = 0; starts = true }) ≡ true
-  unfolding occurs
-  root-occurs = refl
+    -- no pair up to level h is below our tag: the target is under the bucket above
+    pub anc-up :
+        (h : ℕ) → 1 ≤ h → h ≤ s .slot .level →
+        (2 ≤ h → tagBelow (laterPair t (s .rest ++ slots t) (s .slot) h .tag) tag ≡ false) →
+        anc h ≡ placeAbove t h (target t tag)
+    anc-up h low high quiet =
+        ⊎-elim
+        (λ (l : 2 ≤ h). anc-same h high (quiet l))
+        (λ (l : h < 2).
+        let e : h ≡ 1 = omega arith in
+        subst (λ z. anc z ≡ placeAbove t z (target t tag)) (sym e) anc-root)
+        (le-or-lt 2 h)
 
-  -- from a bucket that passes no more in this cycle to the next cycle's first
-  pub to-root :
-      (f : Slot → Bool) (rest : List Slot) → any f rest ≡ false → f (record { level = 1; place = 0; starts = true }) ≡ true →
-      distanceTo f (rest ++ slots t) ≡ suc (length rest)
-  to-root f rest none-left is =
-      ap (λ z. distanceTo f (rest ++ z)) (a .keeps .root-first) ∙
-      distance-hit f rest (record { level = 1; place = 0; starts = true }) (a .keeps .tail) none-left is
+    pub anc-self : anc (s .slot .level) ≡ s .slot .place
+    unfolding anc
+    anc-self = let e : s .slot .level - s .slot .level ≡ 0 = omega arith in ap (λ z. above (t .n) z (s .slot .place)) e
 
-  module _ (tag : ℕ) where
-    -- from the cycle's first bucket down
-    pub from-root : target t tag < t .d → (b : ℕ) → b ≤ cycleSize t → Leads t tag b 0 Index (t .k + max 1 (runs t tag))
-    from-root below b hb =
-        let r : Is 1 0 (root .slot) = root-is in
-        subst (λ x. Leads t tag b x Index (t .k + max 1 (runs t tag))) root-here
-        (walk-as (omega arith) refl
-        (descends-from t a tag below b hb root (omega (arith, a .sound .levelled)) (omega (arith, root-sent))
-        (r .place-is ∙ (sym (root-above (target t tag) below) ∙ ap (λ z. placeAbove t z (target t tag)) (sym (r .level-is))))))
+    -- pair h + 1 is followed: back to the bucket of level h above, which is above the target
+    pub follows-pair :
+        (h : ℕ) → 1 ≤ h → h < s .slot .level → anc h ≡ placeAbove t h (target t tag) →
+        (anc (h + 1) ≡ placeAbove t (h + 1) (target t tag) → ⊥) →
+        choice Index tag (cycleBucket t (here s)) ≡
+        dozes (laterPair t (s .rest ++ slots t) (s .slot) (h + 1) .distance) Index 0 0 →
+        Leads t tag 0 (here s) Index (suc (t .k + 1 - h + max 1 (runs t tag)))
+    unfolding laterPair anc landing linesAt sentTo
+    follows-pair h low high same other c =
+        let q : ℕ = target t tag in
+        let w : Comes t (sentTo s) q h (placeAbove t h q) (s .rest) = k .again p q below unsent h low high same other in
+        let l : Is h (placeAbove t h q) (landing s w .slot) = landing-is s w in
+        let one : h + 1 - 1 ≡ h = omega arith in
+        let far : toNext (s .rest ++ slots t) (h + 1 - 1) (above (t .n) (s .slot .level - (h + 1 - 1)) (s .slot .place)) ≡ suc (length (w .skipped)) =
+        rw (one, same) (comes-at t (sentTo s) q h (placeAbove t h q) (s .rest) (slots t) w) in
+        hop-within s (w .skipped) (w .hit) (w .behind) (w .splits) tag 0 0 0 (omega arith)
+        (index-heard t a s n Index (λ ps es. refl)) (c ∙ ap (λ z. dozes z Index 0 0) far) refl
+        (subst (λ z. Leads t tag 0 (here (landing s w)) Index (t .k + 1 - z + max 1 (runs t tag))) (l .level-is)
+        (descends-from t a tag below 0 (omega arith) (landing s w) (omega (arith, l .level-is, k .high)) (landing-sent s w n)
+        (l .place-is ∙ ap (λ z. placeAbove t z q) (sym (l .level-is)))))
 
-    -- a root, for a tag above the whole list
-    pub over-root :
-        target t tag ≡ t .d → (b : ℕ) → b ≤ cycleSize t → (s : Spot t) → s .slot .level ≡ 1 → Leads t tag b (here s) Index 1
-    unfolding entries entry children
-    over-root e b hb s l =
-        let i : ℕ = s .slot .level in
-        let j : ℕ = s .slot .place in
-        let n : isData t (s .slot) ≡ false = is-index t (s .slot) (omega (arith, a .sound .levelled)) in
-        rw (wanted-over t a tag e)
-        (misses-here hb (here-below s) (index-heard t a s n Index (λ ps es. refl))
-        (entry-choice t a s n Index tag refl (rw e (sent-le s)) (λ h p u v. absurd (omega arith)) ∙
-        entry-none tag (entry t (s .rest ++ slots t) (i + 1)) (j * t .n) (min (j * t .n + t .n) (width t (suc i)) - j * t .n)
-        (λ c u v. over-entry t a tag (i + 1) c e (omega (arith, a .sound .levelled)) (rw (add-one i) (omega arith)))))
+    -- the target is unsent
+    pub seeks : Within t tag 0 (here s) Index (1 + t .k + max 1 (runs t tag))
+    seeks = ⊎-elim turns stays (later-first tag (laterPair t (s .rest ++ slots t) (s .slot)) es 2 (s .slot .level + 1 - 2))
+      where
+        q : ℕ
+        q = target t tag
 
-    -- ---- a bucket with control pairs
+        i : ℕ
+        i = s .slot .level
 
-    module _ (s : Spot t) (n : isData t (s .slot) ≡ false) (p : hasPairs t (s .slot) ≡ true) where
-      -- the target was sent: round to the next cycle
-      pub goes-round : target t tag < sentTo s → Leads t tag 0 (here s) Index (suc (t .k + max 1 (runs t tag)))
-      unfolding linesAt
-      goes-round sent =
-          let b : here s < cycleSize t = here-below s in
-          hop-round s tag (cycleSize t - here s) 0 0 (index-heard t a s n Index (λ ps es. refl))
-          (index-choice t a s n Index tag refl ∙
-          pairs-first t (s .rest ++ slots t) (lastOf t (sentTo s)) (cycleSize t - here s) (s .slot) tag
-          (entries t (s .rest ++ slots t) (s .slot)) p (first-fires t a tag (sentTo s) sent (sent-le s)))
-          refl (omega arith)
-          (from-root (omega (arith, sent-le s)) (cycleSize t) (omega arith))
+        es : List Entry
+        es = entries t (s .rest ++ slots t) (s .slot)
 
-      -- else a later pair or an entry is followed
-      pub later-choice :
-          sentTo s ≤ target t tag →
-          choice Index tag (cycleBucket t (here s)) ≡
-          laterChoice tag (map (laterPair t (s .rest ++ slots t) (s .slot)) (span 2 (s .slot .level + 1 - 2)))
-          (entries t (s .rest ++ slots t) (s .slot))
-      later-choice unsent =
-          index-choice t a s n Index tag refl ∙
-          pairs-later t (s .rest ++ slots t) (lastOf t (sentTo s)) (cycleSize t - here s) (s .slot) tag
-          (entries t (s .rest ++ slots t) (s .slot)) p (first-quiet t tag (sentTo s) unsent)
+        turns : Below tag (laterPair t (s .rest ++ slots t) (s .slot)) es 2 (i + 1 - 2) → Within t tag 0 (here s) Index (1 + t .k + max 1 (runs t tag))
+        turns r =
+            let h : ℕ = r .pair - 1 in
+            let e : r .pair ≡ h + 1 = omega (arith, r .low) in
+            let l : h + 1 ≤ i = omega (arith, r .high, r .low) in
+            let before : ltb (anc (h + 1)) (placeAbove t (h + 1) q) ≡ true =
+            sym (anc-test (h + 1) l) ∙
+            (ap (λ z. tagBelow (laterPair t (s .rest ++ slots t) (s .slot) z .tag) tag) (sym e) ∙ r .below) in
+            let away : anc (h + 1) < placeAbove t (h + 1) q = ltb-true (anc (h + 1)) (placeAbove t (h + 1) q) before in
+            record {
+              steps = suc (t .k + 1 - h + max 1 (runs t tag));
+              most = omega (arith, r .low, k .high);
+              walk =
+                  follows-pair h (omega (arith, r .low)) (omega arith) (anc-up h (omega (arith, r .low)) (omega arith) (λ u. r .others h u (omega arith)))
+                  (λ z. omega arith)
+                  (later-choice unsent ∙
+                  (r .chosen ∙ ap (λ z. dozes (laterPair t (s .rest ++ slots t) (s .slot) z .distance) Index 0 0) e));
+            }
 
-      -- the bucket of level h above this one
-      pub anc : ℕ → ℕ
-      anc h = above (t .n) (s .slot .level - h) (s .slot .place)
+        stays :
+            ((j : ℕ) → 2 ≤ j → j < 2 + (i + 1 - 2) → tagBelow (laterPair t (s .rest ++ slots t) (s .slot) j .tag) tag ≡ false) →
+            Within t tag 0 (here s) Index (1 + t .k + max 1 (runs t tag))
+        stays none-below =
+            record {
+              steps = t .k + 1 - i + max 1 (runs t tag);
+              most = omega arith;
+              walk =
+                  descends-from t a tag below 0 (omega arith) s (k .high) unsent
+                  (sym anc-self ∙ anc-up i (k .low) (omega arith) (λ u. none-below i u (omega arith)));
+            }
 
-      module _ (below : target t tag < t .d) (unsent : sentTo s ≤ target t tag) where
-        k : IndexKeeps t (s .before) (s .slot) (s .rest)
-        k = index-keeps t a s n
+  -- pair 2 is followed: to a root, of this cycle or the next
+  pub follows-root :
+      target t tag ≡ t .d → choice Index tag (cycleBucket t (here s)) ≡ dozes (toNext (s .rest ++ slots t) 1 0) Index 0 0 →
+      Leads t tag 0 (here s) Index 2
+  unfolding toNext linesAt
+  follows-root e c = ⊎-elim within round (first-or-none (occurs 1 0) (s .rest))
+    where
+      within : First (occurs 1 0) (s .rest) → Leads t tag 0 (here s) Index 2
+      within f =
+          let l : Is 1 0 (f .hit) = named 1 0 (f .hit) (f .is) in
+          hop-within s (f .skipped) (f .hit) (f .behind) (f .splits) tag 0 0 0 (omega arith)
+          (index-heard t a s n Index (λ ps es. refl))
+          (c ∙
+          ap (λ z. dozes z Index 0 0)
+          (distance-within (occurs 1 0) (s .rest) (f .skipped) (f .hit) (f .behind) (slots t) (f .splits) (f .fresh) (f .is)))
+          refl
+          (over-root t a tag e 0 (omega arith) (further s (f .skipped) (f .hit) (f .behind) (f .splits)) (further-level s f (l .level-is)))
 
-        pub anc-left : (h : ℕ) → h ≤ s .slot .level → anc h ≤ placeAbove t h (target t tag)
-        unfolding anc sentTo
-        anc-left h l =
-            subst (λ z. anc h ≤ z) (above-of t (s .slot .level) h (target t tag) l (omega (arith, k .high)))
-            (above-mono (t .n) (s .slot .level - h) (omega (arith, a .sound .grows)) (s .slot .place)
-            (placeAbove t (s .slot .level) (target t tag)) (k .left-of p (target t tag) below unsent))
+      round : any (occurs 1 0) (s .rest) ≡ false → Leads t tag 0 (here s) Index 2
+      round none-left =
+          hop-round s tag (suc (length (s .rest))) 0 0 (index-heard t a s n Index (λ ps es. refl))
+          (c ∙ ap (λ z. dozes z Index 0 0) (to-root t a (occurs 1 0) (s .rest) none-left root-occurs))
+          refl (rest-length s)
+          (subst (λ x. Leads t tag (cycleSize t) x Index 1) (root-here t a)
+          (over-root t a tag e (cycleSize t) (omega arith) (root t a) (root-is t a .level-is)))
 
-        -- its tag is below ours if it is before the target's bucket
-        pub anc-test :
-            (h : ℕ) → h ≤ s .slot .level →
-            tagBelow (laterPair t (s .rest ++ slots t) (s .slot) h .tag) tag ≡ ltb (anc h) (placeAbove t h (target t tag))
-        unfolding anc laterPair
-        anc-test h l =
-            pair-test t a tag h (anc h) below (omega (arith, k .high))
-            (omega (arith, anc-left h l, above-width t (omega (arith, a .sound .grows)) h (target t tag) below))
+  -- a tag above the whole list
+  pub over : target t tag ≡ t .d → Within t tag 0 (here s) Index (1 + t .k + max 1 (runs t tag))
+  unfolding laterPair
+  over e = ⊎-elim at-root below-root (le-or-lt i 1)
+    where
+      i : ℕ
+      i = s .slot .level
 
-        -- if it is not, it is the target's bucket
-        pub anc-same :
-            (h : ℕ) → h ≤ s .slot .level →
-            tagBelow (laterPair t (s .rest ++ slots t) (s .slot) h .tag) tag ≡ false → anc h ≡ placeAbove t h (target t tag)
-        anc-same h l e =
-            omega (arith, anc-left h l, ltb-false (anc h) (placeAbove t h (target t tag)) (sym (anc-test h l) ∙ e))
+      k : IndexKeeps t (s .before) (s .slot) (s .rest)
+      k = index-keeps t a s n
 
-        pub anc-root : anc 1 ≡ placeAbove t 1 (target t tag)
-        unfolding anc
-        anc-root = k .rooted ∙ sym (root-above (target t tag) below)
-
-        -- no pair up to level h is below our tag: the target is under the bucket above
-        pub anc-up :
-            (h : ℕ) → 1 ≤ h → h ≤ s .slot .level →
-            (2 ≤ h → tagBelow (laterPair t (s .rest ++ slots t) (s .slot) h .tag) tag ≡ false) →
-            anc h ≡ placeAbove t h (target t tag)
-        anc-up h low high quiet =
-            ⊎-elim
-            (λ (l : 2 ≤ h). anc-same h high (quiet l))
-            (λ (l : h < 2).
-            let e : h ≡ 1 = omega arith in
-            subst (λ z. anc z ≡ placeAbove t z (target t tag)) (sym e) anc-root)
-            (le-or-lt 2 h)
-
-        pub anc-self : anc (s .slot .level) ≡ s .slot .place
-        unfolding anc
-        anc-self = let e : s .slot .level - s .slot .level ≡ 0 = omega arith in ap (λ z. above (t .n) z (s .slot .place)) e
-
-        -- pair h + 1 is followed: back to the bucket of level h above, which is above the target
-        pub follows-pair :
-            (h : ℕ) → 1 ≤ h → h < s .slot .level → anc h ≡ placeAbove t h (target t tag) →
-            (anc (h + 1) ≡ placeAbove t (h + 1) (target t tag) → ⊥) →
-            choice Index tag (cycleBucket t (here s)) ≡
-            dozes (laterPair t (s .rest ++ slots t) (s .slot) (h + 1) .distance) Index 0 0 →
-            Leads t tag 0 (here s) Index (suc (t .k + 1 - h + max 1 (runs t tag)))
-        unfolding laterPair anc landing linesAt sentTo
-        follows-pair h low high same other c =
-            let q : ℕ = target t tag in
-            let w : Comes t (sentTo s) q h (placeAbove t h q) (s .rest) = k .again p q below unsent h low high same other in
-            let l : Is h (placeAbove t h q) (landing s w .slot) = landing-is s w in
-            let one : h + 1 - 1 ≡ h = omega arith in
-            let far : toNext (s .rest ++ slots t) (h + 1 - 1) (above (t .n) (s .slot .level - (h + 1 - 1)) (s .slot .place)) ≡ suc (length (w .skipped)) =
-            rw (one, same) (comes-at t (sentTo s) q h (placeAbove t h q) (s .rest) (slots t) w) in
-            hop-within s (w .skipped) (w .hit) (w .behind) (w .splits) tag 0 0 0 (omega arith)
-            (index-heard t a s n Index (λ ps es. refl)) (c ∙ ap (λ z. dozes z Index 0 0) far) refl
-            (subst (λ z. Leads t tag 0 (here (landing s w)) Index (t .k + 1 - z + max 1 (runs t tag))) (l .level-is)
-            (descends-from t a tag below 0 (omega arith) (landing s w) (omega (arith, l .level-is, k .high)) (landing-sent s w n)
-            (l .place-is ∙ ap (λ z. placeAbove t z q) (sym (l .level-is)))))
-
-        -- the target is unsent
-        pub seeks : Within t tag 0 (here s) Index (1 + t .k + max 1 (runs t tag))
-        seeks = ⊎-elim turns stays (later-first tag (laterPair t (s .rest ++ slots t) (s .slot)) es 2 (s .slot .level + 1 - 2))
-          where
-            q : ℕ
-            q = target t tag
-
-            i : ℕ
-            i = s .slot .level
-
-            es : List Entry
-            es = entries t (s .rest ++ slots t) (s .slot)
-
-            turns : Below tag (laterPair t (s .rest ++ slots t) (s .slot)) es 2 (i + 1 - 2) → Within t tag 0 (here s) Index (1 + t .k + max 1 (runs t tag))
-            turns r =
-                let h : ℕ = r .pair - 1 in
-                let e : r .pair ≡ h + 1 = omega (arith, r .low) in
-                let l : h + 1 ≤ i = omega (arith, r .high, r .low) in
-                let before : ltb (anc (h + 1)) (placeAbove t (h + 1) q) ≡ true =
-                sym (anc-test (h + 1) l) ∙
-                (ap (λ z. tagBelow (laterPair t (s .rest ++ slots t) (s .slot) z .tag) tag) (sym e) ∙ r .below) in
-                let away : anc (h + 1) < placeAbove t (h + 1) q = ltb-true (anc (h + 1)) (placeAbove t (h + 1) q) before in
-                record {
-                  steps = suc (t .k + 1 - h + max 1 (runs t tag));
-                  most = omega (arith, r .low, k .high);
-                  walk =
-                      follows-pair h (omega (arith, r .low)) (omega arith) (anc-up h (omega (arith, r .low)) (omega arith) (λ u. r .others h u (omega arith)))
-                      (λ z. omega arith)
-                      (later-choice unsent ∙
-                      (r .chosen ∙ ap (λ z. dozes (laterPair t (s .rest ++ slots t) (s .slot) z .distance) Index 0 0) e));
-                }
-
-            stays :
-                ((j : ℕ) → 2 ≤ j → j < 2 + (i + 1 - 2) → tagBelow (laterPair t (s .rest ++ slots t) (s .slot) j .tag) tag ≡ false) →
-                Within t tag 0 (here s) Index (1 + t .k + max 1 (runs t tag))
-            stays none-below =
-                record {
-                  steps = t .k + 1 - i + max 1 (runs t tag);
-                  most = omega arith;
-                  walk =
-                      descends-from t a tag below 0 (omega arith) s (k .high) unsent
-                      (sym anc-self ∙ anc-up i (k .low) (omega arith) (λ u. none-below i u (omega arith)));
-                }
-
-      -- pair 2 is followed: to a root, of this cycle or the next
-      pub follows-root :
-          target t tag ≡ t .d → choice Index tag (cycleBucket t (here s)) ≡ dozes (toNext (s .rest ++ slots t) 1 0) Index 0 0 →
-          Leads t tag 0 (here s) Index 2
-      unfolding toNext linesAt
-      follows-root e c = ⊎-elim within round (first-or-none (occurs 1 0) (s .rest))
-        where
-          within : First (occurs 1 0) (s .rest) → Leads t tag 0 (here s) Index 2
-          within f =
-              let l : Is 1 0 (f .hit) = occurs-is 1 0 (f .hit) (f .is) in
-              hop-within s (f .skipped) (f .hit) (f .behind) (f .splits) tag 0 0 0 (omega arith)
-              (index-heard t a s n Index (λ ps es. refl))
-              (c ∙
-              ap (λ z. dozes z Index 0 0)
-              (distance-within (occurs 1 0) (s .rest) (f .skipped) (f .hit) (f .behind) (slots t) (f .splits) (f .fresh) (f .is)))
-              refl
-              (over-root e 0 (omega arith) (further s (f .skipped) (f .hit) (f .behind) (f .splits)) (further-level s f (l .level-is)))
-
-          round : any (occurs 1 0) (s .rest) ≡ false → Leads t tag 0 (here s) Index 2
-          round none-left =
-              hop-round s tag (suc (length (s .rest))) 0 0 (index-heard t a s n Index (λ ps es. refl))
-              (c ∙ ap (λ z. dozes z Index 0 0) (to-root (occurs 1 0) (s .rest) none-left root-occurs))
-              refl (rest-length s)
-              (subst (λ x. Leads t tag (cycleSize t) x Index 1) root-here
-              (over-root e (cycleSize t) (omega arith) root (root-is .level-is)))
-
-      -- a tag above the whole list
-      pub over : target t tag ≡ t .d → Within t tag 0 (here s) Index (1 + t .k + max 1 (runs t tag))
-      unfolding laterPair
-      over e = ⊎-elim at-root below-root (le-or-lt i 1)
-        where
-          i : ℕ
-          i = s .slot .level
-
-          k : IndexKeeps t (s .before) (s .slot) (s .rest)
-          k = index-keeps t a s n
-
-          some-data : 1 < i → 0 < t .d
-          some-data l =
-              ⊎-elim
-              (λ (h : t .d ≤ 0). absurd (omega (arith, a .lone (omega arith), k .high)))
-              (λ (h : 0 < t .d). h)
-              (le-or-lt (t .d) 0)
-
-          pair-two : 1 < i → choice Index tag (cycleBucket t (here s)) ≡ dozes (toNext (s .rest ++ slots t) 1 0) Index 0 0
-          pair-two l =
-              let more : i + 1 - 2 ≡ suc (i - 2) = omega arith in
-              later-choice (rw e (sent-le s)) ∙
-              rw (more, over-pair t a tag 2 (above (t .n) (i - 2) (s .slot .place)) e (some-data l) (omega (arith, k .high)), k .rooted)
-
-          at-root : i ≤ 1 → Within t tag 0 (here s) Index (1 + t .k + max 1 (runs t tag))
-          at-root l = record { steps = 1; most = omega arith; walk = over-root e 0 (omega arith) s (omega (arith, k .low)) }
-
-          below-root : 1 < i → Within t tag 0 (here s) Index (1 + t .k + max 1 (runs t tag))
-          below-root l = record { steps = 2; most = omega (arith, a .sound .levelled); walk = follows-root e (pair-two l) }
-
-      pub from-start : Within t tag 0 (here s) Index (1 + t .k + max 1 (runs t tag))
-      from-start =
+      some-data : 1 < i → 0 < t .d
+      some-data l =
           ⊎-elim
-          (λ (unsent : sentTo s ≤ target t tag).
-          ⊎-elim
-          (λ (h : t .d ≤ target t tag). over (omega (arith, target-le t tag)))
-          (λ (h : target t tag < t .d). seeks h unsent)
-          (le-or-lt (t .d) (target t tag)))
-          (λ (sent : target t tag < sentTo s).
-          record { steps = suc (t .k + max 1 (runs t tag)); most = omega arith; walk = goes-round sent })
-          (le-or-lt (sentTo s) (target t tag))
+          (λ (h : t .d ≤ 0). absurd (omega (arith, a .lone (omega arith), k .high)))
+          (λ (h : 0 < t .d). h)
+          (le-or-lt (t .d) 0)
+
+      pair-two : 1 < i → choice Index tag (cycleBucket t (here s)) ≡ dozes (toNext (s .rest ++ slots t) 1 0) Index 0 0
+      pair-two l =
+          let more : i + 1 - 2 ≡ suc (i - 2) = omega arith in
+          later-choice (rw e (sent-le t a s)) ∙
+          rw (more, over-pair t a tag 2 (above (t .n) (i - 2) (s .slot .place)) e (some-data l) (omega (arith, k .high)), k .rooted)
+
+      at-root : i ≤ 1 → Within t tag 0 (here s) Index (1 + t .k + max 1 (runs t tag))
+      at-root l = record { steps = 1; most = omega arith; walk = over-root t a tag e 0 (omega arith) s (omega (arith, k .low)) }
+
+      below-root : 1 < i → Within t tag 0 (here s) Index (1 + t .k + max 1 (runs t tag))
+      below-root l = record { steps = 2; most = omega (arith, a .sound .levelled); walk = follows-root e (pair-two l) }
+
+  pub from-start : Within t tag 0 (here s) Index (1 + t .k + max 1 (runs t tag))
+  from-start =
+      ⊎-elim
+      (λ (unsent : sentTo s ≤ target t tag).
+      ⊎-elim
+      (λ (h : t .d ≤ target t tag). over (omega (arith, target-le t tag)))
+      (λ (h : target t tag < t .d). seeks h unsent)
+      (le-or-lt (t .d) (target t tag)))
+      (λ (sent : target t tag < sentTo s).
+      record { steps = suc (t .k + max 1 (runs t tag)); most = omega arith; walk = goes-round sent })
+      (le-or-lt (sentTo s) (target t tag))

@@ -1,8 +1,8 @@
 -- From any tune-in bucket: to the next segment's start, in this cycle or the next, and on from there.
 -- Assumes nothing.
 use mathlib.Core.Path.{_≡_, refl, sym, _∙_, ap, subst}
-use mathlib.Core.Logic.{_⊎_, ⊎-elim}
-use Prim.Native.Nat.{ℕ, suc, _+_, _-_, _≤_, _<_, max}
+use mathlib.Core.Logic.{⊎-elim}
+use Prim.Native.Nat.{ℕ, suc, _+_, _≤_, _<_, max}
 use mathlib.Core.Bool.{Bool, true, false, true≢false}
 use mathlib.Core.List.{List, [], _∷_, _++_}
 use native.Mathlib.Omega.{arith}
@@ -16,15 +16,17 @@ use Rattle.cycle.proofs.Sequence.{IndexKeeps}
 use Rattle.cycle.proofs.Ranges.{le-or-lt}
 use Rattle.cycle.proofs.DataTags.{Laid}
 use Rattle.cycle.proofs.BucketAt.{Place, place-of}
+use Rattle.cycle.proofs.Distances.{First, first-or-none}
 use Rattle.listener.specs.Listener.{dozes}
 use Rattle.listener.specs.declared.Phase.the-variants.{TuneIn, Index}
 use Rattle.listener.proofs.Target.{target, target-le}
-use Rattle.listener.proofs.Places.{First, first-or-none, distance-within}
+use Rattle.listener.proofs.Places.{distance-within}
 use Rattle.listener.proofs.Walk.{linesAt}
 use Rattle.listener.proofs.Ways.{Spot, here, further, hop-within, hop-round, bucket-here}
 use Rattle.listener.proofs.Arrival.{runs, Leads}
 use Rattle.listener.proofs.Descent.{index-keeps}
-use Rattle.listener.proofs.SegmentStart.{Within, rest-length, root, root-here, root-is, to-root, from-root, over-root, from-start}
+use Rattle.listener.proofs.Roots.{rest-length, root, root-here, root-is, to-root, from-root, over-root}
+use Rattle.listener.proofs.SegmentStart.{Within, from-start}
 
 module _ (t : Plan) (a : Laid t) (tag : ℕ) where
   pub to-segment : (s : Spot t) → cycleBucket t (here s) .toSegment ≡ toNextSegment (s .rest ++ slots t)

@@ -1,8 +1,6 @@
 //! The calls of both sides under one name. Each returns what it counts, or
 //! panics if it is refused.
 
-use std::hint::black_box;
-
 use pansdaoh::calls as library;
 
 pub const BUCKET: usize = 240;
@@ -18,8 +16,6 @@ pub trait Calls {
     fn read_back(image: &[u8], settings: Settings, out: &mut [u8]) -> u64;
     /// Returns the buckets heard.
     fn lookup(image: &[u8], tag: u64, tune_in: u64, out: &mut [u8]) -> u64;
-    /// Gives a bucket to a fresh listener.
-    fn tune_in(bucket: &[u8], tag: u64);
     /// A hearing to its end, bucket by bucket; returns the buckets heard.
     fn hearing(image: &[u8], tag: u64, tune_in: u64) -> u64;
 }
@@ -43,12 +39,6 @@ impl Calls for Library {
         let found = library::lookup(image, tag, tune_in, out);
         assert_eq!(found.number, 0);
         found.heard
-    }
-
-    fn tune_in(bucket: &[u8], tag: u64) {
-        let mut state = Default::default();
-        library::start(&mut state, tag);
-        black_box(library::step(&mut state, bucket));
     }
 
     fn hearing(image: &[u8], tag: u64, tune_in: u64) -> u64 {
@@ -80,10 +70,6 @@ impl Calls for Reference {
 
     fn lookup(image: &[u8], tag: u64, tune_in: u64, out: &mut [u8]) -> u64 {
         reference::lookup(image, tag, tune_in, out).unwrap().heard
-    }
-
-    fn tune_in(bucket: &[u8], tag: u64) {
-        black_box(reference::Listener::new(tag).step(bucket));
     }
 
     fn hearing(image: &[u8], tag: u64, tune_in: u64) -> u64 {

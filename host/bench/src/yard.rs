@@ -2,16 +2,13 @@
 
 use std::hint::black_box;
 
-use reference::generate::{list, Random};
+use reference::generate::{list, yard_list, Random};
 use reference::line;
 
 use crate::calls::{Calls, Reference, Settings, BUCKET, LINE};
 
-/// The calls measured: `copy` copies an image, `tune_in` gives each bucket of
-/// the cycle to a fresh listener, `step` goes through whole hearings.
-pub const CALLS: [&str; 6] = ["copy", "build", "read_back", "tune_in", "step", "lookup"];
-
-/// Each tag is up to this much above the one before it.
+/// In a list with figures of any length each tag is up to this much above the
+/// one before it.
 const SPREAD: u64 = 40;
 /// Hearings of one round.
 const HEARINGS: u64 = 2_000;
@@ -28,8 +25,15 @@ pub struct Yard {
 }
 
 impl Yard {
-    pub fn new(settings: Settings, lines: u64) -> Yard {
-        let list = list(&mut Random::new(1), lines, SPREAD);
+    /// `figures`: `yard` for a list as a yard has it, `any` for one with figures
+    /// of any length.
+    pub fn new(figures: &str, settings: Settings, lines: u64) -> Yard {
+        let random = &mut Random::new(1);
+        let list = match figures {
+            "yard" => yard_list(random, lines),
+            "any" => list(random, lines, SPREAD),
+            _ => panic!("no such figures: {figures}"),
+        };
         let mut image = vec![0; 99_999 * BUCKET];
         let buckets = Reference::build(&list, settings, &mut image);
         image.truncate(buckets as usize * BUCKET);
@@ -46,25 +50,18 @@ impl Yard {
         Yard { settings, list, image, list_out, image_out, hearings }
     }
 
-    /// One round of a call; returns the buckets it built, read or heard.
+    /// One round of a call; returns the buckets it built, read or heard. `step`
+    /// goes through whole hearings.
     pub fn round<C: Calls>(&mut self, call: &str) -> u64 {
         let buckets = (self.image.len() / BUCKET) as u64;
         let image = black_box(&self.image[..]);
         let hearings = self.hearings.iter();
         match call {
-            "copy" => {
-                black_box(&mut self.image_out).copy_from_slice(image);
-                buckets
-            }
             "build" => {
                 C::build(black_box(&self.list), self.settings, black_box(&mut self.image_out))
             }
             "read_back" => {
                 C::read_back(image, self.settings, black_box(&mut self.list_out));
-                buckets
-            }
-            "tune_in" => {
-                image.chunks_exact(BUCKET).for_each(|bucket| C::tune_in(bucket, black_box(5)));
                 buckets
             }
             "step" => hearings.map(|&(tag, tune_in)| C::hearing(image, tag, tune_in)).sum(),

@@ -71,6 +71,19 @@ pub fn list(random: &mut Random, lines: u64, spread: u64) -> Vec<u8> {
     list_from(random, lines, 0, spread)
 }
 
+/// A list as a yard has it: tags of seven digits, tares of four or five, codes
+/// of three, weighing numbers in order.
+pub fn yard_list(random: &mut Random, lines: u64) -> Vec<u8> {
+    let mut tag = 1_000_000;
+    let mut list = Vec::new();
+    for weighing in 0..lines {
+        tag += random.below(40);
+        let tare = 8_000 + random.below(17_000);
+        list.extend(line(tag, tare, 100 + random.below(900), 100_000 + weighing).bytes());
+    }
+    list
+}
+
 /// Alters one byte; the new one is mostly a byte that some column allows.
 pub fn alter(random: &mut Random, bytes: &mut [u8]) {
     let at = random.below(bytes.len() as u64) as usize;

@@ -76,39 +76,39 @@ abbrev μ-loop : tie.MeasureT-loop
 μ-loop part x₀ i₀ x i = length part - i
 
 loop-holds : tie.Need-loop-holds Inv-loop μ-loop
-loop-holds c = none-read _ (c .pre .1)
+loop-holds c = none-read _ (c .before .pre .1)
+
+abbrev start : tie.In-loop Inv-loop μ-loop → tie.Start Inv-loop μ-loop
+start c = c .before .before .before
 
 -- the next column, and what it makes of the number
-digit-at : (c : tie.In-loop Inv-loop μ-loop) → Digit (getD (c .before .before .args .part .now) (c .before .loop .i) 0)
+digit-at : (c : tie.In-loop Inv-loop μ-loop) → Digit (getD (start c .args .part .now) (c .before .loop .i) 0)
 digit-at c = next-digit _ _ _ (c .before .loop .inv) (c .loop-test .taken)
 
 fit : (c : tie.In-loop Inv-loop μ-loop) →
-    c .before .loop .x * 10 + getD (c .before .before .args .part .now) (c .before .loop .i) 0 - 48 < 10000000000
-fit c = fits _ _ _ (c .before .loop .inv) (c .loop-test .taken) (c .before .before .pre .0)
+    c .before .loop .x * 10 + getD (start c .args .part .now) (c .before .loop .i) 0 - 48 < 10000000000
+fit c = fits _ _ _ (c .before .loop .inv) (c .loop-test .taken) (start c .pre .0)
+
+-- the power of ten that the number is multiplied by
+ten : (c : tie.After-ten-to Inv-loop μ-loop) → c .ten-to .result ≡ 10
+ten c = c .ten-to .ensures
 
 mul-x : tie.Need-mul-x Inv-loop μ-loop
-mul-x c = omega (arith, fit c, digit-at c .low)
-
-shared-slice-read-x : tie.Need-shared-slice-read-x Inv-loop μ-loop
-shared-slice-read-x c = omega arith
+mul-x c = rw (ten c) (omega (arith, fit (c .before), digit-at (c .before) .low))
 
 cast-x : tie.Need-cast-x Inv-loop μ-loop
-cast-x c = omega (arith, digit-at (c .before) .high)
+cast-x c = omega (arith, digit-at (c .before .before) .high)
 
 add-x : tie.Need-add-x Inv-loop μ-loop
-add-x c = omega (arith, fit (c .before), digit-at (c .before) .low)
+add-x c = rw (ten (c .before)) (omega (arith, fit (c .before .before), digit-at (c .before .before) .low))
 
 sub-x : tie.Need-sub-x Inv-loop μ-loop
-sub-x c = omega (arith, digit-at (c .before) .low)
-
-add-i : tie.Need-add-i Inv-loop μ-loop
-add-i c = omega arith
-
-loop-less : tie.Need-loop-less Inv-loop μ-loop
-loop-less c = omega arith
+sub-x c = omega (arith, digit-at (c .before .before) .low)
 
 loop-again : tie.Need-loop-again Inv-loop μ-loop
-loop-again c = next _ _ _ (c .before .before .loop .inv) (c .before .loop-test .taken)
+loop-again c =
+    let turn = c .before .before in
+    rw (ten (c .before)) (next _ _ _ (turn .before .loop .inv) (turn .loop-test .taken))
 
 returns : tie.Need-returns Inv-loop μ-loop
 returns c = all-read _ _ _ (c .before .loop .inv) (c .loop-test .left)
@@ -120,12 +120,13 @@ spelled-spec =
     Inv-loop
     μ-loop
     loop-holds
+    (λ c κs. lit< tt)
     mul-x
-    shared-slice-read-x
+    (λ c. omega arith)
     cast-x
     add-x
     sub-x
-    add-i
-    loop-less
+    (λ c. omega arith)
+    (λ c. omega arith)
     loop-again
     returns)

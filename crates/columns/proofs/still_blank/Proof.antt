@@ -1,17 +1,9 @@
 -- `columns::still_blank` meets its contract. Assumes nothing.
-use mathlib.Core.Path.{_≡_, refl, sym}
-use mathlib.Core.Bool.{Bool, true, false, _&&_}
+use mathlib.Core.Path.{sym}
 use borrow.Author.Tests.{eq-eqb, ne-eqb}
+use Rattle.columns.proofs.Strict.{and-false, and-true}
 use Rattle.columns.proofs.still_blank.Statement.{statement}
 use Rattle.columns.proofs.still_blank.Tie as tie
-
-and-true : (b : Bool) → (b && true) ≡ b
-and-true true = refl
-and-true false = refl
-
-and-false : (b : Bool) → (b && false) ≡ false
-and-false true = refl
-and-false false = refl
 
 returns : tie.Need-returns
 returns c = rw (eq-eqb _ _ (c .if1 .taken)) (sym (and-true (c .before .args .before)))

@@ -10,6 +10,7 @@ use lib.Dec.{eqb}
 use lib.ListN.{length, drop, getD, drop-of-length-le}
 use lib.Seq.{drop-cons}
 use borrow.Author.Needs.{needs}
+use Rattle.columns.proofs.Strict.{and-true}
 use Rattle.buckets.specs.Columns.{allBlank}
 use Rattle.buckets.proofs.fields.all_blank.Statement.{statement}
 use Rattle.buckets.proofs.fields.all_blank.Tie as tie
@@ -17,10 +18,6 @@ use Rattle.buckets.proofs.fields.all_blank.Tie as tie
 and-assoc : (a b c : Bool) → (a && (b && c)) ≡ ((a && b) && c)
 and-assoc true b c = refl
 and-assoc false b c = refl
-
-and-true : (b : Bool) → (b && true) ≡ b
-and-true true = refl
-and-true false = refl
 
 -- what column i makes of the columns from it on
 module _ (s : List ℕ) (i : ℕ) (blank : Bool) (e : allBlank s ≡ (blank && allBlank (drop i s))) where

@@ -85,11 +85,11 @@ follow-read c = number-found _ (sym (c .before .before .before .six-within .ensu
 
 pairs-read : (c : tie.After-enum-told2) → numberWithin 0 0 (columns 25 2 (bytes (start (up2 c)))) ≡ some (c .enum-told2 .given .0 .0)
 unfolding columns
-pairs-read c = number-found _ (sym (c .before .before .read-within .ensures) ∙ c .enum-told2 .given .1)
+pairs-read c = number-found _ (sym (c .before .before .digit-within .ensures) ∙ c .enum-told2 .given .1)
 
 count-read : (c : tie.After-known-told2) → numberWithin 1 8 (columns 27 2 (bytes (start (up2 (up3 c))))) ≡ some (c .before .count .given .0 .0)
 unfolding columns
-count-read c = number-found _ (sym (c .before .before .before .read-within2 .ensures) ∙ c .before .count .given .1)
+count-read c = number-found _ (sym (c .before .before .before .digit-within2 .ensures) ∙ c .before .count .given .1)
 
 returns : tie.Need-returns
 unfolding columns
@@ -105,7 +105,7 @@ returns-2 c =
     ∙ ap asReading
     (sym
     (some-pairs _ _ _ (follow-read (c .before .before .before .before .before))
-    (number-none _ (sym (c .before .before .before .read-within .ensures) ∙ c .before .enum-told3 .given .1))))
+    (number-none _ (sym (c .before .before .before .digit-within .ensures) ∙ c .before .enum-told3 .given .1))))
 
 returns-3 : tie.Need-returns-3
 unfolding columns
@@ -115,7 +115,7 @@ returns-3 c =
     ∙ ap asReading
     (sym
     (no-count _ _ _ (follow-read (up2 two)) _ (pairs-read two)
-    (number-none _ (sym (c .before .before .before .read-within2 .ensures) ∙ c .before .enum-told4 .given .1))))
+    (number-none _ (sym (c .before .before .before .digit-within2 .ensures) ∙ c .before .enum-told4 .given .1))))
 
 read-tags-requires : tie.Need-read-tags-requires
 unfolding columns

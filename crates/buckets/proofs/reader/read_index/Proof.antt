@@ -84,11 +84,11 @@ follow-read c = number-found _ (sym (c .before .before .six-within .ensures) ∙
 
 pair-count-read : (c : tie.After-known-told) → numberWithin 0 4 (columns 25 2 (bytes (start (up2 c)))) ≡ some (c .before .pair-count .given .0 .0)
 unfolding columns
-pair-count-read c = number-found _ (sym (c .before .before .before .read-within .ensures) ∙ c .before .pair-count .given .1)
+pair-count-read c = number-found _ (sym (c .before .before .before .digit-within .ensures) ∙ c .before .pair-count .given .1)
 
 entry-count-read : (c : tie.After-known-told2) → numberWithin 0 8 (columns 27 2 (bytes (start (up2 (up3 c))))) ≡ some (c .before .entry-count .given .0 .0)
 unfolding columns
-entry-count-read c = number-found _ (sym (c .before .before .before .read-within2 .ensures) ∙ c .before .entry-count .given .1)
+entry-count-read c = number-found _ (sym (c .before .before .before .digit-within2 .ensures) ∙ c .before .entry-count .given .1)
 
 returns : tie.Need-returns
 unfolding columns
@@ -104,7 +104,7 @@ returns-2 c =
     ∙ ap asReading
     (sym
     (no-pair-count _ _ _ (follow-read (c .before .before .before .before .before))
-    (number-none _ (sym (c .before .before .before .read-within .ensures) ∙ c .before .enum-told3 .given .1))))
+    (number-none _ (sym (c .before .before .before .digit-within .ensures) ∙ c .before .enum-told3 .given .1))))
 
 returns-3 : tie.Need-returns-3
 unfolding columns
@@ -114,7 +114,7 @@ returns-3 c =
     ∙ ap asReading
     (sym
     (no-entry-count _ _ _ (follow-read (up2 two)) _ (pair-count-read two)
-    (number-none _ (sym (c .before .before .before .read-within2 .ensures) ∙ c .before .enum-told4 .given .1))))
+    (number-none _ (sym (c .before .before .before .digit-within2 .ensures) ∙ c .before .enum-told4 .given .1))))
 
 read-pairs-requires : tie.Need-read-pairs-requires
 unfolding columns

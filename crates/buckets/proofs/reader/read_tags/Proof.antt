@@ -13,7 +13,8 @@ use Rattle.buckets.specs.declared.Line.{Line}
 use Rattle.buckets.specs.Held.{filled}
 use Rattle.buckets.specs.Columns.{readFigures, readRun, readLines}
 use Rattle.buckets.specs.Read.{heldTags}
-use Rattle.buckets.proofs.Answers.{line-found, line-none}
+use Rattle.buckets.proofs.Answers.{tag-found, tag-none}
+use Rattle.buckets.proofs.Figures.{figures-tag-small}
 use Rattle.buckets.proofs.Progress.{SoFar, nothing-yet, one-more, stopped, all-done, not-blank-behind, blank-behind, filled-more, part-length}
 use Rattle.buckets.proofs.reader.read_tags.Statement.{statement}
 use Rattle.buckets.proofs.reader.read_tags.Tie as tie
@@ -28,16 +29,18 @@ record TagsRead (s : List ℕ) (c : ℕ) (tags : List ℕ) (m i : ℕ) : Type 0 
   held : tags ≡ filled 8 (map (λ l. l .tag) lines)
 
 module _ (c : ℕ) (s : List ℕ) (tags : List ℕ) (m i : ℕ) (so : TagsRead s c tags m i) where
-  next-tag : (l : Line) → i < c → c ≤ 8 → readFigures m (take (i * 26 + 26 - i * 26) (drop (i * 26) s)) ≡ some l
-      → TagsRead s c (set tags i (l .tag)) (l .tag) (i + 1)
-  next-tag l h few e =
-      record {
+  next-tag : (x : ℕ) → i < c → c ≤ 8
+      → (l : Line) × (readFigures m (take (i * 26 + 26 - i * 26) (drop (i * 26) s)) ≡ some l) × (x ≡ l .tag)
+      → TagsRead s c (set tags i x) x (i + 1)
+  next-tag x h few (l, e, is) =
+      rw is
+      (record {
         lines = so .lines ++ l ∷ [];
         read = one-more readFigures tagOf 26 c s m i (so .lines) l (so .read) h e;
         held =
             ap (λ (ts : List ℕ). set ts i (l .tag)) (so .held)
             ∙ filled-more (λ (x : Line). x .tag) 8 (so .lines) l i (so .read .count) (omega arith);
-      }
+      })
 
   line-misprinted : i < c → readFigures m (take (i * 26 + 26 - i * 26) (drop (i * 26) s)) ≡ none
       → readRun readFigures tagOf 26 0 c s ≡ none
@@ -71,8 +74,8 @@ whole c =
     let test = c .before .before .all-blank .ensures in
     blank-behind readFigures tagOf 26 _ _ (sym test ∙ not-false _ (c .before .if1 .left))
 
-read-figures-requires : tie.Need-read-figures-requires Inv-loop μ-loop
-read-figures-requires c κs =
+read-tag-requires : tie.Need-read-tag-requires Inv-loop μ-loop
+read-tag-requires c κs =
     let turn = c .before in
     let i = turn .before .loop .i in
     let s = turn .before .before .before .before .before .before .args .part .now in
@@ -81,18 +84,19 @@ read-figures-requires c κs =
 
 returns-2 : tie.Need-returns-2 Inv-loop μ-loop
 returns-2 c =
-    let turn = c .before .before .before .before in
+    let arg = c .before .before in
+    let turn = arg .before in
     ap heldTags
     (sym
     (whole (turn .before)
     ∙ line-misprinted _ _ _ _ _ (turn .before .loop .inv) (turn .loop-test .taken)
-    (line-none _ (sym (c .before .before .read-figures .ensures) ∙ c .enum-told .given .1))))
+    (tag-none _ (figures-tag-small _ _ (read-tag-requires arg (c .before .read-tag .lifetimes))) (c .before .read-tag .ensures) (c .if2 .taken))))
 
 loop-again : tie.Need-loop-again Inv-loop μ-loop
 loop-again c =
-    let turn = c .before .before .before .before .before in
+    let turn = c .before .before .before in
     next-tag _ _ _ _ _ (turn .before .loop .inv) _ (turn .loop-test .taken) (turn .before .before .before .before .before .before .pre .1)
-    (line-found _ (sym (c .before .before .before .read-figures .ensures) ∙ c .before .line .given .1))
+    (tag-found _ (c .before .read-tag .ensures) (c .if2 .left))
 
 returns-3 : tie.Need-returns-3 Inv-loop μ-loop
 returns-3 c =
@@ -116,9 +120,7 @@ read-tags-spec =
     (λ c. omega arith)
     (λ c. omega arith)
     (λ c. omega arith)
-    read-figures-requires
-    (λ c. search needs)
-    (λ c. search needs)
+    read-tag-requires
     returns-2
     (λ c. omega arith)
     (λ c. omega arith)

@@ -2,12 +2,12 @@
 -- Assumes nothing.
 use Prim.Native.Nat.{ℕ, _+_, _-_, _*_, _≤_, _<_}
 use mathlib.Core.Path.{_≡_, refl, _∙_, sym, ap}
-use mathlib.Core.List.{List, [], _++_}
+use mathlib.Core.List.{List, _++_}
 use native.Mathlib.Omega.{arith}
 use lib.ListN.{length, take, drop, getD, length-append}
 use Rattle.columns.specs.Lists.{put, padded}
 use Rattle.columns.specs.PrintedNumbers.{print, blanks}
-use Rattle.columns.proofs.Printed.{length-padded, length-print}
+use Rattle.columns.proofs.Printed.{length-padded}
 use Rattle.columns.proofs.Padded.{padded-nil, ready, printed}
 use Rattle.buckets.proofs.Fronts.{Room, entriesTo, length-entries-to, entry-written}
 use Rattle.buckets.proofs.writer.write_entries.Statement.{statement}

@@ -7,7 +7,7 @@ use native.Mathlib.Omega.{arith}
 use lib.Dec.{lit≤, lit<}
 use lib.ListN.{length, set}
 use Rattle.columns.specs.Lists.{padded}
-use Rattle.columns.specs.PrintedNumbers.{print, blanks}
+use Rattle.columns.specs.PrintedNumbers.{print}
 use Rattle.columns.proofs.FromTheRight.{length-blanks}
 use Rattle.columns.proofs.Printed.{length-padded}
 use Rattle.columns.proofs.Padded.{padded-nil, padded-full, set-padded, ready, printed}

@@ -1,13 +1,12 @@
 -- `buckets::writer::write_lines` meets its contract. After i turns the first i lines stand at the front, and the rest is blank.
 -- Assumes nothing.
-use Prim.Native.Nat.{ℕ, _+_, _-_, _*_, _/_, _%_, _≤_, _<_}
+use Prim.Native.Nat.{ℕ, _+_, _-_, _*_, _≤_, _<_}
 use mathlib.Core.Path.{_≡_, refl, _∙_, sym, ap}
 use mathlib.Core.List.{List, [], _++_}
 use native.Mathlib.Omega.{arith}
 use lib.ListN.{length, take, drop, getD}
 use lib.Seq.{take-length}
 use Rattle.columns.specs.Lists.{joined, padded}
-use Rattle.columns.specs.PrintedNumbers.{blanks}
 use Rattle.columns.proofs.FromTheRight.{length-blanks}
 use Rattle.columns.proofs.Printed.{length-padded}
 use Rattle.columns.proofs.Put.{length-part}

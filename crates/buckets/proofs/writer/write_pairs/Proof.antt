@@ -1,11 +1,10 @@
 -- `buckets::writer::write_pairs` meets its contract: pairs are printed as entries, but for a first one with a blank tag.
 -- Assumes nothing.
-use Prim.Native.Nat.{ℕ, _+_, _-_, _*_, _≤_, _<_}
+use Prim.Native.Nat.{ℕ, _-_, _*_, _≤_, _<_}
 use mathlib.Core.Path.{_≡_, refl, _∙_, sym, ap}
 use mathlib.Core.Bool.{Bool, true, false}
 use mathlib.Core.List.{List, [], _++_}
 use native.Mathlib.Omega.{arith}
-use lib.Dec.{lit≤}
 use lib.ListN.{length, take, drop, getD, length-append, length-drop}
 use borrow.Author.Needs.{needs}
 use Rattle.columns.specs.Lists.{joined, padded}

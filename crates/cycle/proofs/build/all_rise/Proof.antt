@@ -8,12 +8,12 @@ use mathlib.Core.List.{List}
 use Prim.Native.Nat.{ℕ, _+_, _-_, _*_, _≤_}
 use native.Mathlib.Omega.{arith}
 use lib.ListN.{drop, take, length}
-use borrow.Author.Needs.{needs}
 use Rattle.columns.specs.Lists.{pick, same, strict}
 use Rattle.columns.specs.PrintedNumbers.{value}
 use Rattle.buckets.specs.declared.Line.{Line}
 use Rattle.buckets.specs.ListLine.{spelled, fits, printLine, readLine, cutLines, listLines, taken, misprintFrom, fallFrom}
-use Rattle.buckets.proofs.Answers.{line-found}
+use Rattle.buckets.specs.Held.{tagOrMisprint}
+use Rattle.buckets.proofs.Answers.{tag-found}
 use Rattle.buckets.proofs.Lists.{length-cutLines, length-listLines}
 use Rattle.cycle.proofs.ImageLines.{spelled-front}
 use Rattle.cycle.proofs.Refusals.{count-lines, line-read, lines-read, tag-rises, tags-rise, no-place-misprint, no-place-fall}
@@ -45,21 +45,26 @@ tag-spelled : (s : List ℕ) {l : Line} → readLine (take 27 s) ≡ some l → 
 unfolding spelled
 tag-spelled s h = ap (λ k. k .tag) (line-spelled (take 27 s) h ∙ spelled-front 27 s (omega arith))
 
+-- the line that the answer tells of
+line-told : (a : ℕ) (s : List ℕ) {x : ℕ} → x ≡ tagOrMisprint (readLine (take (a + 27 - a) s)) → (x ≡ 18446744073709551615 → ⊥)
+    → (l : Line) × (readLine (take 27 s) ≡ some l) × (x ≡ l .tag)
+line-told a s e n = tag-found (readLine (take 27 s)) (rw (wide a) at e) n
+
 loop-again : tie.Need-loop-again Inv-loop μ-loop
 loop-again c =
-    let met = c .before .before .before in
-    let call = met .before .before in
+    let met = c .before in
+    let call = met .before in
     let turn = call .before .before in
     let loop = turn .before in
     let start = loop .before .before in
     let list = start .args .list .now in
     let lines = start .args .lines in
     let i = loop .loop .i in
-    let read = rw (wide (27 * i)) at (line-found (readLine _) (sym (call .read-line .ensures) ∙ met .line .given .1)) in (
+    let told = line-told (27 * i) (drop (27 * i) list) (call .line-tag .ensures) (met .if1 .left) in (
       omega arith,
-      line-read list lines (start .pre .0) i (loop .loop .inv .1) (turn .loop-test .taken) (ap taken read),
+      line-read list lines (start .pre .0) i (loop .loop .inv .1) (turn .loop-test .taken) (ap taken (told .1)),
       tag-rises list lines (start .pre .0) i (loop .loop .last) (loop .loop .inv .2) (turn .loop-test .taken)
-          (met .line .given .0 .0 .tag) (tag-spelled (drop (27 * i) list) read) (c .if1 .left),
+          (call .line-tag .result) (told .2 ∙ tag-spelled (drop (27 * i) list) (told .1)) (c .if2 .left),
     )
 
 returns-3 : tie.Need-returns-3 Inv-loop μ-loop
@@ -88,8 +93,6 @@ all-rise-spec =
     (λ c. omega arith)
     (λ c. omega arith)
     (λ c κs. tt)
-    (λ c. search needs)
-    (λ c. search needs)
     (λ c e. absurd (true≢false (sym e)))
     (λ c e. absurd (true≢false (sym e)))
     (λ c. omega arith)

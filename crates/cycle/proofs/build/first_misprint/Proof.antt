@@ -5,9 +5,9 @@ use mathlib.Core.Path.{_≡_, refl, sym, ap, _∙_}
 use Prim.Native.Nat.{ℕ, _+_, _-_, _*_, _≤_}
 use native.Mathlib.Omega.{arith}
 use lib.ListN.{drop}
-use borrow.Author.Needs.{needs}
 use Rattle.buckets.specs.ListLine.{readLine, cutLines, taken, misprintFrom}
-use Rattle.buckets.proofs.Answers.{line-found, line-none}
+use Rattle.buckets.proofs.Answers.{tag-found, tag-none}
+use Rattle.buckets.proofs.Figures.{line-tag-small}
 use Rattle.cycle.proofs.Refusals.{line-read, line-misprinted, lines-read}
 use Rattle.cycle.proofs.build.first_misprint.Statement.{statement}
 use Rattle.cycle.proofs.build.first_misprint.Tie as tie
@@ -23,21 +23,21 @@ wide a = omega arith
 
 returns : tie.Need-returns Inv-loop μ-loop
 returns c =
-    let call = c .before .before in
+    let call = c .before in
     let turn = call .before .before in
     let loop = turn .before in
     let start = loop .before .before in
-    let told = line-none (readLine _) (sym (call .read-line .ensures) ∙ c .enum-told2 .given .1) in
+    let told = tag-none (readLine _) (line-tag-small _) (call .line-tag .ensures) (c .if1 .taken) in
     line-misprinted (start .args .list .now) (start .args .lines) (start .pre .0) (loop .loop .i) (loop .loop .inv .1) (turn .loop-test .taken)
     (rw (wide (27 * loop .loop .i)) at told)
 
 loop-again : tie.Need-loop-again Inv-loop μ-loop
 loop-again c =
-    let call = c .before .before in
+    let call = c .before in
     let turn = call .before .before in
     let loop = turn .before in
     let start = loop .before .before in
-    let told = ap taken (line-found (readLine _) (sym (call .read-line .ensures) ∙ c .enum-told .given .1)) in (
+    let told = ap taken (tag-found (readLine _) (call .line-tag .ensures) (c .if1 .left) .1) in (
       omega arith,
       line-read (start .args .list .now) (start .args .lines) (start .pre .0) (loop .loop .i) (loop .loop .inv .1) (turn .loop-test .taken)
           (rw (wide (27 * loop .loop .i)) at told),
@@ -62,8 +62,6 @@ first-misprint-spec =
     (λ c. omega arith)
     (λ c. omega arith)
     (λ c κs. tt)
-    (λ c. search needs)
-    (λ c. search needs)
     returns
     (λ c. omega arith)
     (λ c. omega arith)

@@ -10,12 +10,12 @@ use Rattle.columns.proofs.Put.{length-part}
 use Rattle.buckets.specs.declared.Index.{Index}
 use Rattle.buckets.specs.Held.{filled, entered, Tagged}
 use Rattle.cycle.specs.Tree.{children}
-use Rattle.cycle.specs.Held.{planOf, planIn, cycleBucket, asIndex, childTags, treeDistances}
+use Rattle.cycle.specs.Held.{planOf, planIn, cycleBucket, asIndex, childTags, treeDistances, tagPlace}
 use Rattle.cycle.specs.declared.Source.the-variants.{List as InList}
 use Rattle.cycle.proofs.SegmentParts.{Seated}
 use Rattle.cycle.proofs.BucketsWritten.{HeldAt, index-written}
 use Rattle.cycle.proofs.Written.{lent-written}
-use Rattle.cycle.proofs.PrintedTags.{tags-standing, tags-printed}
+use Rattle.cycle.proofs.PrintedTags.{list-tags, tags-standing, tags-printed}
 use Rattle.cycle.proofs.TreeBuckets
 use Rattle.cycle.proofs.TreeBuckets.{tree-distances, tree-distance-count}
 use Rattle.cycle.proofs.Writings.{seats, placed-in, head-asked, tree-before, tree-held}
@@ -125,7 +125,7 @@ copy-index-requires c κs =
     let room : 240 * start .args .x + 240 ≤ length (start .args .image .now) = omega (arith, seated start, below start, start .pre .0 .roomy) in
     let wide : 240 * start .args .x + 240 - 240 * start .args .x ≡ 240 = omega arith in (
       length-part (start .args .image .now) (240 * start .args .x) _ (omega (arith, room, wide)) ∙ wide,
-      (few-pairs d, (omega (arith, few-entries d, count), tags-standing (start .args .f) (start .args .list .now) (start .pre .0 .sending) (start .args .e) (start .args .j) (p .low) (p .inside) (d .before .before .child-count .result) (d .before .tag-places .result) count (d .before .tag-places .ensures) (few-entries d) (d .tree-distances .result) (treeDistances (planOf (start .args .f) []) (start .args .f .size) (start .args .x) (start .args .e) (start .args .j)) (d .tree-distances .ensures) (distance-count d))),
+      (few-pairs d, (omega (arith, few-entries d, count), tags-standing (start .args .f) (start .pre .0 .sending .ready) InList (start .args .list .now) (tagPlace (start .args .f)) (list-tags (start .args .f) (start .args .list .now) (start .pre .0 .sending)) (start .args .e) (start .args .j) (p .low) (p .inside) (d .before .before .child-count .result) (d .before .tag-places .result) count (d .before .tag-places .ensures) (few-entries d) (d .tree-distances .result) (treeDistances (planOf (start .args .f) []) (start .args .f .size) (start .args .x) (start .args .e) (start .args .j)) (d .tree-distances .ensures) (distance-count d))),
     )
 
 returns : tie.Need-returns
@@ -138,7 +138,7 @@ returns c =
     let count = d .before .before .child-count .ensures in
     let room : 240 * start .args .x + 240 ≤ length (start .args .image .now) = omega (arith, seated start, below start, start .pre .0 .roomy) in
     let printed : Tagged (start .args .list .now) (d .before .before .child-count .result) (d .before .tag-places .result) (tags d) =
-    tags-printed (start .args .f) (start .args .list .now) (start .pre .0 .sending) (start .args .e) (start .args .j) (p .low) (p .inside) (d .before .before .child-count .result) (d .before .tag-places .result) count (d .before .tag-places .ensures) (few-entries d) in (
+    tags-printed (start .args .f) (start .pre .0 .sending .ready) InList (start .args .list .now) (tagPlace (start .args .f)) (list-tags (start .args .f) (start .args .list .now) (start .pre .0 .sending)) (start .args .e) (start .args .j) (p .low) (p .inside) (d .before .before .child-count .result) (d .before .tag-places .result) count (d .before .tag-places .ensures) (few-entries d) in (
       count,
       lent-written (start .args .image .now) (240 * start .args .x) 240 _ _ room (wrote .copy-index .kept .0) (wrote .copy-index .ensures (tags d) printed)
           ∙ index-written (start .args .f) (start .args .list .now) (start .pre .0 .sending) (start .args .x) (omega (arith, seated start, below start))

@@ -1,10 +1,16 @@
--- `cycle::index::child_count` meets its contract.
+-- `cycle::index::child_count` meets its contract: a bucket whose children are all there has n, the last one the rest.
 -- Assumes nothing.
-use mathlib.Core.Path.{_≡_, ap, _∙_}
-use Prim.Native.Nat.{ℕ, _-_, _^_}
+use mathlib.Core.Path.{_≡_, sym, ap, _∙_}
+use Prim.Native.Nat.{ℕ, _+_, _-_, _*_, _^_, _≤_, _<_, min}
+use native.Mathlib.Nat.{mul-le-mul}
 use native.Mathlib.Omega.{arith}
+use lib.ListN.{length}
+use mathlib.Core.List.{[]}
 use Rattle.columns.specs.Lists.{up}
+use Rattle.cycle.specs.Tree.{children}
+use Rattle.cycle.specs.Held.{planOf}
 use Rattle.cycle.proofs.Readiness.{Reached}
+use Rattle.cycle.proofs.TreeLaws.{up-least, le-up}
 use Rattle.cycle.proofs.Children.{bucket, first-small, children-count}
 use Rattle.cycle.proofs.index.child_count.Statement.{statement}
 use Rattle.cycle.proofs.index.child_count.Tie as tie
@@ -12,49 +18,77 @@ use Rattle.cycle.proofs.index.child_count.Tie as tie
 at : (c : tie.Start) → Reached (c .args .f) (c .args .e) (c .args .j)
 at c = bucket (c .args .f) (c .pre .0) (c .args .e) (c .args .j) (c .pre .1) (c .pre .2)
 
+small : (c : tie.Start) → c .args .j * c .args .f .n ≤ 320000
+small c = first-small (c .args .f) (c .pre .0) (c .args .e) (c .args .j) (c .pre .1) (c .pre .2)
+
+-- the data buckets under a full child
+abbrev span : tie.Start → ℕ
+span c = c .args .f .n ^ (c .args .e - 1)
+
+some : (c : tie.Start) → 0 < span c
+some c = at c .some (c .args .e - 1) (omega (arith, c .pre .1))
+
+counted :
+    (c : tie.Start) →
+    length (children (planOf (c .args .f) []) (c .args .f .k + 1 - c .args .e) (c .args .j))
+    ≡ min (c .args .j * c .args .f .n + c .args .f .n) (up (c .args .f .d) (span c)) - c .args .j * c .args .f .n
+counted c = children-count (c .args .f) (c .pre .0) (c .args .e) (c .args .j) (c .pre .1) (c .pre .2)
+
 sub-below : tie.Need-sub-below
 sub-below c = c .pre .1
 
 mul-from : tie.Need-mul-from
-mul-from c = let s = c .before in omega (arith, first-small (s .args .f) (s .pre .0) (s .args .e) (s .args .j) (s .pre .1) (s .pre .2))
-
-add-lesser : tie.Need-add-lesser
-add-lesser c =
-    let s = c .before .before in
-    omega (arith, first-small (s .args .f) (s .pre .0) (s .args .e) (s .args .j) (s .pre .1) (s .pre .2), s .pre .0 .shaped .n-high)
+mul-from c = omega (arith, small (c .before))
 
 power-requires : tie.Need-power-requires
-power-requires c κs =
-    let s = c .before .before in
-    (s .pre .0 .shaped .n-low, s .pre .0 .shaped .n-high, omega (arith, at s .height))
+power-requires c κs = let s = c .before in (s .pre .0 .shaped .n-low, s .pre .0 .shaped .n-high, omega (arith, at s .height))
 
-up-requires : tie.Need-up-requires
-up-requires c κs =
+add-if1 : tie.Need-add-if1
+add-if1 c = let s = c .before .before .before in omega (arith, small s, s .pre .0 .shaped .n-high)
+
+mul-if1 : tie.Need-mul-if1
+mul-if1 c =
     let s = c .before .before .before in
-    let h : ℕ = s .args .e - 1 in
-    let r = at s in
-    rw (c .power .ensures) (omega (arith, r .some h (omega arith)), omega (arith, r .small h (omega arith), r .few))
-
--- how many buckets the children's level has, as the code tells
-counted : (c : tie.After-up) → c .up .result ≡ up (c .before .before .before .before .args .f .d) (c .before .before .before .before .args .f .n ^ (c .before .before .before .before .args .e - 1))
-counted c = c .up .ensures ∙ ap (up (c .before .before .before .before .args .f .d)) (c .before .power .ensures)
-
-lesser-requires : tie.Need-lesser-requires
-lesser-requires c κs = tt
+    let m : (s .args .j * s .args .f .n + s .args .f .n) * span s ≤ 320008 * 320000 =
+    mul-le-mul {n₂ = 320008} {m₂ = 320000} (omega (arith, small s, s .pre .0 .shaped .n-high)) (at s .small (s .args .e - 1) (omega arith)) in
+    rw (c .before .power .ensures) (omega arith)
 
 returns : tie.Need-returns
 returns c =
+    let s = c .before .before .before .before .before in
+    let from : ℕ = s .args .j * s .args .f .n in
+    let full : (from + s .args .f .n) * span s ≤ s .args .f .d = rw (sym (c .before .before .before .power .ensures)) (c .if1 .taken) in
+    let wide : from + s .args .f .n ≤ up (s .args .f .d) (span s) = le-up (s .args .f .d) (span s) (from + s .args .f .n) (some s) full in
+    rw (counted s) (omega arith)
+
+up-requires : tie.Need-up-requires
+up-requires c κs =
+    let s = c .before .before .before .before .before in
+    rw (c .before .before .before .power .ensures) (some s, omega (arith, at s .small (s .args .e - 1) (omega arith), at s .few))
+
+-- where a child is missing, the children's level ends with this bucket's
+ends :
+    (c : tie.After-up) →
     let s = c .before .before .before .before .before .before in
-    let wide = counted (c .before .before) in
-    let all = children-count (s .args .f) (s .pre .0) (s .args .e) (s .args .j) (s .pre .1) (s .pre .2) in
-    omega (arith, c .before .lesser .ensures, c .if1 .taken)
+    (c .up .result ≡ up (s .args .f .d) (span s)) × (up (s .args .f .d) (span s) ≤ s .args .j * s .args .f .n + s .args .f .n)
+ends c =
+    let s = c .before .before .before .before .before .before in
+    let p = c .before .before .before .before .power .ensures in
+    let to : ℕ = s .args .j * s .args .f .n + s .args .f .n in
+    let short : s .args .f .d < to * span s = rw (sym p) (c .before .if1 .left) in
+    (c .up .ensures ∙ ap (up (s .args .f .d)) p, up-least (s .args .f .d) (span s) to (some s) (omega arith))
 
 returns-2 : tie.Need-returns-2
 returns-2 c =
-    let s = c .before .before .before .before .before .before in
-    let wide = counted (c .before .before) in
-    let all = children-count (s .args .f) (s .pre .0) (s .args .e) (s .args .j) (s .pre .1) (s .pre .2) in
-    omega (arith, c .before .lesser .ensures)
+    let s = c .before .before .before .before .before .before .before in
+    let e = ends (c .before) in
+    rw (counted s) (omega (arith, c .if2 .taken))
+
+returns-3 : tie.Need-returns-3
+returns-3 c =
+    let s = c .before .before .before .before .before .before .before in
+    let e = ends (c .before) in
+    rw (counted s) (omega arith)
 
 pub child-count-spec : {M : Type 1} → statement M
 child-count-spec =
@@ -62,9 +96,10 @@ child-count-spec =
     (tie.spec
     sub-below
     mul-from
-    add-lesser
     power-requires
-    up-requires
-    lesser-requires
+    add-if1
+    mul-if1
     returns
-    returns-2)
+    up-requires
+    returns-2
+    returns-3)

@@ -63,14 +63,14 @@ pub +is-subtree-spec : {M : Type 1} → statement M
     (λ c κs. c .before .pre .1)
     -- returns
     (λ c. let st = c .before .before .before in
-    let w = st .pre .1 .0 in
+    let w = st .pre .1 .0 .comparing in
     let a = st .args in
     let some-there = tree-some (a .f) (a .s) (w .holding .ready) (w .placed) (a .e) (a .j) (a .x) (st .pre .1 .1) in
     decides-not (c .if1 .taken) (matches-at (a .x) (omega arith) (omega (arith, some-there))) (c .before .is-tree-bucket .ensures))
     -- returns-2
     (λ c. let told = c .before in
     let st = told .before .before .before in
-    let w = st .pre .1 .0 in
+    let w = st .pre .1 .0 .comparing in
     let a = st .args in
     let one = tree-alone (a .f) (a .s) (w .holding .ready) (w .placed) (a .e) (a .j) (a .x) (st .pre .1 .1) (c .if2 .taken) in
     let end : a .x + 1 ≡ a .x + length (treeAt (planOf (a .f) []) (a .e) (a .j)) = omega (arith, one) in
@@ -79,15 +79,15 @@ pub +is-subtree-spec : {M : Type 1} → statement M
     (λ c. c .before .before .before .before .pre .1 .1 .low)
     -- mul-first
     (λ c. let st = c .before .before .before .before .before in
-    let w = st .pre .1 .0 in
+    let w = st .pre .1 .0 .comparing in
     let a = st .args in
     omega (arith, first-small (a .f) (a .s) (w .holding .ready) (w .placed) (a .e) (a .j) (a .x) (st .pre .1 .1)))
     -- child-count-requires
     (λ c κs. let st = c .before .before .before .before .before in
-    (st .pre .1 .0 .holding .ready, st .pre .1 .1 .low, st .pre .1 .1 .inside))
+    (st .pre .1 .0 .comparing .holding .ready, st .pre .1 .1 .low, st .pre .1 .1 .inside))
     -- add-next
     (λ c. let st = c .before .before .before .before .before .before in
-    let w = st .pre .1 .0 in
+    let w = st .pre .1 .0 .comparing in
     let a = st .args in
     omega (arith, seats (a .f) (a .image .now) (a .s) w, tree-before (a .f) (a .s) (w .holding .ready) (w .placed) (a .e) (a .j) (a .x) (st .pre .1 .1)))
     -- loop-holds
@@ -98,7 +98,7 @@ pub +is-subtree-spec : {M : Type 1} → statement M
     -- add-c
     (λ c. let loop = c .before in
     let st = loop .before .before .before .before .before .before .before in
-    let w = st .pre .1 .0 in
+    let w = st .pre .1 .0 .comparing in
     let a = st .args in
     let p = st .pre .1 .1 in
     let more = loop .before .before .before .if2 .left in
@@ -107,13 +107,13 @@ pub +is-subtree-spec : {M : Type 1} → statement M
     -- is-subtree-requires
     (λ c κs. let loop = c .before in
     let st = loop .before .before .before .before .before .before .before in
-    let w = st .pre .1 .0 in
+    let w = st .pre .1 .0 .comparing in
     let a = st .args in
     let p = st .pre .1 .1 in
     let more = loop .before .before .before .if2 .left in (
       omega (arith, st .pre .0, p .low),
       (
-        w,
+        st .pre .1 .0,
         child-place (a .f) (a .s) (w .holding .ready) (w .placed) (a .e) (a .j) (a .x) p (loop .loop .i) (loop .loop .next) more (omega (arith, c .loop-test .taken, loop .before .child-count .ensures)) (loop .loop .inv .1),
       ),
     ))
@@ -121,7 +121,7 @@ pub +is-subtree-spec : {M : Type 1} → statement M
     (λ c. let turn = c .before .before in
     let loop = turn .before in
     let st = loop .before .before .before .before .before .before .before in
-    let w = st .pre .1 .0 in
+    let w = st .pre .1 .0 .comparing in
     let a = st .args in
     let p = st .pre .1 .1 in
     let more = loop .before .before .before .if2 .left in
@@ -135,7 +135,7 @@ pub +is-subtree-spec : {M : Type 1} → statement M
     (λ c κs. let turn = c .before .before in
     let loop = turn .before in
     let st = loop .before .before .before .before .before .before .before in
-    let w = st .pre .1 .0 in
+    let w = st .pre .1 .0 .comparing in
     let a = st .args in
     let p = st .pre .1 .1 in
     let more = loop .before .before .before .if2 .left in
@@ -145,7 +145,7 @@ pub +is-subtree-spec : {M : Type 1} → statement M
     (λ c. let turn = c .before .before .before in
     let loop = turn .before in
     let st = loop .before .before .before .before .before .before .before in
-    let w = st .pre .1 .0 in
+    let w = st .pre .1 .0 .comparing in
     let a = st .args in
     let p = st .pre .1 .1 in
     let more = loop .before .before .before .if2 .left in
@@ -170,7 +170,7 @@ pub +is-subtree-spec : {M : Type 1} → statement M
     -- returns-4
     (λ c. let loop = c .before in
     let st = loop .before .before .before .before .before .before .before in
-    let w = st .pre .1 .0 in
+    let w = st .pre .1 .0 .comparing in
     let a = st .args in
     let all : loop .loop .i ≡ length (children (planOf (a .f) []) (a .f .k + 1 - a .e) (a .j)) = omega (arith, c .loop-test .left, loop .loop .inv .0, loop .before .child-count .ensures) in
     let whole = ap (λ m. 1 + length (earlier (a .f) (a .e) (a .j) m)) all ∙ tree-whole (a .f) (a .s) (w .holding .ready) (w .placed) (a .e) (a .j) (a .x) (st .pre .1 .1) in

@@ -25,10 +25,10 @@ abbrev start : tie.At-loop Inv-loop μ-loop → tie.Start Inv-loop μ-loop
 start c = c .before .before
 
 seated : (c : tie.Start Inv-loop μ-loop) → Seated (c .args .f) (c .args .s)
-seated c = seats (c .args .f) (c .args .image .now) (c .args .s) (c .pre)
+seated c = seats (c .args .f) (c .args .image .now) (c .args .s) (c .pre .comparing)
 
 path-end : (c : tie.Start Inv-loop μ-loop) → c .args .s .«tree_at» ≡ c .args .s .start + (c .args .f .copies + 1 - c .args .s .top)
-path-end c = path-size (c .args .f) (c .args .s) (c .pre .holding .ready) (c .pre .placed)
+path-end c = path-size (c .args .f) (c .args .s) (c .pre .comparing .holding .ready) (c .pre .comparing .placed)
 
 loop-holds : tie.Need-loop-holds Inv-loop μ-loop
 loop-holds c = (omega arith, omega arith, omega arith, matches-none _)
@@ -57,8 +57,8 @@ add-i c =
     let turn = c .before .before in
     let loop = turn .before .before in
     let s = start loop in
-    let one = path-layout (s .args .f) (s .args .s) (s .pre .holding .ready) (s .pre .placed) (loop .loop .i) (loop .loop .inv .0) (turn .if1 .taken) in
-    omega (arith, path-few (s .args .f) (s .args .s) (s .pre .holding .ready) (s .pre .placed) one, turn .if1 .taken)
+    let one = path-layout (s .args .f) (s .args .s) (s .pre .comparing .holding .ready) (s .pre .comparing .placed) (loop .loop .i) (loop .loop .inv .0) (turn .if1 .taken) in
+    omega (arith, path-few (s .args .f) (s .args .s) (s .pre .comparing .holding .ready) (s .pre .comparing .placed) one, turn .if1 .taken)
 
 loop-less : tie.Need-loop-less Inv-loop μ-loop
 loop-less c = omega (arith, c .before .before .if1 .taken)

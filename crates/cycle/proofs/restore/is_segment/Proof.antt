@@ -1,4 +1,4 @@
--- `cycle::restore::is_segment` meets its contract: path, tree and data buckets adjoin.
+-- `cycle::restore::is_segment` meets its contract: path, tree and data buckets adjoin, and the data buckets match already.
 -- Assumes nothing.
 use mathlib.Core.Path.{_≡_, sym}
 use mathlib.Core.List.{[]}
@@ -11,15 +11,15 @@ use Rattle.cycle.proofs.SegmentParts.{Seated}
 use Rattle.cycle.proofs.Deciding.{decides-not, decides-told, decides-by}
 use Rattle.cycle.proofs.Matching.{matches-on, matches-part, matches-to}
 use Rattle.cycle.proofs.TreePlaces.{own-tree}
-use Rattle.cycle.proofs.Comparisons.{seats}
+use Rattle.cycle.proofs.Comparisons.{seats, datas-within}
 use Rattle.cycle.proofs.restore.is_segment.Statement.{statement}
 use Rattle.cycle.proofs.restore.is_segment.Tie as tie
 
 seated : (c : tie.Start) → Seated (c .args .f) (c .args .s)
-seated c = seats (c .args .f) (c .args .image .now) (c .args .s) (c .pre)
+seated c = seats (c .args .f) (c .args .image .now) (c .args .s) (c .pre .comparing)
 
 tree-end : (c : tie.Start) → c .args .s .«tree_at» + length (treeAt (planOf (c .args .f) []) (c .args .s .height) (c .args .s .root)) ≡ c .args .s .«data_at»
-tree-end c = sym (c .pre .placed [] .tree-length)
+tree-end c = sym (c .pre .comparing .placed [] .tree-length)
 
 returns : tie.Need-returns
 returns c =
@@ -29,30 +29,18 @@ returns c =
 is-subtree-requires : tie.Need-is-subtree-requires
 is-subtree-requires c κs =
     let start = c .before .before .before in
-    (start .pre, own-tree (start .args .f) (start .args .s) (start .pre .holding .ready) (start .pre .placed))
+    (start .pre, own-tree (start .args .f) (start .args .s) (start .pre .comparing .holding .ready) (start .pre .comparing .placed))
 
 returns-2 : tie.Need-returns-2
 returns-2 c =
-    let start = c .before .before .before .before .before in
-    decides-not (c .if2 .taken)
-    (matches-part _ _ (omega (arith, seated start)) (omega (arith, seated start, tree-end start)))
-    (c .before .is-subtree .ensures)
-
-returns-3 : tie.Need-returns-3
-returns-3 c =
-    let tree = c .before in
-    let path = tree .before .before in
+    let path = c .before in
     let start = path .before .before .before in
     decides-by
-    (λ datas.
-    matches-on
-    (matches-on (decides-told (path .if1 .left) (path .before .is-path .ensures))
-    (matches-to (tree-end start) (decides-told (tree .if2 .left) (tree .before .is-subtree .ensures))))
-    datas)
-    (matches-part _ _ (omega (arith, seated start)) (omega arith))
-    (c .are-datas .ensures)
+    (λ tree.
+    matches-on (matches-on (decides-told (path .if1 .left) (path .before .is-path .ensures)) (matches-to (tree-end start) tree))
+    (datas-within (start .args .f) (start .args .image .now) (start .args .s) (start .pre .comparing) (start .pre .datas)))
+    (matches-part _ _ (omega (arith, seated start)) (omega (arith, seated start, tree-end start)))
+    (c .is-subtree .ensures)
 
 pub is-segment-spec : {M : Type 1} → statement M
-is-segment-spec =
-    tie.close
-    (tie.spec (λ c κs. search needs) returns is-subtree-requires returns-2 (λ c κs. search needs) returns-3)
+is-segment-spec = tie.close (tie.spec (λ c κs. search needs) returns is-subtree-requires returns-2)

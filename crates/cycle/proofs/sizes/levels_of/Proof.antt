@@ -11,7 +11,8 @@ use borrow.Author.Tests.{le-leb, lt-leb}
 use Rattle.columns.specs.Lists.{least}
 use Rattle.cycle.specs.Tree.{levels}
 use Rattle.cycle.proofs.Ranges.{le-or-lt}
-use Rattle.cycle.proofs.Powers.{least-found, least-next, power-reaches}
+use Rattle.cycle.proofs.Least.{least-found, least-next}
+use Rattle.cycle.proofs.Powers.{power-reaches}
 use Rattle.cycle.proofs.sizes.levels_of.Statement.{statement}
 use Rattle.cycle.proofs.sizes.levels_of.Tie as tie
 

@@ -15,7 +15,7 @@ use Rattle.listener.specs.OnReading.{held, pairsHeld, entriesHeld, near,
 use Rattle.listener.specs.declared.Phase.the-variants
 use Rattle.listener.specs.declared.Listener.{Listener}
 use Rattle.listener.proofs.Chosen.{dozesUnless0, chosen-near, first-near, index-chosen}
-use Rattle.listener.proofs.HeldLists.{every-drop}
+use Rattle.buckets.proofs.ListParts.{every-drop}
 use Rattle.listener.proofs.Listener.index_step.Statement.{statement}
 use Rattle.listener.proofs.Listener.index_step.Tie as tie
 

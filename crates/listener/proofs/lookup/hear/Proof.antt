@@ -1,7 +1,6 @@
 -- `listener::lookup::hear` meets its contract: the part that is lent is bucket x.
 -- Assumes nothing.
 use mathlib.Core.Path.{_∙_, ap}
-use Prim.Native.Nat.{_-_}
 use borrow.Author.Needs.{needs}
 use Rattle.listener.specs.Listener.{step}
 use Rattle.listener.proofs.CopiedLines.{bucket-lent}

@@ -1,5 +1,4 @@
 -- `listener::state::phase_of` meets its contract: the four tests in their order. Assumes nothing.
-use mathlib.Core.Path.{refl}
 use borrow.Author.Tests.{eq-eqb, ne-eqb}
 use Rattle.listener.specs.State.{phaseOf}
 use Rattle.listener.proofs.state.phase_of.Statement.{statement}

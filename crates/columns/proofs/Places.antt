@@ -1,0 +1,112 @@
+-- The columns of a field are well printed, each behind the one before it, exactly if a number is read from them.
+-- Assumes nothing.
+use Prim.Native.Nat.{ℕ, zero, suc, _<_}
+use mathlib.Core.Path.{_≡_, refl, sym, _∙_}
+use mathlib.Core.Bool.{Bool, true, false, _&&_, _||_, not}
+use mathlib.Core.Option.{Option, none, some}
+use mathlib.Core.List.{List, [], _∷_, _++_}
+use native.Mathlib.Omega.{arith}
+use lib.Dec.{eqb, leb}
+use lib.ListN.{length, replicate}
+use borrow.Author.Tests.{eqb-true, eqb-false, ne-eqb, leb-true}
+use Rattle.columns.specs.Lists.{pick, every}
+use Rattle.columns.specs.PrintedNumbers.{digit, value, readNumber}
+use Rattle.columns.specs.Places.{leading, columnPrinted, columnsPrinted}
+use Rattle.columns.proofs.Strict.{both, and-false, and-true}
+use Rattle.columns.proofs.OnePass.{read-blank, read-zero, read-digits}
+
+-- whether a reading found a number
+abbrev pub found : Option ℕ → Bool
+found none = false
+found (some x) = true
+
+found-pick : (b : Bool) (x : ℕ) → found (pick b (some x) none) ≡ b
+found-pick true x = refl
+found-pick false x = refl
+
+-- ---- one column
+
+digit-used : (c : ℕ) → digit c ≡ true → c ≡ 32 → ⊥
+digit-used c e b = let low = both (leb 48 c) (leb c 57) e .0 in omega (arith, leb-true 48 c low)
+
+behind-used : (b c : ℕ) → (b ≡ 32 → ⊥) → columnPrinted 0 b c ≡ digit c
+unfolding columnPrinted leading
+behind-used b c n = rw (ne-eqb b 32 n)
+
+behind-blank : (c : ℕ) → columnPrinted 0 32 c ≡ (eqb c 32 || (digit c && not (eqb c 48)))
+unfolding columnPrinted leading
+behind-blank c = refl
+
+last-column : (b c : ℕ) → columnPrinted 2 b c ≡ digit c
+unfolding columnPrinted leading
+last-column b c = rw (and-false (eqb b 32 || eqb 2 1))
+
+first-column : (b c : ℕ) → columnPrinted 1 b c ≡ columnPrinted 0 32 c
+unfolding columnPrinted leading
+first-column b c = go (eqb b 32)
+  where
+    go : (t : Bool) → pick ((t || true) && true) (eqb c 32 || (digit c && not (eqb c 48))) (digit c) ≡ (eqb c 32 || (digit c && not (eqb c 48)))
+    go true = refl
+    go false = refl
+
+-- ---- a field, and the columns t behind it, which tell r whatever is before them
+
+module _ (ks t : List ℕ) (r : Bool) (behind : (b : ℕ) → columnsPrinted ks b t ≡ r) where
+  -- the columns behind a used one
+  digits-printed : (w b : ℕ) (s : List ℕ) → length s ≡ suc w → (b ≡ 32 → ⊥)
+      → columnsPrinted (replicate w 0 ++ 2 ∷ ks) b (s ++ t) ≡ (every digit s && r)
+  digits-printed w b [] h n = absurd (omega arith)
+  digits-printed zero b (c ∷ []) h n = rw (last-column b c, behind c, and-true (digit c))
+  digits-printed zero b (c ∷ d ∷ s) h n = absurd (omega arith)
+  digits-printed (suc w) b (c ∷ s) h n =
+      let left : length s ≡ suc w = omega arith in
+      rw (behind-used b c n) (go (digit c) refl (digits-printed w c s left))
+    where
+      go : (d : Bool) → digit c ≡ d
+          → ((c ≡ 32 → ⊥) → columnsPrinted (replicate w 0 ++ 2 ∷ ks) c (s ++ t) ≡ (every digit s && r))
+          → (d && columnsPrinted (replicate w 0 ++ 2 ∷ ks) c (s ++ t)) ≡ ((d && every digit s) && r)
+      go true e more = more (digit-used c e)
+      go false e more = refl
+
+  -- the columns behind blanks
+  number-printed : (w : ℕ) (s : List ℕ) → length s ≡ suc w
+      → columnsPrinted (replicate w 0 ++ 2 ∷ ks) 32 (s ++ t) ≡ (found (readNumber s) && r)
+  number-printed w [] h = absurd (omega arith)
+  number-printed zero (c ∷ []) h =
+      let none-behind : 0 < length {A = ℕ} [] → ⊥ = λ p. omega arith in
+      rw (
+        last-column 32 c,
+        behind c,
+        read-digits c [] (λ p. absurd (none-behind p)) (λ p. absurd (none-behind p)),
+        found-pick (digit c && true) (value 0 (c ∷ [])),
+        and-true (digit c),
+      )
+  number-printed zero (c ∷ d ∷ s) h = absurd (omega arith)
+  number-printed (suc w) (c ∷ s) h =
+      let left : length s ≡ suc w = omega arith in
+      rw (behind-blank c) (go (eqb c 32) (eqb c 48) refl refl left (number-printed w s left))
+    where
+      go : (p q : Bool) → eqb c 32 ≡ p → eqb c 48 ≡ q → length s ≡ suc w
+          → columnsPrinted (replicate w 0 ++ 2 ∷ ks) 32 (s ++ t) ≡ (found (readNumber s) && r)
+          → ((p || (digit c && not q)) && columnsPrinted (replicate w 0 ++ 2 ∷ ks) c (s ++ t)) ≡ (found (readNumber (c ∷ s)) && r)
+      go true q e f left more = rw (eqb-true c 32 e, read-blank s (omega arith)) more
+      go false true e f left more =
+          rw (eqb-true c 48 f, read-zero s (omega arith))
+      go false false e f left more =
+          rw (
+            read-digits c s (λ p. eqb-false c 32 e) (λ p. eqb-false c 48 f),
+            found-pick (digit c && every digit s) (value 0 (c ∷ s)),
+            and-true (digit c),
+            digits-printed w c s left (eqb-false c 32 e),
+          )
+          (assoc (digit c))
+        where
+          assoc : (d : Bool) → (d && (every digit s && r)) ≡ ((d && every digit s) && r)
+          assoc true = refl
+          assoc false = refl
+
+  -- a field of w + 2 columns
+  pub field-printed : (w b : ℕ) (s : List ℕ) → length s ≡ suc (suc w)
+      → columnsPrinted (1 ∷ (replicate w 0 ++ 2 ∷ ks)) b (s ++ t) ≡ (found (readNumber s) && r)
+  field-printed w b [] h = absurd (omega arith)
+  field-printed w b (c ∷ s) h = rw (first-column b c) (number-printed (suc w) (c ∷ s) h)

@@ -1,0 +1,87 @@
+#!/bin/sh
+# The library's calls against those of the reference, at 1,000, 10,000 and 40,000 lines: instructions a bucket, counted by
+# callgrind as the difference between one round and two, and nanoseconds a bucket, the best of several rounds. The growth is
+# that of a bucket's cost from the size before, for library and reference: 1.00 is linear.
+# Usage: bench.sh, some four minutes
+set -e
+cd "$(dirname "$0")"
+cargo build --release --offline --locked --quiet -p bench
+bench=target/release/bench
+
+counted() {
+    valgrind --tool=callgrind --callgrind-out-file=/dev/null "$bench" "$@" 2>&1 >/dev/null | sed -n 's/.*Collected : //p'
+}
+
+# side figures call n p layout copies lines
+instructions() {
+    buckets=$("$bench" "$@" 1)
+    one=$(counted "$@" 1)
+    two=$(counted "$@" 2)
+    echo $(((two - one) / buckets))
+}
+
+ratio() {
+    awk "BEGIN { printf \"%.2f\", $1 / $2 }"
+}
+
+# kind, aim, library, reference, and both at the size before
+cells() {
+    printf ' | %8s %9s %5s %5s' "$3" "$4" "$(ratio "$3" "$4")" "$2"
+    if [ "$5" ]; then
+        printf ' %5s %5s' "$(ratio "$3" "$5")" "$(ratio "$4" "$6")"
+    else
+        printf '            '
+    fi
+}
+
+# figures, call, its aim in instructions, n p layout copies
+rows() {
+    figures=$1
+    call=$2
+    aim=$3
+    shift 3
+    before=
+    before_time=
+    for lines in 1000 10000 40000; do
+        library=$(instructions library "$figures" "$call" "$@" $lines)
+        reference=$(instructions reference "$figures" "$call" "$@" $lines)
+        time=$("$bench" time "$figures" "$call" "$@" $lines)
+        printf '%-7s %-9s %6s' "$*" "$call" $lines
+        cells instructions "$aim" "$library" "$reference" $before
+        cells time "" $time $before_time
+        echo
+        before="$library $reference"
+        before_time=$time
+    done
+}
+
+header() {
+    echo
+    echo "$1"
+    printf '%-24s | %-43s | %s\n' "" "instructions a bucket" "nanoseconds a bucket"
+    printf '%-7s %-9s %6s' "n p l c" call lines
+    printf ' | %8s %9s %5s %5s %11s' library reference ratio aim growth
+    printf ' | %8s %9s %5s %5s %11s\n' library reference ratio "" growth
+}
+
+header "A yard's list: tares of four or five digits, codes of three, weighing numbers of six"
+rows yard build 2200 8 8 1 1
+rows yard read_back 2300 8 8 1 1
+rows yard step 2000 8 8 1 1
+rows yard lookup - 8 8 1 1
+rows yard build 600 2 1 1 4
+rows yard read_back 700 2 1 1 4
+rows yard step 1200 2 1 1 4
+rows yard lookup - 2 1 1 4
+rows yard build - 8 8 2 4
+rows yard read_back - 8 8 2 4
+
+header "A list with figures of any length, 1 to 6 digits, in no order"
+rows any build 2200 8 8 1 1
+rows any read_back 2300 8 8 1 1
+rows any step 2000 8 8 1 1
+rows any lookup - 8 8 1 1
+rows any build 600 2 1 1 4
+rows any read_back 700 2 1 1 4
+rows any step 1200 2 1 1 4
+rows any lookup - 2 1 1 4
