@@ -9,7 +9,6 @@ use native.Mathlib.Omega.{arith}
 use Rattle.columns.specs.declared.Number.the-variants.{Value, Misprinted}
 use Rattle.columns.specs.PrintedNumbers.{asNumber}
 use Rattle.buckets.specs.declared.Line.{Line}
-use Rattle.buckets.specs.declared.LineRead.the-variants.{Read as LineIs, Misprinted as LineMisprinted}
 use Rattle.buckets.specs.declared.Head.{Head}
 use Rattle.buckets.specs.declared.reader.EntryRead.the-variants.{Read as EntryIs, Misprinted as EntryMisprinted}
 use Rattle.buckets.specs.declared.reader.HeadRead.the-variants.{Read as HeadIs, Misprinted as HeadMisprinted}
@@ -17,7 +16,7 @@ use Rattle.buckets.specs.declared.reader.Pairs.{Pairs}
 use Rattle.buckets.specs.declared.reader.Entries.{Entries}
 use Rattle.buckets.specs.declared.reader.Tags.{Tags}
 use Rattle.buckets.specs.Bucket.{Pair, Entry}
-use Rattle.buckets.specs.Held.{asLineRead, tagOrMisprint}
+use Rattle.buckets.specs.Held.{tagOrMisprint}
 use Rattle.buckets.specs.Read.{asEntryRead, asHeadRead, heldPairs, heldEntries, heldTags}
 
 pub number-found : (o : Option ℕ) {x : ℕ} → asNumber o ≡ Value x → o ≡ some x
@@ -27,14 +26,6 @@ number-found (some y) h = cc
 pub number-none : (o : Option ℕ) → asNumber o ≡ Misprinted → o ≡ none
 number-none none h = refl
 number-none (some y) h = absurd (let z : _≡_ {A = ℕ} 0 1 = cc in omega arith)
-
-pub line-found : (o : Option Line) {l : Line} → asLineRead o ≡ LineIs l → o ≡ some l
-line-found none h = absurd (let z : _≡_ {A = ℕ} 0 1 = cc in omega arith)
-line-found (some k) h = cc
-
-pub line-none : (o : Option Line) → asLineRead o ≡ LineMisprinted → o ≡ none
-line-none none h = refl
-line-none (some k) h = absurd (let z : _≡_ {A = ℕ} 0 1 = cc in omega arith)
 
 -- the tag alone: what a misprint is answered by is no tag
 pub tag-found : (o : Option Line) {x : ℕ} → x ≡ tagOrMisprint o → (x ≡ 18446744073709551615 → ⊥)

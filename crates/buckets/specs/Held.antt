@@ -16,7 +16,7 @@ use Rattle.buckets.specs.declared.Index.{Index}
 use Rattle.buckets.specs.declared.Kind.{Kind}
 use Rattle.buckets.specs.declared.Kind.the-variants.{Index as KindIndex, Data as KindData, Misprinted as KindMisprinted}
 use Rattle.buckets.specs.declared.Reading.{Reading}
-use Rattle.buckets.specs.Bucket.{Pair, Entry, Body, indexBody, dataBody, Bucket, followOn, printPair}
+use Rattle.buckets.specs.Bucket.{Pair, Entry, Body, indexBody, dataBody, Bucket, printPair}
 
 -- a strict reading of a list line as the code answers it
 abbrev pub asLineRead : Option Line → LineRead

@@ -2,14 +2,14 @@
 -- Assumes nothing.
 use Prim.Native.Nat.{ℕ, zero, suc, _+_, _*_, _≤_, _<_}
 use mathlib.Core.Path.{_≡_, refl, sym, ap}
-use mathlib.Core.Bool.{Bool, true, false, _&&_}
+use mathlib.Core.Bool.{Bool, true, _&&_}
 use mathlib.Core.List.{List, [], _∷_, _++_, map, append-assoc}
 use native.Mathlib.Omega.{arith}
 use native.Mathlib.Nat.{zero-mul, suc-mul}
 use lib.ListN.{length, take, drop, getD, length-append}
 use lib.Seq.{take-at, drop-at, drop-append-add, take-append-add, drop-drop, take-add}
 use Rattle.columns.specs.Lists.{joined, every, parts}
-use Rattle.columns.proofs.Strict.{both}
+use Rattle.columns.proofs.Strict.{both, and-assoc}
 
 pub joined-append : {A B : Type 0} (f : A → List B) (xs ys : List A) → joined f (xs ++ ys) ≡ joined f xs ++ joined f ys
 joined-append f [] ys = refl
@@ -17,11 +17,7 @@ joined-append f (x ∷ xs) ys = rw (joined-append f xs ys) (simp append-assoc)
 
 pub every-append : {A : Type 0} (f : A → Bool) (xs ys : List A) → every f (xs ++ ys) ≡ every f xs && every f ys
 every-append f [] ys = refl
-every-append f (x ∷ xs) ys = rw (every-append f xs ys) (assoc (f x) (every f xs) (every f ys))
-  where
-    assoc : (p q r : Bool) → p && (q && r) ≡ (p && q) && r
-    assoc true q r = refl
-    assoc false q r = refl
+every-append f (x ∷ xs) ys = rw (every-append f xs ys) (and-assoc (f x) (every f xs) (every f ys))
 
 -- a test that always passes
 pub every-always : {A : Type 0} (f : A → Bool) → ((a : A) → f a ≡ true) → (xs : List A) → every f xs ≡ true

@@ -1,7 +1,7 @@
 -- The columns of a field are well printed, each behind the one before it, exactly if a number is read from them.
 -- Assumes nothing.
 use Prim.Native.Nat.{ℕ, zero, suc, _<_}
-use mathlib.Core.Path.{_≡_, refl, sym, _∙_}
+use mathlib.Core.Path.{_≡_, refl}
 use mathlib.Core.Bool.{Bool, true, false, _&&_, _||_, not}
 use mathlib.Core.Option.{Option, none, some}
 use mathlib.Core.List.{List, [], _∷_, _++_}
@@ -12,7 +12,7 @@ use borrow.Author.Tests.{eqb-true, eqb-false, ne-eqb, leb-true}
 use Rattle.columns.specs.Lists.{pick, every}
 use Rattle.columns.specs.PrintedNumbers.{digit, value, readNumber}
 use Rattle.columns.specs.Places.{leading, columnPrinted, columnsPrinted}
-use Rattle.columns.proofs.Strict.{both, and-false, and-true}
+use Rattle.columns.proofs.Strict.{both, and-false, and-true, and-assoc}
 use Rattle.columns.proofs.OnePass.{read-blank, read-zero, read-digits}
 
 -- whether a reading found a number
@@ -99,11 +99,7 @@ module _ (ks t : List ℕ) (r : Bool) (behind : (b : ℕ) → columnsPrinted ks 
             and-true (digit c),
             digits-printed w c s left (eqb-false c 32 e),
           )
-          (assoc (digit c))
-        where
-          assoc : (d : Bool) → (d && (every digit s && r)) ≡ ((d && every digit s) && r)
-          assoc true = refl
-          assoc false = refl
+          (and-assoc (digit c) (every digit s) r)
 
   -- a field of w + 2 columns
   pub field-printed : (w b : ℕ) (s : List ℕ) → length s ≡ suc (suc w)

@@ -28,6 +28,10 @@ pub and-true : (a : Bool) → a && true ≡ a
 and-true true = refl
 and-true false = refl
 
+pub and-assoc : (p q r : Bool) → p && (q && r) ≡ (p && q) && r
+and-assoc true q r = refl
+and-assoc false q r = refl
+
 pub same-refl : (s : List ℕ) → same s s ≡ true
 same-refl [] = refl
 same-refl (x ∷ s) = rw (eq-eqb x x refl, same-refl s)
@@ -49,10 +53,6 @@ same-append (x ∷ a) b [] d h = absurd (omega arith)
 same-append (x ∷ a) b (y ∷ c) d h =
     let e : length a ≡ length c = omega arith in
     rw (same-append a b c d e, and-assoc (eqb x y) (same a c) (same b d))
-  where
-    and-assoc : (p q r : Bool) → p && (q && r) ≡ (p && q) && r
-    and-assoc true q r = refl
-    and-assoc false q r = refl
 
 module _ {A : Type 0} (spell : List ℕ → A) (ok : A → Bool) (show : A → List ℕ) where
   pub strict-back : (a : A) → ok a ≡ true → spell (show a) ≡ a → strict spell ok show (show a) ≡ some a

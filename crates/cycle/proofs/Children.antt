@@ -1,18 +1,18 @@
--- The children of a bucket that the figures of a cycle have, and how long a subtree can be.
+-- The children of a bucket that the figures of a cycle have.
 -- Assumes nothing.
 use mathlib.Core.Path.{_≡_, refl, sym, ap, subst, _∙_}
-use Prim.Native.Nat.{ℕ, zero, suc, _+_, _-_, _*_, _^_, _≤_, _<_, min}
-use native.Mathlib.Nat.{one-le-pow, mul-comm, mul-le-mul}
+use Prim.Native.Nat.{ℕ, suc, _+_, _-_, _*_, _^_, _≤_, _<_, min}
+use native.Mathlib.Nat.{one-le-pow, mul-le-mul}
 use native.Mathlib.Omega.{arith}
 use mathlib.Core.List.{List, [], _∷_, _++_, append-nil}
 use lib.ListN.{length, length-append}
 use Rattle.columns.specs.Lists.{joined, span, range, up}
 use Rattle.columns.proofs.Joined.{joined-append}
 use Rattle.cycle.specs.Tree.{Plan, width, children}
-use Rattle.cycle.specs.Layouts.{subtree, slots}
+use Rattle.cycle.specs.Layouts.{slots}
 use Rattle.cycle.specs.Cycle.{occurs, cycleSize}
 use Rattle.cycle.specs.declared.Figures.{Figures}
-use Rattle.cycle.specs.Held.{planOf, fullSize, InTree, Ready, treeAt, firstPlace}
+use Rattle.cycle.specs.Held.{planOf, InTree, Ready, treeAt, firstPlace}
 use Rattle.cycle.proofs.Ranges.{length-range, span-append}
 use Rattle.cycle.proofs.TreeLaws.{up-least, width-up, width-lt, length-children}
 use Rattle.cycle.proofs.Distances.{distance-all}
@@ -27,26 +27,6 @@ size-slots f ready = ready .size-is
 pub first-high : (t : Plan) (i j : ℕ) → firstPlace t i j ≤ length (slots t)
 unfolding firstPlace
 first-high t i j = omega (arith, distance-all (occurs i j) (slots t))
-
--- ---- how long a subtree can be
-
-pub length-joined : {A : Type 0} (g : ℕ → List A) (m a c : ℕ) → ((x : ℕ) → length (g x) ≤ m) → length (joined g (span a c)) ≤ c * m
-length-joined g m a zero h = omega arith
-length-joined g m a (suc c) h =
-    let e : length (g a ++ joined g (span (suc a) c)) ≡ length (g a) + length (joined g (span (suc a) c)) =
-    length-append (g a) (joined g (span (suc a) c)) in
-    omega (arith, h a, length-joined g m (suc a) c h)
-
-pub subtree-small : (t : Plan) (h i j : ℕ) → length (subtree t h i j) ≤ fullSize (t .n) h
-unfolding children
-subtree-small t zero i j = omega arith
-subtree-small t (suc h) i j =
-    let c : ℕ = min (j * t .n + t .n) (width t (suc i)) - j * t .n in
-    let few : length (joined (λ x. subtree t h (suc i) x) (span (j * t .n) c)) ≤ c * fullSize (t .n) h =
-    length-joined (λ x. subtree t h (suc i) x) (fullSize (t .n) h) (j * t .n) c (λ x. subtree-small t h (suc i) x) in
-    let all : c * fullSize (t .n) h ≤ t .n * fullSize (t .n) h = mul-le-mul {n₂ = t .n} {m₂ = fullSize (t .n) h} (omega arith) (omega arith) in
-    let turned : t .n * fullSize (t .n) h ≡ fullSize (t .n) h * t .n = mul-comm (t .n) (fullSize (t .n) h) in
-    omega arith
 
 -- ---- the distance to a child behind its earlier siblings
 
@@ -111,10 +91,6 @@ module _ (f : Figures) (ready : Ready f) (e j : ℕ) (low : 1 ≤ e) (inside : I
   unfolding children planOf
   children-row =
       ap (span (j * f .n)) (sym (length-range (j * f .n) (min (j * f .n + f .n) (width (planOf f []) childLevel))))
-
-  pub tree-small : (h x : ℕ) → h ≤ e → length (treeAt (planOf f []) h x) ≤ 320000
-  unfolding treeAt planOf
-  tree-small h x u = omega (arith, subtree-small (planOf f []) h (f .k + 1 - h) x, bucket .full-small h u)
 
   pub first-small : j * f .n ≤ 320000
   first-small =

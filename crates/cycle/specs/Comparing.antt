@@ -22,6 +22,11 @@ pub record Decides (P : Type 0) (answer : Bool) : Type 0 where
   pub yes : answer ≡ true → P
   pub no : answer ≡ false → P → ⊥
 
+-- the search's answer is y where P holds, and 0 where it does not
+pub record Finds (P : Type 0) (y answer : ℕ) : Type 0 where
+  pub found : (answer ≡ 0 → ⊥) → P × (answer ≡ y)
+  pub none : answer ≡ 0 → P → ⊥
+
 -- ---- how many lines
 
 -- p for each of d data buckets but the last, and what the last digit of that one's count says

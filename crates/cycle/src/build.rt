@@ -68,7 +68,7 @@ fn write_tree_bucket(
     let index = tree_pairs(list, f, Source::List, s.first, e, x);
     let count = child_count(f, e, j);
     let places = tag_places(f, e, j, count);
-    let distances = tree_distances(f, e, j, count, x);
+    let distances = tree_distances(f, s, e, j, count, x);
     let at = (240 * x) as usize;
     let to = at + 240;
     copy_index(

@@ -7,20 +7,21 @@ use super::places::first_place;
 use super::places::largest_tag;
 use super::places::last_line;
 use super::places::tag_of;
+use super::sizes::full_size;
 use super::sizes::power;
-use super::sizes::tree_size;
 use super::sizes::up;
 use buckets::Head;
 use buckets::Index;
 ghost use mathlib.Core.Path.{_≡_};
-ghost use mathlib.Core.List.{[], _∷_, _++_, map};
+ghost use mathlib.Core.List.{List, [], _∷_, _++_, map};
 ghost use Prim.Native.Nat.{suc, _+_, _-_, _*_, _%_, _≤_, _<_, max};
 ghost use lib.ListN.{length, drop};
 ghost use Rattle.buckets.specs.Held.{filled, tagOr0, heldIndex, headOf};
 ghost use Rattle.cycle.specs.Tree.{width, children};
 ghost use Rattle.cycle.specs.Layouts.{slots};
 ghost use Rattle.cycle.specs.Cycle.{toNextSegment, firstPair};
-ghost use Rattle.cycle.specs.Held.{planOf, Ready, InTree, Placed, TextFits, planIn, cycleBucket, asIndex};
+ghost use Rattle.buckets.specs.declared.Line.{Line};
+ghost use Rattle.cycle.specs.Held.{planOf, Ready, InTree, Placed, Under, TextFits, planIn, cycleBucket, asIndex};
 ghost use Rattle.cycle.specs.Held.{firstPlace, aheadOf, lastOf, childTags, farDistances, nearDistances};
 ghost use Rattle.cycle.specs.Held.{treePairs, pairReach, placeOver, pairTags, pairDistances, OnPath, treeDistances, tagPlace};
 
@@ -141,13 +142,13 @@ fn near_distances(f: Figures, e: usize, j: u64, count: usize) -> [u64; 8]
     ensures { λ r. ⌜ r ≡ filled 8 (nearDistances (planOf f []) e j) ⌝ }
 {
     let below = e - 1;
-    let from = j * f.n;
+    let full = full_size(f.n, below);
     let mut distances = [0u64; 8];
     let mut d = 1;
     let mut i = 0;
     while i < count {
         distances[i] = d;
-        d += tree_size(f, below, from + i as u64);
+        d += full;
         i += 1;
     }
     distances
@@ -179,12 +180,13 @@ fn far_distances(f: Figures, e: usize, j: u64, count: usize, x: u64) -> [u64; 8]
     distances
 }
 
-// The distances from bucket j of height 1 at x to its children in layout 1, which stand side by side.
-fn row_distances(f: Figures, j: u64, count: usize, x: u64) -> [u64; 8]
-    requires { ⌜ Ready f × (1 ≤ f .d) × (f .layout ≡ 1) × InTree f 1 j × (count ≡ length (children (planOf f []) (f .k + 1 - 1) j)) × (x < f .size) ⌝ }
+// The distances from bucket j of height 1 of a segment's tree, at x, to its children in layout 1: the segment has them, side by
+// side.
+fn row_distances(f: Figures, s: Segment, j: u64, count: usize, x: u64) -> [u64; 8]
+    requires { ⌜ Ready f × (1 ≤ f .d) × (f .layout ≡ 1) × InTree f 1 j × (count ≡ length (children (planOf f []) (f .k + 1 - 1) j)) × (x < f .size) × ((ls : List Line) → Placed (planOf f ls) s) × Under f s 1 j ⌝ }
     ensures { λ r. ⌜ r ≡ filled 8 (farDistances (planOf f []) (f .size) x 1 j) ⌝ }
 {
-    let first = data_place(f, j * f.n);
+    let first = s.data_at + (j * f.n - s.first);
     let mut distances = [0u64; 8];
     let mut i = 0;
     while i < count {
@@ -195,8 +197,8 @@ fn row_distances(f: Figures, j: u64, count: usize, x: u64) -> [u64; 8]
 }
 
 // The distances from bucket j of height e in a segment's tree, at x, to its children.
-pub fn tree_distances(f: Figures, e: usize, j: u64, count: usize, x: u64) -> [u64; 8]
-    requires { ⌜ Ready f × (1 ≤ e) × InTree f e j × (count ≡ length (children (planOf f []) (f .k + 1 - e) j)) × (x < f .size) ⌝ }
+pub fn tree_distances(f: Figures, s: Segment, e: usize, j: u64, count: usize, x: u64) -> [u64; 8]
+    requires { ⌜ Ready f × (1 ≤ e) × InTree f e j × (count ≡ length (children (planOf f []) (f .k + 1 - e) j)) × (x < f .size) × ((ls : List Line) → Placed (planOf f ls) s) × Under f s e j ⌝ }
     ensures { λ r. ⌜ r ≡ filled 8 (treeDistances (planOf f []) (f .size) x e j) ⌝ }
 {
     if f.d == 0 {
@@ -206,7 +208,7 @@ pub fn tree_distances(f: Figures, e: usize, j: u64, count: usize, x: u64) -> [u6
         return near_distances(f, e, j, count);
     }
     if f.layout == 1 {
-        return row_distances(f, j, count, x);
+        return row_distances(f, s, j, count, x);
     }
     far_distances(f, e, j, count, x)
 }

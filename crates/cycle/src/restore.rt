@@ -19,7 +19,6 @@ use super::sizes::copies_fit;
 use super::sizes::figures_of;
 use super::sizes::lesser;
 use super::sizes::power;
-use super::sizes::tree_size;
 use super::sizes::with_size;
 use buckets::Head;
 use buckets::Kind;
@@ -39,7 +38,7 @@ ghost use Rattle.buckets.specs.Held.{filled};
 ghost use Rattle.cycle.specs.Tree.{settings, children, lastTag};
 ghost use Rattle.cycle.specs.ReadingBack.{ReadsBack};
 ghost use Rattle.cycle.specs.Held.{planOf, Shaped, Ready, InTree, Placed, Under, firstPlace, treeAt, planIn, TreePlace};
-ghost use Rattle.cycle.specs.Comparing.{Decides, counted, bucketBytes, MatchesAt, Matches, DataMatches, Followed, imagePlace, linesText, listText, Holding, Comparing, Checking};
+ghost use Rattle.cycle.specs.Comparing.{Decides, Finds, counted, bucketBytes, MatchesAt, Matches, DataMatches, Followed, imagePlace, linesText, listText, Holding, Comparing, Checking};
 ghost use Rattle.cycle.specs.declared.Source.the-variants as Source;
 
 fn same_head(a: Head, b: Head) -> bool
@@ -126,15 +125,22 @@ fn image_places(f: Figures, s: Segment, e: usize, j: u64, count: usize) -> [usiz
     places
 }
 
-// Whether bucket j of height e of a segment's tree stands at x.
-fn is_tree_bucket(image: &[u8], f: Figures, s: Segment, e: usize, j: u64, x: u64) -> bool
-    requires { ⌜ Checking f (now image) s × TreePlace f s e j x ⌝ }
+// Whether bucket j of height e of a segment's tree, with `count` entries, stands at x.
+fn is_tree_bucket(
+    image: &[u8],
+    f: Figures,
+    s: Segment,
+    e: usize,
+    j: u64,
+    x: u64,
+    count: usize,
+) -> bool
+    requires { ⌜ Checking f (now image) s × TreePlace f s e j x × (count ≡ length (children (planOf f []) (f .k + 1 - e) j)) ⌝ }
     ensures { λ r. ⌜ Decides (MatchesAt (planIn f Source.Image (now (image .entry))) (now (image .entry)) x) r ⌝ }
 {
     let index = tree_pairs(image, f, Source::Image, s.first, e, x);
-    let count = child_count(f, e, j);
     let places = image_places(f, s, e, j, count);
-    let distances = tree_distances(f, e, j, count, x);
+    let distances = tree_distances(f, s, e, j, count, x);
     let mut wanted = [0u8; 240];
     copy_index(
         &mut wanted,
@@ -148,31 +154,30 @@ fn is_tree_bucket(image: &[u8], f: Figures, s: Segment, e: usize, j: u64, x: u64
     is_at(image, x, &wanted)
 }
 
-// Whether the subtree of bucket j of height e stands from x on.
-fn is_subtree(image: &[u8], f: Figures, s: Segment, e: usize, j: u64, x: u64) -> bool
+// The position behind the subtree of bucket j of height e, if it stands from x on; else 0.
+fn behind_subtree(image: &[u8], f: Figures, s: Segment, e: usize, j: u64, x: u64) -> u64
     requires { ⌜ Checking f (now image) s × TreePlace f s e j x ⌝ }
-    ensures { λ r. ⌜ Decides (Matches (planIn f Source.Image (now (image .entry))) (now (image .entry)) x (x + length (treeAt (planOf f []) e j))) r ⌝ }
+    ensures { λ r. ⌜ Finds (Matches (planIn f Source.Image (now (image .entry))) (now (image .entry)) x (x + length (treeAt (planOf f []) e j))) (x + length (treeAt (planOf f []) e j)) r ⌝ }
 {
-    if !is_tree_bucket(image, f, s, e, j, x) {
-        return false;
+    let count = child_count(f, e, j);
+    if !is_tree_bucket(image, f, s, e, j, x, count) {
+        return 0;
     }
+    let mut next = x + 1;
     if e == 1 {
-        return true;
+        return next;
     }
     let below = e - 1;
     let first = j * f.n;
-    let count = child_count(f, e, j);
-    let mut next = x + 1;
     let mut i = 0;
     while i < count {
-        let c = first + i as u64;
-        if !is_subtree(image, f, s, below, c, next) {
-            return false;
+        next = behind_subtree(image, f, s, below, first + i as u64, next);
+        if next == 0 {
+            return 0;
         }
-        next += tree_size(f, below, c);
         i += 1;
     }
-    true
+    next
 }
 
 // Whether the path bucket of level i of a segment stands at x.
@@ -297,7 +302,7 @@ fn is_segment(image: &[u8], f: Figures, s: Segment) -> bool
     if !is_path(image, f, s) {
         return false;
     }
-    is_subtree(image, f, s, s.height, s.root, s.tree_at)
+    behind_subtree(image, f, s, s.height, s.root, s.tree_at) != 0
 }
 
 // Whether all data buckets stand in their places.

@@ -60,7 +60,7 @@ pub fn power(n: u64, h: usize) -> u64
 }
 
 // The index buckets of a full subtree of height h.
-fn full_size(n: u64, h: usize) -> u64
+pub fn full_size(n: u64, h: usize) -> u64
     requires { ⌜ (2 ≤ n) × (n ≤ 8) × (h ≤ 16) ⌝ }
     ensures { λ r. ⌜ r ≡ fullSize n h ⌝ }
 {
@@ -133,7 +133,7 @@ fn last_tree_size(f: Figures, e: usize, j: u64) -> u64
 }
 
 // The index buckets of the subtree of bucket j of height e.
-pub fn tree_size(f: Figures, e: usize, j: u64) -> u64
+fn tree_size(f: Figures, e: usize, j: u64) -> u64
     requires { ⌜ Shaped f × (1 ≤ e) × InTree f e j ⌝ }
     ensures { λ r. ⌜ r ≡ length (treeAt (planOf f []) e j) ⌝ }
 {

@@ -1,8 +1,8 @@
 -- `buckets::fields::all_blank` meets its contract. The loop's invariant: the columns passed and the columns left tell the answer.
 -- Assumes nothing.
 use Prim.Native.Nat.{ℕ, suc, _+_, _-_, _≤_, _<_}
-use mathlib.Core.Path.{_≡_, refl, sym, ap, _∙_}
-use mathlib.Core.Bool.{Bool, true, false, _&&_}
+use mathlib.Core.Path.{_≡_, refl, sym, _∙_}
+use mathlib.Core.Bool.{Bool, true, _&&_}
 use mathlib.Core.List.{List}
 use native.Mathlib.Numerals.{add-one}
 use native.Mathlib.Omega.{arith}
@@ -10,14 +10,10 @@ use lib.Dec.{eqb}
 use lib.ListN.{length, drop, getD, drop-of-length-le}
 use lib.Seq.{drop-cons}
 use borrow.Author.Needs.{needs}
-use Rattle.columns.proofs.Strict.{and-true}
+use Rattle.columns.proofs.Strict.{and-true, and-assoc}
 use Rattle.buckets.specs.Columns.{allBlank}
 use Rattle.buckets.proofs.fields.all_blank.Statement.{statement}
 use Rattle.buckets.proofs.fields.all_blank.Tie as tie
-
-and-assoc : (a b c : Bool) → (a && (b && c)) ≡ ((a && b) && c)
-and-assoc true b c = refl
-and-assoc false b c = refl
 
 -- what column i makes of the columns from it on
 module _ (s : List ℕ) (i : ℕ) (blank : Bool) (e : allBlank s ≡ (blank && allBlank (drop i s))) where

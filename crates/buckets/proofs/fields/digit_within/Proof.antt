@@ -1,15 +1,13 @@
 -- `buckets::fields::digit_within` meets its contract: a number of one digit leaves the first of two columns blank.
 -- Assumes nothing.
-use Prim.Native.Nat.{ℕ, _≤_}
-use mathlib.Core.Path.{_≡_, refl, sym, ap, _∙_}
-use mathlib.Core.Option.{Option, none, some}
+use Prim.Native.Nat.{ℕ}
+use mathlib.Core.Path.{_≡_, sym, ap, _∙_}
 use mathlib.Core.List.{List, [], _∷_}
 use native.Mathlib.Omega.{arith}
 use lib.ListN.{length, getD}
 use borrow.Author.Needs.{needs}
 use Rattle.columns.specs.PrintedNumbers.{readNumber, asNumber, orMisprint}
 use Rattle.columns.proofs.OnePass.{read-blank}
-use Rattle.buckets.specs.Columns.{numberWithin}
 use Rattle.buckets.proofs.Within.{first-used}
 use Rattle.buckets.proofs.fields.digit_within.Statement.{statement}
 use Rattle.buckets.proofs.fields.digit_within.Tie as tie

@@ -1,6 +1,6 @@
 -- `buckets::fields::within` meets its contract: the tests of the bounds, one after the other.
 -- Assumes nothing.
-use mathlib.Core.Path.{_≡_, sym, ap}
+use mathlib.Core.Path.{sym, ap}
 use Rattle.columns.specs.PrintedNumbers.{asNumber}
 use Rattle.columns.proofs.Answered.{misprint-none, found-some}
 use Rattle.buckets.proofs.Bounds.{misprinted, too-low, too-high, within}

@@ -1,6 +1,6 @@
 -- `buckets::lines::line_tag` meets its contract: length, newline, figures.
 -- Assumes nothing.
-use mathlib.Core.Path.{_≡_, sym, ap, _∙_}
+use mathlib.Core.Path.{sym, ap, _∙_}
 use borrow.Author.Needs.{needs}
 use Rattle.buckets.specs.Held.{tagOrMisprint}
 use Rattle.buckets.proofs.Figures.{wrong-length, no-newline, by-figures}

@@ -1,7 +1,7 @@
 -- `cycle::build::first_misprint` meets its contract. The loop's invariant: the lines before i read, so that those from i on
 -- tell the place.
 -- Assumes nothing.
-use mathlib.Core.Path.{_≡_, refl, sym, ap, _∙_}
+use mathlib.Core.Path.{_≡_, refl, ap}
 use Prim.Native.Nat.{ℕ, _+_, _-_, _*_, _≤_}
 use native.Mathlib.Omega.{arith}
 use lib.ListN.{drop}

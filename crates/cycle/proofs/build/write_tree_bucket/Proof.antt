@@ -58,7 +58,7 @@ tag-places-requires c κs =
 tree-distances-requires : tie.Need-tree-distances-requires
 tree-distances-requires c κs =
     let start = c .before .before .before .before .before in
-    (start .pre .0 .sending .ready, start .pre .1 .low, start .pre .1 .inside, c .before .child-count .ensures, here start)
+    (start .pre .0 .sending .ready, start .pre .1 .low, start .pre .1 .inside, c .before .child-count .ensures, here start, start .pre .0 .placed, start .pre .1 .under)
 
 abbrev begun : tie.After-tree-distances → tie.Start
 begun c = c .before .before .before .before .before .before

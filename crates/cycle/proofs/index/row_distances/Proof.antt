@@ -2,18 +2,18 @@
 -- Assumes nothing.
 use mathlib.Core.Path.{_≡_, refl, sym, ap, subst, _∙_}
 use mathlib.Core.List.{[], map}
-use Prim.Native.Nat.{ℕ, suc, _+_, _-_, _*_, _^_, _≤_, _<_}
-use native.Mathlib.Nat.{mul-one, pow-zero, pow-succ'}
+use Prim.Native.Nat.{ℕ, suc, _+_, _-_, _*_, _≤_, _<_}
+use native.Mathlib.Nat.{pow-zero}
 use native.Mathlib.Omega.{arith}
 use lib.ListN.{length}
 use Rattle.columns.specs.Lists.{span}
 use Rattle.buckets.specs.Held.{filled}
 use Rattle.cycle.specs.Tree.{children}
-use Rattle.cycle.specs.Held.{planOf, InTree, firstPlace, aheadOf, farDistances}
+use Rattle.cycle.specs.Held.{planOf, firstPlace, aheadOf, farDistances}
 use Rattle.cycle.specs.declared.Figures.{Figures}
 use Rattle.cycle.proofs.Filled.{fill-turn}
 use Rattle.cycle.proofs.Children.{size-slots, first-high, first-small, few, under-data, children-count, children-row}
-use Rattle.cycle.proofs.DataRows.{row-place}
+use Rattle.cycle.proofs.DataRows.{row-place, Row, row-room}
 use Rattle.cycle.proofs.index.row_distances.Statement.{statement}
 use Rattle.cycle.proofs.index.row_distances.Tie as tie
 
@@ -31,17 +31,23 @@ abbrev μ-loop : tie.MeasureT-loop
 level : (k : ℕ) → k + 1 ≡ suc (k + 1 - 1)
 level k = omega arith
 
-first-inside : (f : Figures) (j : ℕ) → 1 ≤ f .d → InTree f 1 j → j * f .n < f .d
-unfolding InTree
-first-inside f j some inside = let e : f .n ^ 1 ≡ f .n = pow-succ' (f .n) 0 ∙ ap (λ m. f .n * m) (pow-zero (f .n)) ∙ mul-one (f .n) in omega (arith, rw e at (inside .1))
+-- the first child's place, as the code tells it
+abbrev firstAt : tie.Start Inv-loop μ-loop → ℕ
+firstAt c = c .args .s .«data_at» + (c .args .j * c .args .f .n - c .args .s .first)
 
-mul-data-place : tie.Need-mul-data-place Inv-loop μ-loop
-mul-data-place c =
+room : (c : tie.Start Inv-loop μ-loop) → Row (c .args .f) (c .args .s) (c .args .j)
+room c = row-room (c .args .f) (c .args .s) (c .pre .0) (c .pre .6) (c .pre .2) (c .pre .1) (c .args .j) (c .pre .3) (c .pre .7)
+
+mul-first : tie.Need-mul-first Inv-loop μ-loop
+mul-first c =
     let s = c .before in
     omega (arith, first-small (s .args .f) (s .pre .0) 1 (s .args .j) (omega arith) (s .pre .3))
 
-data-place-requires : tie.Need-data-place-requires Inv-loop μ-loop
-data-place-requires c κs = let s = c .before in (s .pre .0, first-inside (s .args .f) (s .args .j) (s .pre .1) (s .pre .3))
+sub-first : tie.Need-sub-first Inv-loop μ-loop
+sub-first c = room (c .before .before) .low
+
+add-first : tie.Need-add-first Inv-loop μ-loop
+add-first c = let r = room (c .before .before .before) in omega (arith, r)
 
 loop-holds : tie.Need-loop-holds Inv-loop μ-loop
 unfolding filled
@@ -55,15 +61,16 @@ record Child (f : Figures) (j i first : ℕ) : Type 0 where
   size-high : f .size ≤ 99999
 
 child : (c : tie.In-loop Inv-loop μ-loop) →
-    Child (c .before .before .before .before .args .f) (c .before .before .before .before .args .j) (c .before .loop .i) (c .before .before .data-place .result)
+    let s = c .before .before .before .before .before in
+    Child (s .args .f) (s .args .j) (c .before .loop .i) (firstAt s)
 child c =
-    let s = c .before .before .before .before in
+    let s = c .before .before .before .before .before in
     let f = s .args .f in
     let j : ℕ = s .args .j in
     let i : ℕ = c .before .loop .i in
     let among : i < length (children (planOf f []) (f .k + 1 - 1) j) = omega (arith, s .pre .4, c .loop-test .taken) in
     let count = children-count f (s .pre .0) 1 j (omega arith) (s .pre .3) in
-    let first : c .before .before .data-place .result ≡ firstPlace (planOf f []) (f .k + 1) (j * f .n) = c .before .before .data-place .ensures in
+    let first : firstAt s ≡ firstPlace (planOf f []) (f .k + 1) (j * f .n) = sym (room s .there) in
     let under : (j * f .n + i) * 1 < f .d =
     subst (λ m. (j * f .n + i) * m < f .d) (pow-zero (f .n)) (under-data f (s .pre .0) 1 j (omega arith) (s .pre .3) i among) in
     record {
@@ -78,7 +85,7 @@ add-ahead c = omega (arith, child c)
 
 ahead-requires : tie.Need-ahead-requires Inv-loop μ-loop
 ahead-requires c κs =
-    let s = c .before .before .before .before in
+    let s = c .before .before .before .before .before in
     (s .pre .5, omega (arith, child c), s .pre .0 .size-high)
 
 mul-distances : tie.Need-mul-distances Inv-loop μ-loop
@@ -95,7 +102,7 @@ loop-less c = omega arith
 
 loop-again : tie.Need-loop-again Inv-loop μ-loop
 loop-again c =
-    let s = c .before .before .before .before .before in
+    let s = c .before .before .before .before .before .before in
     let l = c .before .before .loop in
     let f = s .args .f in
     let x : ℕ = s .args .x in
@@ -108,7 +115,7 @@ loop-again c =
 returns : tie.Need-returns Inv-loop μ-loop
 unfolding farDistances planOf
 returns c =
-    let s = c .before .before .before .before in
+    let s = c .before .before .before .before .before in
     let l = c .before .loop in
     let f = s .args .f in
     let x : ℕ = s .args .x in
@@ -125,8 +132,9 @@ row-distances-spec =
     (tie.spec
     Inv-loop
     μ-loop
-    mul-data-place
-    data-place-requires
+    mul-first
+    sub-first
+    add-first
     loop-holds
     add-ahead
     ahead-requires

@@ -12,7 +12,7 @@ use Rattle.columns.specs.Lists.{pick}
 use Rattle.buckets.specs.Held.{filled}
 use Rattle.cycle.specs.Tree.{children}
 use Rattle.cycle.specs.declared.Figures.{Figures}
-use Rattle.cycle.specs.Held.{planOf, InTree, farDistances, nearDistances, treeDistances}
+use Rattle.cycle.specs.Held.{planOf, InTree, Under, farDistances, nearDistances, treeDistances}
 use Rattle.cycle.proofs.Children.{no-children}
 use Rattle.cycle.proofs.index.tree_distances.Statement.{statement}
 use Rattle.cycle.proofs.index.tree_distances.Tie as tie
@@ -63,6 +63,8 @@ row-distances-requires c κs =
       subst (λ e. InTree f e (s .args .j)) one (s .pre .2),
       subst (λ e. s .args .count ≡ length (children (planOf f []) (f .k + 1 - e) (s .args .j))) one (s .pre .3),
       s .pre .4,
+      s .pre .5,
+      subst (λ e. Under f (s .args .s) e (s .args .j)) one (s .pre .6),
     )
 
 returns-3 : tie.Need-returns-3

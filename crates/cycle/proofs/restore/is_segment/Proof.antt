@@ -8,7 +8,7 @@ use lib.ListN.{length}
 use borrow.Author.Needs.{needs}
 use Rattle.cycle.specs.Held.{planOf, treeAt}
 use Rattle.cycle.proofs.SegmentParts.{Seated}
-use Rattle.cycle.proofs.Deciding.{decides-not, decides-told, decides-by}
+use Rattle.cycle.proofs.Deciding.{decides-not, decides-told, decides-by, finds-decides}
 use Rattle.cycle.proofs.Matching.{matches-on, matches-part, matches-to}
 use Rattle.cycle.proofs.TreePlaces.{own-tree}
 use Rattle.cycle.proofs.Comparisons.{seats, datas-within}
@@ -26,8 +26,8 @@ returns c =
     let start = c .before .before .before in
     decides-not (c .if1 .taken) (matches-part _ _ (omega arith) (omega (arith, seated start))) (c .before .is-path .ensures)
 
-is-subtree-requires : tie.Need-is-subtree-requires
-is-subtree-requires c κs =
+behind-subtree-requires : tie.Need-behind-subtree-requires
+behind-subtree-requires c κs =
     let start = c .before .before .before in
     (start .pre, own-tree (start .args .f) (start .args .s) (start .pre .comparing .holding .ready) (start .pre .comparing .placed))
 
@@ -40,7 +40,7 @@ returns-2 c =
     matches-on (matches-on (decides-told (path .if1 .left) (path .before .is-path .ensures)) (matches-to (tree-end start) tree))
     (datas-within (start .args .f) (start .args .image .now) (start .args .s) (start .pre .comparing) (start .pre .datas)))
     (matches-part _ _ (omega (arith, seated start)) (omega (arith, seated start, tree-end start)))
-    (c .is-subtree .ensures)
+    (finds-decides (c .behind-subtree .ensures))
 
 pub is-segment-spec : {M : Type 1} → statement M
-is-segment-spec = tie.close (tie.spec (λ c κs. search needs) returns is-subtree-requires returns-2)
+is-segment-spec = tie.close (tie.spec (λ c κs. search needs) returns behind-subtree-requires returns-2)

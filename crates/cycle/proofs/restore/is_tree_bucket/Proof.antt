@@ -48,24 +48,19 @@ tree-pairs-requires c κs =
     let w = start .pre .0 .comparing in
     (w .holding .ready, w .holding .long, first-in start, here start)
 
-child-count-requires : tie.Need-child-count-requires
-child-count-requires c κs =
-    let start = c .before .before in
-    (start .pre .0 .comparing .holding .ready, start .pre .1 .low, start .pre .1 .inside)
-
 image-places-requires : tie.Need-image-places-requires
 image-places-requires c κs =
-    let start = c .before .before .before in
+    let start = c .before .before in
     let w = start .pre .0 .comparing in
-    (w .holding .ready, w .placed, start .pre .1 .low, start .pre .1 .inside, start .pre .1 .under, c .child-count .ensures)
+    (w .holding .ready, w .placed, start .pre .1 .low, start .pre .1 .inside, start .pre .1 .under, start .pre .2)
 
 tree-distances-requires : tie.Need-tree-distances-requires
 tree-distances-requires c κs =
-    let start = c .before .before .before .before in
-    (start .pre .0 .comparing .holding .ready, start .pre .1 .low, start .pre .1 .inside, c .before .child-count .ensures, here start)
+    let start = c .before .before .before in
+    (start .pre .0 .comparing .holding .ready, start .pre .1 .low, start .pre .1 .inside, start .pre .2, here start, start .pre .0 .comparing .placed, start .pre .1 .under)
 
 abbrev begun : tie.After-tree-distances → tie.Start
-begun c = c .before .before .before .before .before
+begun c = c .before .before .before .before
 
 -- the tags that the entries are to have
 abbrev tags : tie.After-tree-distances → List ℕ
@@ -73,7 +68,7 @@ tags c = let s = begun c in filled 8 (childTags (planIn (s .args .f) InImage (s 
 
 -- the bucket from its parts
 is : (c : tie.After-tree-distances) →
-    entered (c .before .before .before .tree-pairs .result) (c .before .before .child-count .result) (tags c) (c .tree-distances .result)
+    entered (c .before .before .tree-pairs .result) (begun c .args .count) (tags c) (c .tree-distances .result)
     ≡ asIndex (cycleBucket (planIn (begun c .args .f) InImage (begun c .args .image .now)) (begun c .args .x) .body)
 is c =
     let s = begun c in
@@ -81,14 +76,14 @@ is c =
     let w = s .pre .0 .comparing in
     let p = s .pre .1 in
     let placed = placed-in f (s .args .image .now) (s .args .s) w in
-    ap (λ y. entered y (c .before .before .child-count .result) (tags c) (c .tree-distances .result)) (c .before .before .before .tree-pairs .ensures)
+    ap (λ y. entered y (begun c .args .count) (tags c) (c .tree-distances .result)) (c .before .before .tree-pairs .ensures)
     ∙ TreeBuckets.tree-held f (w .holding .ready) InImage (s .args .image .now) (s .args .s) placed (s .args .e) (s .args .j) (s .args .x) (p .low) (p .inside) (p .behind-path) (p .before-data) (p .stands)
-    (c .before .before .child-count .result) (tags c) (c .tree-distances .result) (c .before .before .child-count .ensures) refl
+    (begun c .args .count) (tags c) (c .tree-distances .result) (begun c .pre .2) refl
     (c .tree-distances .ensures
     ∙ ap (filled 8)
     (sym (tree-distances f (w .holding .ready) InImage (s .args .image .now) (s .args .s) placed (s .args .e) (s .args .j) (s .args .x) (p .low) (p .inside) (p .behind-path) (p .before-data) (p .stands))))
 
-few-pairs : (c : tie.After-tree-distances) → c .before .before .before .tree-pairs .result .pairs ≤ 4
+few-pairs : (c : tie.After-tree-distances) → c .before .before .tree-pairs .result .pairs ≤ 4
 unfolding entered
 few-pairs c = subst (λ (i : Index). i .pairs ≤ 4) (sym (is c)) (held (begun c) .few-pairs)
 
@@ -118,9 +113,9 @@ copy-index-requires c κs =
     let start = begun d in
     let p = start .pre .1 in
     let w = start .pre .0 .comparing in
-    let count = d .before .before .child-count .ensures in (
+    let count = start .pre .2 in (
       refl,
-      (few-pairs d, (omega (arith, few-entries d, count), tags-standing (start .args .f) (w .holding .ready) InImage (start .args .image .now) (imagePlace (start .args .f)) (image-tags (start .args .f) (start .args .image .now) (w .holding) (start .pre .0 .datas)) (start .args .e) (start .args .j) (p .low) (p .inside) (d .before .before .child-count .result) (d .before .image-places .result) count (d .before .image-places .ensures) (few-entries d) (d .tree-distances .result) (treeDistances (planOf (start .args .f) []) (start .args .f .size) (start .args .x) (start .args .e) (start .args .j)) (d .tree-distances .ensures) (distance-count d))),
+      (few-pairs d, (omega (arith, few-entries d, count), tags-standing (start .args .f) (w .holding .ready) InImage (start .args .image .now) (imagePlace (start .args .f)) (image-tags (start .args .f) (start .args .image .now) (w .holding) (start .pre .0 .datas)) (start .args .e) (start .args .j) (p .low) (p .inside) (start .args .count) (d .before .image-places .result) count (d .before .image-places .ensures) (few-entries d) (d .tree-distances .result) (treeDistances (planOf (start .args .f) []) (start .args .f .size) (start .args .x) (start .args .e) (start .args .j)) (d .tree-distances .ensures) (distance-count d))),
     )
 
 is-at-requires : tie.Need-is-at-requires
@@ -138,9 +133,9 @@ returns c =
     let start = begun d in
     let p = start .pre .1 in
     let w = start .pre .0 .comparing in
-    let count = d .before .before .child-count .ensures in
-    let printed : Tagged (start .args .image .now) (d .before .before .child-count .result) (d .before .image-places .result) (tags d) =
-    tags-printed (start .args .f) (w .holding .ready) InImage (start .args .image .now) (imagePlace (start .args .f)) (image-tags (start .args .f) (start .args .image .now) (w .holding) (start .pre .0 .datas)) (start .args .e) (start .args .j) (p .low) (p .inside) (d .before .before .child-count .result) (d .before .image-places .result) count (d .before .image-places .ensures) (few-entries d) in
+    let count = start .pre .2 in
+    let printed : Tagged (start .args .image .now) (start .args .count) (d .before .image-places .result) (tags d) =
+    tags-printed (start .args .f) (w .holding .ready) InImage (start .args .image .now) (imagePlace (start .args .f)) (image-tags (start .args .f) (start .args .image .now) (w .holding) (start .pre .0 .datas)) (start .args .e) (start .args .j) (p .low) (p .inside) (start .args .count) (d .before .image-places .result) count (d .before .image-places .ensures) (few-entries d) in
     tree-decided (start .args .f) (start .args .image .now) (start .args .s) (start .pre .0) (start .args .e) (start .args .j) (start .args .x) p
     (head .head-at .result) _ (c .is-at .result) (head .head-at .ensures) (is d)
     (subst (λ b. Decides (bucketBytes (start .args .image .now) (start .args .x) ≡ b) (c .is-at .result)) (wrote .copy-index .ensures (tags d) printed) (c .is-at .ensures))
@@ -150,7 +145,6 @@ is-tree-bucket-spec =
     tie.close
     (tie.spec
     tree-pairs-requires
-    child-count-requires
     image-places-requires
     tree-distances-requires
     (λ c. search needs)
