@@ -2,7 +2,7 @@
 # The library's calls against those of the reference, at 1,000, 10,000 and 40,000 lines: instructions a bucket, counted by
 # callgrind as the difference between one round and two, and nanoseconds a bucket, the best of several rounds. The growth is
 # that of a bucket's cost from the size before, for library and reference: 1.00 is linear.
-# Usage: bench.sh, some four minutes
+# Usage: bench.sh, some three minutes
 set -e
 cd "$(dirname "$0")"
 cargo build --release --offline --locked --quiet -p bench
