@@ -1,23 +1,21 @@
 -- What an answer of the code tells of the reading behind it.
 -- Assumes nothing.
 use Prim.Native.Nat.{ℕ, _≤_}
-use mathlib.Core.Path.{_≡_, refl}
-use mathlib.Core.Bool.{true, false}
+use mathlib.Core.Path.{_≡_, refl, sym, ap, _∙_}
+use mathlib.Core.Bool.{Bool, true, false, not, true≢false}
 use mathlib.Core.Option.{Option, none, some}
-use mathlib.Core.List.{List}
 use native.Mathlib.Omega.{arith}
+use borrow.Author.Tests.{not-true, not-false}
 use Rattle.columns.specs.declared.Number.the-variants.{Value, Misprinted}
 use Rattle.columns.specs.PrintedNumbers.{asNumber}
 use Rattle.buckets.specs.declared.Line.{Line}
 use Rattle.buckets.specs.declared.Head.{Head}
 use Rattle.buckets.specs.declared.reader.EntryRead.the-variants.{Read as EntryIs, Misprinted as EntryMisprinted}
 use Rattle.buckets.specs.declared.reader.HeadRead.the-variants.{Read as HeadIs, Misprinted as HeadMisprinted}
-use Rattle.buckets.specs.declared.reader.Pairs.{Pairs}
-use Rattle.buckets.specs.declared.reader.Entries.{Entries}
-use Rattle.buckets.specs.declared.reader.Tags.{Tags}
-use Rattle.buckets.specs.Bucket.{Pair, Entry}
+use Rattle.buckets.specs.Bucket.{Entry}
 use Rattle.buckets.specs.Held.{tagOrMisprint}
-use Rattle.buckets.specs.Read.{asEntryRead, asHeadRead, heldPairs, heldEntries, heldTags}
+use Rattle.buckets.specs.Read.{asEntryRead, asHeadRead}
+use Rattle.buckets.specs.Lengths.{tagMost}
 
 pub number-found : (o : Option ℕ) {x : ℕ} → asNumber o ≡ Value x → o ≡ some x
 number-found none h = absurd (let z : _≡_ {A = ℕ} 0 1 = cc in omega arith)
@@ -33,7 +31,7 @@ pub tag-found : (o : Option Line) {x : ℕ} → x ≡ tagOrMisprint o → (x ≡
 tag-found none e n = absurd (n e)
 tag-found (some l) e n = (l, refl, e)
 
-pub tag-none : (o : Option Line) {x : ℕ} → ((l : Line) → o ≡ some l → l .tag ≤ 4294967295) → x ≡ tagOrMisprint o
+pub tag-none : (o : Option Line) {x : ℕ} → ((l : Line) → o ≡ some l → l .tag ≤ tagMost) → x ≡ tagOrMisprint o
     → x ≡ 18446744073709551615 → o ≡ none
 tag-none none small e h = refl
 tag-none (some l) small e h = absurd (omega (arith, small l refl))
@@ -57,31 +55,14 @@ pub head-none : (o : Option Head) → asHeadRead o ≡ HeadMisprinted → o ≡ 
 head-none none e = refl
 head-none (some k) e = absurd (let z : _≡_ {A = ℕ} 0 1 = cc in omega arith)
 
--- ---- answers with arrays
+-- ---- answers with a flag, which is tested before they are used
 
-pub tags-found : (r : Tags) (o : Option (List Line)) → r ≡ heldTags o → r .good ≡ true
-    → (ls : List Line) × (o ≡ some ls) × (r ≡ heldTags (some ls))
-tags-found r none e g = absurd (let z : _≡_ {A = ℕ} 0 1 = cc in omega arith)
-tags-found r (some ls) e g = (ls, refl, e)
+module _ {A H : Type 0} (hold : Option A → H) (good : H → Bool) (bad : good (hold none) ≡ false)
+    (fine : (a : A) → good (hold (some a)) ≡ true) (r : H) where
+  pub good-found : (o : Option A) → r ≡ hold o → not (good r) ≡ false → (a : A) × (o ≡ some a) × (r ≡ hold (some a))
+  good-found none e g = absurd (true≢false (sym (not-false (good r) g) ∙ ap good e ∙ bad))
+  good-found (some a) e g = (a, refl, e)
 
-pub tags-none : (r : Tags) (o : Option (List Line)) → r ≡ heldTags o → r .good ≡ false → o ≡ none
-tags-none r none e g = refl
-tags-none r (some ls) e g = absurd (let z : _≡_ {A = ℕ} 0 1 = cc in omega arith)
-
-pub entries-found : (r : Entries) (o : Option (List Entry)) → r ≡ heldEntries o → r .good ≡ true
-    → (es : List Entry) × (o ≡ some es) × (r ≡ heldEntries (some es))
-entries-found r none e g = absurd (let z : _≡_ {A = ℕ} 0 1 = cc in omega arith)
-entries-found r (some es) e g = (es, refl, e)
-
-pub entries-none : (r : Entries) (o : Option (List Entry)) → r ≡ heldEntries o → r .good ≡ false → o ≡ none
-entries-none r none e g = refl
-entries-none r (some es) e g = absurd (let z : _≡_ {A = ℕ} 0 1 = cc in omega arith)
-
-pub pairs-found : (r : Pairs) (o : Option (List Pair)) → r ≡ heldPairs o → r .good ≡ true
-    → (ps : List Pair) × (o ≡ some ps) × (r ≡ heldPairs (some ps))
-pairs-found r none e g = absurd (let z : _≡_ {A = ℕ} 0 1 = cc in omega arith)
-pairs-found r (some ps) e g = (ps, refl, e)
-
-pub pairs-none : (r : Pairs) (o : Option (List Pair)) → r ≡ heldPairs o → r .good ≡ false → o ≡ none
-pairs-none r none e g = refl
-pairs-none r (some ps) e g = absurd (let z : _≡_ {A = ℕ} 0 1 = cc in omega arith)
+  pub good-none : (o : Option A) → r ≡ hold o → not (good r) ≡ true → o ≡ none
+  good-none none e g = refl
+  good-none (some a) e g = absurd (true≢false (sym (fine a) ∙ ap good (sym e) ∙ not-true (good r) g))

@@ -12,55 +12,57 @@ use Rattle.buckets.specs.declared.Line.{Line}
 use Rattle.buckets.specs.ListLine.{fits, figures}
 use Rattle.buckets.specs.Bucket.{Pair, Entry, printPair, printEntry, pairFits, entryFits, laterPrinted, rising}
 use Rattle.buckets.specs.Columns.{readFigures, readEntry, readPair, readPairs, readEntries, readLines}
+use Rattle.buckets.specs.Lengths.{figuresWidth, pairsMost, entriesMost, bucketLinesMost, entryWidth, pairsWidth}
+use Rattle.buckets.specs.Lengths.{entriesWidth, linesWidth, bucketsMost}
 use Rattle.buckets.proofs.ListLines.{length-figures}
 use Rattle.buckets.proofs.Buckets.{length-printPair, length-printEntry}
 use Rattle.buckets.proofs.Items.{keeps-rising, items-back, items-only}
 use Rattle.buckets.proofs.Figures.{fitsFrom, figures-alone-back, figures-alone-only}
 use Rattle.buckets.proofs.Entries.{entryFrom, entry-back, entry-only, pairAt, pair-back, pair-only, keeps-pairs}
 
-pub pairs-back : (n : ℕ) (ps : List Pair) → n ≤ 99999 → every (pairFits n) ps ≡ true → laterPrinted ps ≡ true
-    → readPairs n (length ps) (padded 64 (joined printPair ps)) ≡ some ps
+pub pairs-back : (n : ℕ) (ps : List Pair) → n ≤ bucketsMost → every (pairFits n) ps ≡ true → laterPrinted ps ≡ true
+    → readPairs n (length ps) (padded pairsWidth (joined printPair ps)) ≡ some ps
 unfolding readPairs
 pairs-back n ps small fit later =
-    items-back (readPair n) (λ i p. suc i) (pairAt n) printPair 16 length-printPair
-    (λ i p h. pair-back n i p small h) 64 ps (keeps-pairs n ps ∙ rw (fit, later))
+    items-back (readPair n) (λ i p. suc i) (pairAt n) printPair entryWidth length-printPair
+    (λ i p h. pair-back n i p small h) pairsWidth ps (keeps-pairs n ps ∙ rw (fit, later))
 
-pub entries-back : (n : ℕ) (es : List Entry) → n ≤ 99999 → every (entryFits n) es ≡ true
-    → rising 0 (map (λ e. e .tag) es) ≡ true → readEntries n (length es) (padded 146 (joined printEntry es)) ≡ some es
+pub entries-back : (n : ℕ) (es : List Entry) → n ≤ bucketsMost → every (entryFits n) es ≡ true
+    → rising 0 (map (λ e. e .tag) es) ≡ true → readEntries n (length es) (padded entriesWidth (joined printEntry es)) ≡ some es
 unfolding readEntries
 entries-back n es small fit order =
-    items-back (readEntry n) (λ m e. e .tag) (entryFrom n) printEntry 16 length-printEntry
-    (λ m e h. entry-back n m e small h) 146 es (keeps-rising (entryFits n) (λ e. e .tag) 0 es ∙ rw (fit, order))
+    items-back (readEntry n) (λ m e. e .tag) (entryFrom n) printEntry entryWidth length-printEntry
+    (λ m e h. entry-back n m e small h) entriesWidth es (keeps-rising (entryFits n) (λ e. e .tag) 0 es ∙ rw (fit, order))
 
 pub lines-back : (ls : List Line) → every fits ls ≡ true → rising 0 (map (λ l. l .tag) ls) ≡ true
-    → readLines (length ls) (padded 210 (joined figures ls)) ≡ some ls
+    → readLines (length ls) (padded linesWidth (joined figures ls)) ≡ some ls
 unfolding readLines
 lines-back ls fit order =
-    items-back readFigures (λ m l. l .tag) fitsFrom figures 26 length-figures
-    figures-alone-back 210 ls (keeps-rising fits (λ l. l .tag) 0 ls ∙ rw (fit, order))
+    items-back readFigures (λ m l. l .tag) fitsFrom figures figuresWidth length-figures
+    figures-alone-back linesWidth ls (keeps-rising fits (λ l. l .tag) 0 ls ∙ rw (fit, order))
 
 -- what was read of a run of items, with the rules that it keeps
-pub pairs-only : (n c : ℕ) (s : List ℕ) {ps : List Pair} → length s ≡ 64 → c ≤ 4 → readPairs n c s ≡ some ps
-    → (length ps ≡ c) × (every (pairFits n) ps && laterPrinted ps ≡ true) × (s ≡ padded 64 (joined printPair ps))
+pub pairs-only : (n c : ℕ) (s : List ℕ) {ps : List Pair} → length s ≡ pairsWidth → c ≤ pairsMost → readPairs n c s ≡ some ps
+    → (length ps ≡ c) × (every (pairFits n) ps && laterPrinted ps ≡ true) × (s ≡ padded pairsWidth (joined printPair ps))
 unfolding readPairs
 pairs-only n c s {ps} long few h =
-    let told = items-only (readPair n) (λ i p. suc i) (pairAt n) printPair 16 length-printPair
-    (λ i r p. pair-only n i r) 64 c s ps long (omega arith) h in
+    let told = items-only (readPair n) (λ i p. suc i) (pairAt n) printPair entryWidth length-printPair
+    (λ i r p. pair-only n i r) pairsWidth c s ps long (omega arith) h in
     (told .0, sym (keeps-pairs n ps) ∙ told .1, told .2)
 
-pub entries-only : (n c : ℕ) (s : List ℕ) {es : List Entry} → length s ≡ 146 → c ≤ 8 → readEntries n c s ≡ some es
+pub entries-only : (n c : ℕ) (s : List ℕ) {es : List Entry} → length s ≡ entriesWidth → c ≤ entriesMost → readEntries n c s ≡ some es
     → (length es ≡ c) × (every (entryFits n) es && rising 0 (map (λ e. e .tag) es) ≡ true)
-    × (s ≡ padded 146 (joined printEntry es))
+    × (s ≡ padded entriesWidth (joined printEntry es))
 unfolding readEntries
 entries-only n c s {es} long few h =
-    let told = items-only (readEntry n) (λ m e. e .tag) (entryFrom n) printEntry 16 length-printEntry
-    (λ m r e. entry-only n m r) 146 c s es long (omega arith) h in
+    let told = items-only (readEntry n) (λ m e. e .tag) (entryFrom n) printEntry entryWidth length-printEntry
+    (λ m r e. entry-only n m r) entriesWidth c s es long (omega arith) h in
     (told .0, sym (keeps-rising (entryFits n) (λ e. e .tag) 0 es) ∙ told .1, told .2)
 
-pub lines-only : (c : ℕ) (s : List ℕ) {ls : List Line} → length s ≡ 210 → c ≤ 8 → readLines c s ≡ some ls
-    → (length ls ≡ c) × (every fits ls && rising 0 (map (λ l. l .tag) ls) ≡ true) × (s ≡ padded 210 (joined figures ls))
+pub lines-only : (c : ℕ) (s : List ℕ) {ls : List Line} → length s ≡ linesWidth → c ≤ bucketLinesMost → readLines c s ≡ some ls
+    → (length ls ≡ c) × (every fits ls && rising 0 (map (λ l. l .tag) ls) ≡ true) × (s ≡ padded linesWidth (joined figures ls))
 unfolding readLines
 lines-only c s {ls} long few h =
-    let told = items-only readFigures (λ m l. l .tag) fitsFrom figures 26 length-figures
-    (λ m r l. figures-alone-only m r) 210 c s ls long (omega arith) h in
+    let told = items-only readFigures (λ m l. l .tag) fitsFrom figures figuresWidth length-figures
+    (λ m r l. figures-alone-only m r) linesWidth c s ls long (omega arith) h in
     (told .0, sym (keeps-rising fits (λ l. l .tag) 0 ls) ∙ told .1, told .2)

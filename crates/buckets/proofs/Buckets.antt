@@ -1,10 +1,10 @@
 -- The laws of a bucket: its width, and that reading undoes printing and printing undoes reading.
 -- Assumes nothing.
-use Prim.Native.Nat.{ℕ, _+_, _<_, _≤_, _-_}
-use mathlib.Core.Path.{_≡_, refl, ap, ap₂, _∙_}
+use Prim.Native.Nat.{ℕ, _+_, _<_, _≤_, _-_, _^_}
+use mathlib.Core.Path.{_≡_, refl, sym, ap, ap₂, _∙_}
 use mathlib.Core.Bool.{Bool, true}
 use mathlib.Core.Option.{Option, none, some}
-use mathlib.Core.List.{List, [], _∷_, _++_, map, append-assoc}
+use mathlib.Core.List.{List, [], _∷_, _++_, map, append-assoc, append-nil}
 use native.Mathlib.Omega.{arith}
 use lib.ListN.{length, take, drop, replicate, length-append}
 use lib.Seq.{take-at, drop-at}
@@ -14,49 +14,52 @@ use Rattle.columns.proofs.Strict.{strict-back, strict-only}
 use Rattle.columns.proofs.Printed.{value-print, print-not-blank, length-padded}
 use Rattle.columns.proofs.Joined.{length-joined, parts-joined, map-undone}
 use Rattle.buckets.specs.declared.Line.{Line}
-use Rattle.buckets.specs.ListLine.{fits, figures, spelled}
-use Rattle.buckets.specs.Bucket.{Pair, Entry, Body, indexBody, dataBody, Bucket, printHead, printTag, printPair, printEntry, printBody, printBucket, pairTagFits, pairFits, entryFits, good, columns, field, spelledPair, spelledEntry, spelledBody, spelledBucket, readBucket}
-use Rattle.buckets.proofs.ListLines.{tag-small, length-figures, spelled-alone}
+use Rattle.buckets.specs.ListLine.{fits, figures}
+use Rattle.buckets.specs.Bucket.{Pair, Entry, Body, indexBody, dataBody, Bucket, printHead, printTag, printPair, printEntry, printBody, printBucket, pairTagFits, pairFits, entryFits, good, columns, field, spelledPair, spelledEntry, spelledLine, spelledBody, spelledBucket, readBucket}
+use Rattle.buckets.specs.Lengths.{newline, tagWidth, figuresWidth, tagMost, placeWidth, countWidth, headWidth, pairsMost}
+use Rattle.buckets.specs.Lengths.{entriesMost, bucketLinesMost, distanceStart, entryWidth, bucketLength, pairsWidth}
+use Rattle.buckets.specs.Lengths.{entriesWidth, linesWidth, bodyWidth, bucketsMost}
+use Rattle.buckets.proofs.ListLines.{tag-small, length-figures, figures-spelled}
 use Rattle.buckets.proofs.Good.{GoodIndex, GoodData, GoodBody, entry-fits, pair-fits, bucket-good}
 
 -- ---- width
 
-pub length-printTag : (t : Option ℕ) → length (printTag t) ≡ 10
+pub length-printTag : (t : Option ℕ) → length (printTag t) ≡ tagWidth
 unfolding blanks
 length-printTag none = refl
 length-printTag (some t) = refl
 
-pub length-printPair : (p : Pair) → length (printPair p) ≡ 16
+pub length-printPair : (p : Pair) → length (printPair p) ≡ entryWidth
 unfolding printPair
 length-printPair p = simp length-append (rw (length-printTag (p .tag)))
 
-pub length-printEntry : (e : Entry) → length (printEntry e) ≡ 16
+pub length-printEntry : (e : Entry) → length (printEntry e) ≡ entryWidth
 unfolding printEntry
 length-printEntry e = refl
 
-pub length-printHead : (b : Bucket) → length (printHead b) ≡ 29
+pub length-printHead : (b : Bucket) → length (printHead b) ≡ headWidth
 unfolding printHead
 length-printHead b = refl
 
 -- what a bucket has room for
 abbrev pub Room : Body → Type 0
-Room (indexBody ps es) = (length ps ≤ 4) × (length es ≤ 8)
-Room (dataBody f ls) = length ls ≤ 8
+Room (indexBody ps es) = (length ps ≤ pairsMost) × (length es ≤ entriesMost)
+Room (dataBody f ls) = length ls ≤ bucketLinesMost
 
-pub length-pairs : (ps : List Pair) → length ps ≤ 4 → length (padded 64 (joined printPair ps)) ≡ 64
-length-pairs ps h = length-padded 64 (joined printPair ps) (rw (length-joined printPair 16 length-printPair ps) (omega arith))
+pub length-pairs : (ps : List Pair) → length ps ≤ pairsMost → length (padded pairsWidth (joined printPair ps)) ≡ pairsWidth
+length-pairs ps h = length-padded pairsWidth (joined printPair ps) (rw (length-joined printPair entryWidth length-printPair ps) (omega arith))
 
-pub length-entries : (es : List Entry) → length es ≤ 8 → length (padded 146 (joined printEntry es)) ≡ 146
-length-entries es h = length-padded 146 (joined printEntry es) (rw (length-joined printEntry 16 length-printEntry es) (omega arith))
+pub length-entries : (es : List Entry) → length es ≤ entriesMost → length (padded entriesWidth (joined printEntry es)) ≡ entriesWidth
+length-entries es h = length-padded entriesWidth (joined printEntry es) (rw (length-joined printEntry entryWidth length-printEntry es) (omega arith))
 
-pub length-lines : (ls : List Line) → length ls ≤ 8 → length (padded 210 (joined figures ls)) ≡ 210
-length-lines ls h = length-padded 210 (joined figures ls) (rw (length-joined figures 26 length-figures ls) (omega arith))
+pub length-lines : (ls : List Line) → length ls ≤ bucketLinesMost → length (padded linesWidth (joined figures ls)) ≡ linesWidth
+length-lines ls h = length-padded linesWidth (joined figures ls) (rw (length-joined figures figuresWidth length-figures ls) (omega arith))
 
-pub length-printBody : (x : Body) → Room x → length (printBody x) ≡ 210
+pub length-printBody : (x : Body) → Room x → length (printBody x) ≡ bodyWidth
 length-printBody (indexBody ps es) h = simp length-append (rw (length-pairs ps (h .0), length-entries es (h .1)))
 length-printBody (dataBody f ls) h = length-lines ls h
 
-pub length-bucket : (b : Bucket) → Room (b .body) → length (printBucket b) ≡ 240
+pub length-bucket : (b : Bucket) → Room (b .body) → length (printBucket b) ≡ bucketLength
 unfolding printBucket
 length-bucket b h = simp length-append (rw (length-printHead b, length-printBody (b .body) h))
 
@@ -64,42 +67,42 @@ pub room : (n c : ℕ) (x : Body) → GoodBody n c x → Room x
 room n c (indexBody ps es) h = (h .few-pairs, h .few-entries)
 room n c (dataBody f ls) h = h .few-lines
 
-pub length-printBucket : (b : Bucket) → good b ≡ true → length (printBucket b) ≡ 240
+pub length-printBucket : (b : Bucket) → good b ≡ true → length (printBucket b) ≡ bucketLength
 length-printBucket b h = length-bucket b (room _ _ (b .body) (bucket-good b h .good-rest))
 
 -- ---- reading undoes printing
 
-pub spelled-printEntry : (n : ℕ) → n ≤ 99999 → (e : Entry) → entryFits n e ≡ true → spelledEntry (printEntry e) ≡ e
+pub spelled-printEntry : (n : ℕ) → n ≤ bucketsMost → (e : Entry) → entryFits n e ≡ true → spelledEntry (printEntry e) ≡ e
 unfolding printEntry spelledEntry field columns
 spelled-printEntry n small e h =
     let told = entry-fits n e h in
-    let tag : e .tag ≤ 4294967295 = tag-small (e .tag) (told .0) in
+    let tag : e .tag ≤ tagMost = tag-small (e .tag) (told .0) in
     λ i.
     record {
-      tag = value-print 10 (e .tag) (omega arith) i;
-      distance = value-print 6 (e .distance) (omega arith) i;
+      tag = value-print tagWidth (e .tag) (omega arith) i;
+      distance = value-print placeWidth (e .distance) (omega arith) i;
     }
 
 spelled-tag : (t : Option ℕ) → pairTagFits t ≡ true → (rest : List ℕ)
-    → pick (same (take 10 (printTag t ++ rest)) (blanks 10)) none (some (value 0 (take 10 (printTag t ++ rest)))) ≡ t
+    → pick (same (take tagWidth (printTag t ++ rest)) (blanks tagWidth)) none (some (value 0 (take tagWidth (printTag t ++ rest)))) ≡ t
 unfolding blanks
 spelled-tag none h rest = refl
 spelled-tag (some t) h rest =
-    let small : t ≤ 4294967295 = tag-small t h in
-    ap (λ (x : Bool). pick x none (some (value 0 (print 10 t)))) (print-not-blank 9 t)
-    ∙ ap {B = Option ℕ} some (value-print 10 t (omega arith))
+    let small : t ≤ tagMost = tag-small t h in
+    ap (λ (x : Bool). pick x none (some (value 0 (print tagWidth t)))) (print-not-blank (tagWidth - 1) t)
+    ∙ ap {B = Option ℕ} some (value-print tagWidth t (omega arith))
 
-spelled-distance : (t : Option ℕ) (d : ℕ) → d < 1000000 → value 0 (take 6 (drop 10 (printTag t ++ print 6 d))) ≡ d
+spelled-distance : (t : Option ℕ) (d : ℕ) → d < 10 ^ placeWidth → value 0 (take placeWidth (drop distanceStart (printTag t ++ print placeWidth d))) ≡ d
 spelled-distance t d h =
-    ap (λ (s : List ℕ). value 0 (take 6 s)) (drop-at (printTag t) (print 6 d) 10 (length-printTag t)) ∙ value-print 6 d h
+    ap (λ (s : List ℕ). value 0 (take placeWidth s)) (drop-at (printTag t) (print placeWidth d) distanceStart (length-printTag t)) ∙ value-print placeWidth d h
 
-pub spelled-printPair : (n : ℕ) → n ≤ 99999 → (p : Pair) → pairFits n p ≡ true → spelledPair (printPair p) ≡ p
+pub spelled-printPair : (n : ℕ) → n ≤ bucketsMost → (p : Pair) → pairFits n p ≡ true → spelledPair (printPair p) ≡ p
 unfolding printPair spelledPair field columns
 spelled-printPair n small p h =
     let told = pair-fits n p h in
     λ i.
     record {
-      tag = spelled-tag (p .tag) (told .0) (print 6 (p .distance)) i;
+      tag = spelled-tag (p .tag) (told .0) (print placeWidth (p .distance)) i;
       distance = spelled-distance (p .tag) (p .distance) (omega arith) i;
     }
 
@@ -119,36 +122,40 @@ first-part a b r w h = rw append-assoc (take-at a (b ++ r) w h)
 pub second-part : (a b r : List ℕ) (v w : ℕ) → length a ≡ v → length b ≡ w → take w (drop v ((a ++ b) ++ r)) ≡ b
 second-part a b r v w h k = rw (append-assoc a b r, drop-at a (b ++ r) v h) (take-at b r w k)
 
-spelled-index : (n p c g : ℕ) (ps : List Pair) (es : List Entry) → n ≤ 99999 → GoodIndex n ps es
+spelled-index : (n p c g : ℕ) (ps : List Pair) (es : List Entry) → n ≤ bucketsMost → GoodIndex n ps es
     → spelledBody (printBucket (record { position = p; toCycle = c; toSegment = g; body = indexBody ps es })) ≡ indexBody ps es
 unfolding spelledBody printBucket printHead field columns
 spelled-index n p c g ps es small h =
-    let front = padded 64 (joined printPair ps) in
-    let back = padded 146 (joined printEntry es) in
-    let nl : List ℕ = 10 ∷ [] in
+    let front = padded pairsWidth (joined printPair ps) in
+    let back = padded entriesWidth (joined printEntry es) in
+    let nl : List ℕ = newline ∷ [] in
     ap₂ {C = Body} indexBody
-    (ap₂ (λ (k : ℕ) (s : List ℕ). map spelledPair (parts k 16 s))
-    (value-print 2 (length ps) (omega arith))
-    (first-part front back nl 64 (length-pairs ps (h .few-pairs)))
-    ∙ cut printPair spelledPair (pairFits n) 16 64 length-printPair (spelled-printPair n small) ps (h .pairs-fit))
-    (ap₂ (λ (k : ℕ) (s : List ℕ). map spelledEntry (parts k 16 s))
-    (value-print 2 (length es) (omega arith))
-    (second-part front back nl 64 146 (length-pairs ps (h .few-pairs)) (length-entries es (h .few-entries)))
-    ∙ cut printEntry spelledEntry (entryFits n) 16 146 length-printEntry (spelled-printEntry n small) es (h .entries-fit))
+    (ap₂ (λ (k : ℕ) (s : List ℕ). map spelledPair (parts k entryWidth s))
+    (value-print countWidth (length ps) (omega arith))
+    (first-part front back nl pairsWidth (length-pairs ps (h .few-pairs)))
+    ∙ cut printPair spelledPair (pairFits n) entryWidth pairsWidth length-printPair (spelled-printPair n small) ps (h .pairs-fit))
+    (ap₂ (λ (k : ℕ) (s : List ℕ). map spelledEntry (parts k entryWidth s))
+    (value-print countWidth (length es) (omega arith))
+    (second-part front back nl pairsWidth entriesWidth (length-pairs ps (h .few-pairs)) (length-entries es (h .few-entries)))
+    ∙ cut printEntry spelledEntry (entryFits n) entryWidth entriesWidth length-printEntry (spelled-printEntry n small) es (h .entries-fit))
 
-spelled-data : (p c g f : ℕ) (ls : List Line) → c ≤ 99999 → GoodData c f ls
+-- a line in its bucket
+spelled-line : (l : Line) → fits l ≡ true → spelledLine (figures l) ≡ l
+spelled-line l h = ap spelledLine (sym (append-nil (figures l))) ∙ figures-spelled l [] h
+
+spelled-data : (p c g f : ℕ) (ls : List Line) → c ≤ bucketsMost → GoodData c f ls
     → spelledBody (printBucket (record { position = p; toCycle = c; toSegment = g; body = dataBody f ls })) ≡ dataBody f ls
 unfolding spelledBody printBucket printHead field columns
 spelled-data p c g f ls small h =
     ap₂ {C = Body} dataBody
-    (value-print 6 f (omega arith))
-    (ap₂ (λ (k : ℕ) (s : List ℕ). map spelled (parts k 26 s))
-    (value-print 2 (length ls) (omega arith))
-    (take-at (padded 210 (joined figures ls)) (10 ∷ []) 210 (length-lines ls (h .few-lines)))
-    ∙ cut figures spelled fits 26 210 length-figures spelled-alone ls (h .lines-fit))
+    (value-print placeWidth f (omega arith))
+    (ap₂ (λ (k : ℕ) (s : List ℕ). map spelledLine (parts k figuresWidth s))
+    (value-print countWidth (length ls) (omega arith))
+    (take-at (padded linesWidth (joined figures ls)) (newline ∷ []) linesWidth (length-lines ls (h .few-lines)))
+    ∙ cut figures spelledLine fits figuresWidth linesWidth length-figures spelled-line ls (h .lines-fit))
 
 -- what stands behind the head of a printed bucket
-spelled-printBody : (n p c g : ℕ) (x : Body) → n ≤ 99999 → c ≤ 99999 → GoodBody n c x
+spelled-printBody : (n p c g : ℕ) (x : Body) → n ≤ bucketsMost → c ≤ bucketsMost → GoodBody n c x
     → spelledBody (printBucket (record { position = p; toCycle = c; toSegment = g; body = x })) ≡ x
 spelled-printBody n p c g (indexBody ps es) small near h = spelled-index n p c g ps es small h
 spelled-printBody n p c g (dataBody f ls) small near h = spelled-data p c g f ls near h
@@ -159,9 +166,9 @@ spelled-printBucket b h =
     let g = bucket-good b h in
     λ i.
     record {
-      position = value-print 6 (b .position) (omega arith) i;
-      toCycle = value-print 6 (b .toCycle) (omega arith) i;
-      toSegment = value-print 6 (b .toSegment) (omega arith) i;
+      position = value-print placeWidth (b .position) (omega arith) i;
+      toCycle = value-print placeWidth (b .toCycle) (omega arith) i;
+      toSegment = value-print placeWidth (b .toSegment) (omega arith) i;
       body =
           spelled-printBody (b .position + b .toCycle) (b .position) (b .toCycle) (b .toSegment) (b .body)
           (omega arith) (omega arith) (g .good-rest) i;
@@ -172,7 +179,7 @@ unfolding readBucket
 read-of-print-bucket b h = strict-back spelledBucket good printBucket b h (spelled-printBucket b h)
 
 pub print-of-read-bucket : (s : List ℕ) {b : Bucket} → readBucket s ≡ some b
-    → (s ≡ printBucket b) × (good b ≡ true) × (length s ≡ 240)
+    → (s ≡ printBucket b) × (good b ≡ true) × (length s ≡ bucketLength)
 unfolding readBucket
 print-of-read-bucket s {b} h =
     let told = strict-only spelledBucket good printBucket s h in

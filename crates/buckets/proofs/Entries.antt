@@ -1,6 +1,6 @@
 -- Entries and control pairs read field by field: reading undoes printing and printing undoes reading.
 -- Assumes nothing.
-use Prim.Native.Nat.{ℕ, suc, _≤_}
+use Prim.Native.Nat.{ℕ, suc, _≤_, _-_}
 use mathlib.Core.Path.{_≡_, refl, ap, ap₂, _∙_}
 use mathlib.Core.Bool.{Bool, true, false, _&&_, _||_}
 use mathlib.Core.Option.{Option, none, some}
@@ -10,12 +10,13 @@ use lib.Dec.{leb, eqb}
 use lib.ListN.{length, replicate}
 use borrow.Author.Tests.{leb-true, le-leb, ne-eqb}
 use Rattle.columns.specs.Lists.{pick, every}
-use Rattle.columns.specs.PrintedNumbers.{print, blanks}
+use Rattle.columns.specs.PrintedNumbers.{print, blanks, allBlank}
 use Rattle.columns.proofs.Strict.{both, and-false}
 use Rattle.buckets.specs.ListLine.{tagFits}
 use Rattle.buckets.specs.Bucket.{Pair, Entry, printTag, printPair, printEntry, pairTagFits, pairFits, entryFits, printedTag, laterPrinted, columns}
 use Rattle.buckets.specs.Held.{printedPair}
-use Rattle.buckets.specs.Columns.{numberWithin, allBlank, readEntry, readBlankPair, readPrintedPair, readPair}
+use Rattle.buckets.specs.Columns.{numberWithin, readEntry, readBlankPair, readPrintedPair, readPair}
+use Rattle.buckets.specs.Lengths.{tagWidth, tagStart, tagMost, placeWidth, distanceStart, entryWidth, bucketsMost}
 use Rattle.buckets.proofs.ListLines.{tag-small, small-tag}
 use Rattle.buckets.proofs.Good.{Reaches, entry-fits, fits-entry, pair-fits, fits-pair}
 use Rattle.buckets.proofs.Chained.{then-found}
@@ -26,33 +27,33 @@ use Rattle.buckets.proofs.Items.{keeps, and-regroup}
 abbrev pub entryFrom : ℕ → ℕ → Entry → Bool
 entryFrom n m e = entryFits n e && leb m (e .tag)
 
-pub entry-back : (n m : ℕ) (e : Entry) → n ≤ 99999 → entryFrom n m e ≡ true → readEntry n m (printEntry e) ≡ some e
+pub entry-back : (n m : ℕ) (e : Entry) → n ≤ bucketsMost → entryFrom n m e ≡ true → readEntry n m (printEntry e) ≡ some e
 unfolding readEntry printEntry columns
 entry-back n m e small h =
     let told = both (entryFits n e) (leb m (e .tag)) h in
     let facts = entry-fits n e (told .0) in
     let low : m ≤ e .tag = leb-true m (e .tag) (told .1) in
-    let high : e .tag ≤ 4294967295 = tag-small (e .tag) (facts .0) in
+    let high : e .tag ≤ tagMost = tag-small (e .tag) (facts .0) in
     rw (
-      within-back m 4294967295 10 (e .tag) low high (omega arith),
-      within-back 1 n 6 (e .distance) (omega arith) (omega arith) (omega arith),
+      within-back m tagMost tagWidth (e .tag) low high (omega arith),
+      within-back 1 n placeWidth (e .distance) (omega arith) (omega arith) (omega arith),
     )
 
-entry-shown : (s : List ℕ) (e : Entry) → length s ≡ 16 → columns 0 10 s ≡ print 10 (e .tag)
-    → columns 10 6 s ≡ print 6 (e .distance) → s ≡ printEntry e
+entry-shown : (s : List ℕ) (e : Entry) → length s ≡ entryWidth → columns tagStart tagWidth s ≡ print tagWidth (e .tag)
+    → columns distanceStart placeWidth s ≡ print placeWidth (e .distance) → s ≡ printEntry e
 unfolding printEntry
-entry-shown s e long tag far = columns-all 16 s long ∙ columns-split 0 10 6 s ∙ ap₂ {C = List ℕ} _++_ tag far
+entry-shown s e long tag far = columns-all entryWidth s long ∙ columns-split tagStart tagWidth placeWidth s ∙ ap₂ {C = List ℕ} _++_ tag far
 
-pub entry-only : (n m : ℕ) (s : List ℕ) {e : Entry} → length s ≡ 16 → readEntry n m s ≡ some e
+pub entry-only : (n m : ℕ) (s : List ℕ) {e : Entry} → length s ≡ entryWidth → readEntry n m s ≡ some e
     → (s ≡ printEntry e) × (entryFrom n m e ≡ true)
 unfolding readEntry
 entry-only n m s {e} long h =
-    let first = then-found (numberWithin m 4294967295 (columns 0 10 s)) _ h in
-    let second = then-found (numberWithin 1 n (columns 10 6 s)) _ (first .2) in
+    let first = then-found (numberWithin m tagMost (columns tagStart tagWidth s)) _ h in
+    let second = then-found (numberWithin 1 n (columns distanceStart placeWidth s)) _ (first .2) in
     let found : Entry = record { tag = first .0; distance = second .0 } in
     let is : found ≡ e = cc in
-    let tag = field-only m 4294967295 0 10 s (omega arith) (first .1) in
-    let far = field-only 1 n 10 6 s (omega arith) (second .1) in
+    let tag = field-only m tagMost tagStart tagWidth s (omega arith) (first .1) in
+    let far = field-only 1 n distanceStart placeWidth s (omega arith) (second .1) in
     rw (← is) (
       entry-shown s found long (tag .printed) (far .printed),
       rw (
@@ -67,19 +68,19 @@ entry-only n m s {e} long h =
 abbrev pub pairAt : ℕ → ℕ → Pair → Bool
 pairAt n i p = pairFits n p && (eqb i 0 || printedTag (p .tag))
 
-blank-pair-back : (n i d : ℕ) → n ≤ 99999 → eqb i 0 ≡ true → Reaches n d
-    → readPair n i (printTag none ++ print 6 d) ≡ some (record { tag = none; distance = d })
+blank-pair-back : (n i d : ℕ) → n ≤ bucketsMost → eqb i 0 ≡ true → Reaches n d
+    → readPair n i (printTag none ++ print placeWidth d) ≡ some (record { tag = none; distance = d })
 unfolding readPair readBlankPair blanks columns allBlank
-blank-pair-back n i d small h r = rw (h, within-back 1 n 6 d (omega arith) (omega arith) (omega arith))
+blank-pair-back n i d small h r = rw (h, within-back 1 n placeWidth d (omega arith) (omega arith) (omega arith))
 
-printed-pair-back : (n i t d : ℕ) → n ≤ 99999 → tagFits t ≡ true → Reaches n d
-    → readPair n i (print 10 t ++ print 6 d) ≡ some (record { tag = some t; distance = d })
+printed-pair-back : (n i t d : ℕ) → n ≤ bucketsMost → tagFits t ≡ true → Reaches n d
+    → readPair n i (print tagWidth t ++ print placeWidth d) ≡ some (record { tag = some t; distance = d })
 unfolding readPair readPrintedPair printEntry columns
 printed-pair-back n i t d small h r =
     let e : Entry = record { tag = t; distance = d } in
     let kept : entryFrom n 0 e ≡ true = rw (fits-entry n e h r, le-leb 0 t (omega arith)) in
-    let front : columns 0 10 (print 10 t ++ print 6 d) ≡ print 10 t = refl in
-    rw (front, print-not-all-blank 9 t, and-false (eqb i 0), entry-back n 0 e small kept)
+    let front : columns tagStart tagWidth (print tagWidth t ++ print placeWidth d) ≡ print tagWidth t = refl in
+    rw (front, print-not-all-blank (tagWidth - 1) t, and-false (eqb i 0), entry-back n 0 e small kept)
 
 or-false : (t : Bool) → t || false ≡ true → t ≡ true
 or-false true h = refl
@@ -89,7 +90,7 @@ or-true : (t : Bool) → t || true ≡ true
 or-true true = refl
 or-true false = refl
 
-pub pair-back : (n i : ℕ) (p : Pair) → n ≤ 99999 → pairAt n i p ≡ true → readPair n i (printPair p) ≡ some p
+pub pair-back : (n i : ℕ) (p : Pair) → n ≤ bucketsMost → pairAt n i p ≡ true → readPair n i (printPair p) ≡ some p
 unfolding printPair
 pair-back n i p small h =
     let told = both (pairFits n p) (eqb i 0 || printedTag (p .tag)) h in
@@ -97,26 +98,26 @@ pair-back n i p small h =
     by-tag (p .tag) (p .distance) (facts .0) (facts .1) (told .1)
   where
     by-tag : (t : Option ℕ) (d : ℕ) → pairTagFits t ≡ true → Reaches n d → eqb i 0 || printedTag t ≡ true
-        → readPair n i (printTag t ++ print 6 d) ≡ some (record { tag = t; distance = d })
+        → readPair n i (printTag t ++ print placeWidth d) ≡ some (record { tag = t; distance = d })
     by-tag none d f r first = blank-pair-back n i d small (or-false (eqb i 0) first) r
     by-tag (some t) d f r first = printed-pair-back n i t d small f r
 
-blank-shown : (s : List ℕ) (d : ℕ) → length s ≡ 16 → columns 0 10 s ≡ replicate 10 32 → columns 10 6 s ≡ print 6 d
+blank-shown : (s : List ℕ) (d : ℕ) → length s ≡ entryWidth → columns tagStart tagWidth s ≡ replicate tagWidth 32 → columns distanceStart placeWidth s ≡ print placeWidth d
     → s ≡ printPair (record { tag = none; distance = d })
 unfolding printPair blanks
-blank-shown s d long tag far = columns-all 16 s long ∙ columns-split 0 10 6 s ∙ ap₂ {C = List ℕ} _++_ tag far
+blank-shown s d long tag far = columns-all entryWidth s long ∙ columns-split tagStart tagWidth placeWidth s ∙ ap₂ {C = List ℕ} _++_ tag far
 
-blank-pair-only : (n i : ℕ) (s : List ℕ) {p : Pair} → length s ≡ 16 → eqb i 0 ≡ true → allBlank (columns 0 10 s) ≡ true
+blank-pair-only : (n i : ℕ) (s : List ℕ) {p : Pair} → length s ≡ entryWidth → eqb i 0 ≡ true → allBlank (columns tagStart tagWidth s) ≡ true
     → readBlankPair n s ≡ some p → (s ≡ printPair p) × (pairAt n i p ≡ true)
 unfolding readBlankPair
 blank-pair-only n i s {p} long first blank h =
-    let found = then-found (numberWithin 1 n (columns 10 6 s)) _ h in
+    let found = then-found (numberWithin 1 n (columns distanceStart placeWidth s)) _ h in
     let pair : Pair = record { tag = none; distance = found .0 } in
     let is : pair ≡ p = cc in
-    let far = field-only 1 n 10 6 s (omega arith) (found .1) in
-    let tag : columns 0 10 s ≡ replicate 10 32 =
-    blanks-of-blank (columns 0 10 s) blank
-    ∙ ap (λ (k : ℕ). replicate k 32) (length-columns 0 10 s (omega arith)) in
+    let far = field-only 1 n distanceStart placeWidth s (omega arith) (found .1) in
+    let tag : columns tagStart tagWidth s ≡ replicate tagWidth 32 =
+    blanks-of-blank (columns tagStart tagWidth s) blank
+    ∙ ap (λ (k : ℕ). replicate k 32) (length-columns tagStart tagWidth s (omega arith)) in
     rw (← is) (
       blank-shown s (found .0) long tag (far .printed),
       rw (fits-pair n pair refl (record { onward = far .least; near = far .most }), first),
@@ -126,7 +127,7 @@ printed-shown : (e : Entry) → printEntry e ≡ printPair (printedPair e)
 unfolding printEntry printPair
 printed-shown e = refl
 
-printed-pair-only : (n i : ℕ) (s : List ℕ) {p : Pair} → length s ≡ 16
+printed-pair-only : (n i : ℕ) (s : List ℕ) {p : Pair} → length s ≡ entryWidth
     → readPrintedPair n s ≡ some p → (s ≡ printPair p) × (pairAt n i p ≡ true)
 unfolding readPrintedPair
 printed-pair-only n i s {p} long h =
@@ -138,16 +139,16 @@ printed-pair-only n i s {p} long h =
     rw (← is)
     (told .0 ∙ printed-shown e, rw (fits-pair n (printedPair e) (facts .0) (facts .1)) (or-true (eqb i 0)))
 
-pub pair-only : (n i : ℕ) (s : List ℕ) {p : Pair} → length s ≡ 16 → readPair n i s ≡ some p
+pub pair-only : (n i : ℕ) (s : List ℕ) {p : Pair} → length s ≡ entryWidth → readPair n i s ≡ some p
     → (s ≡ printPair p) × (pairAt n i p ≡ true)
 unfolding readPair
-pair-only n i s {p} long h = by-test (eqb i 0 && allBlank (columns 0 10 s)) refl h
+pair-only n i s {p} long h = by-test (eqb i 0 && allBlank (columns tagStart tagWidth s)) refl h
   where
-    by-test : (t : Bool) → eqb i 0 && allBlank (columns 0 10 s) ≡ t
+    by-test : (t : Bool) → eqb i 0 && allBlank (columns tagStart tagWidth s) ≡ t
         → pick t (readBlankPair n s) (readPrintedPair n s) ≡ some p
         → (s ≡ printPair p) × (pairAt n i p ≡ true)
     by-test true e k =
-        let two = both (eqb i 0) (allBlank (columns 0 10 s)) e in
+        let two = both (eqb i 0) (allBlank (columns tagStart tagWidth s)) e in
         blank-pair-only n i s long (two .0) (two .1) k
     by-test false e k = printed-pair-only n i s long k
 

@@ -1,6 +1,6 @@
 -- A line read field by field is the line read strictly.
 -- Assumes nothing.
-use Prim.Native.Nat.{ℕ, _≤_}
+use Prim.Native.Nat.{ℕ, _≤_, _+_}
 use mathlib.Core.Path.{_≡_, ap, ap₂, _∙_}
 use mathlib.Core.Bool.{Bool, true, _&&_}
 use mathlib.Core.Option.{Option, none, some}
@@ -17,6 +17,9 @@ use Rattle.buckets.specs.declared.Line.{Line}
 use Rattle.buckets.specs.ListLine.{fits, figures, printLine, readLine}
 use Rattle.buckets.specs.Bucket.{columns}
 use Rattle.buckets.specs.Columns.{numberWithin, readFigures}
+use Rattle.buckets.specs.Lengths.{newline, tagWidth, tareWidth, codeWidth, weighingWidth, tagStart, tareStart, codeStart}
+use Rattle.buckets.specs.Lengths.{weighingStart, figuresWidth, restWidth, lineLength, tagMost, tareMost, codeMost}
+use Rattle.buckets.specs.Lengths.{weighingMost}
 use Rattle.buckets.proofs.ListLines.{Fits, line-fits, small-tag, length-figures, length-printLine, read-of-print-line, print-of-read-line}
 use Rattle.buckets.proofs.Chained.{then-found, pick-found, same-found}
 use Rattle.buckets.proofs.Within.{within-back, columns-split, columns-all, columns-one, field-only}
@@ -32,10 +35,10 @@ figures-back m l rest h =
     let f = line-fits l (told .0) in
     let low : m ≤ l .tag = leb-true m (l .tag) (told .1) in
     rw (
-      within-back m 4294967295 10 (l .tag) low (f .small-tag) (omega arith),
-      within-back 0 99999 6 (l .tare) (omega arith) (f .small-tare) (omega arith),
-      within-back 0 9999 4 (l .code) (omega arith) (f .small-code) (omega arith),
-      within-back 0 999999 6 (l .weighing) (omega arith) (f .small-weighing) (omega arith),
+      within-back m tagMost tagWidth (l .tag) low (f .small-tag) (omega arith),
+      within-back 0 tareMost tareWidth (l .tare) (omega arith) (f .small-tare) (omega arith),
+      within-back 0 codeMost codeWidth (l .code) (omega arith) (f .small-code) (omega arith),
+      within-back 0 weighingMost weighingWidth (l .weighing) (omega arith) (f .small-weighing) (omega arith),
     )
 
 fits-line : (l : Line) → Fits l → fits l ≡ true
@@ -43,38 +46,38 @@ unfolding fits
 fits-line l f =
     rw (
       small-tag (l .tag) (f .small-tag),
-      le-leb (l .tare) 99999 (f .small-tare),
-      le-leb (l .code) 9999 (f .small-code),
-      le-leb (l .weighing) 999999 (f .small-weighing),
+      le-leb (l .tare) tareMost (f .small-tare),
+      le-leb (l .code) codeMost (f .small-code),
+      le-leb (l .weighing) weighingMost (f .small-weighing),
     )
 
 fits-from : (m : ℕ) (l : Line) → Fits l → m ≤ l .tag → fitsFrom m l ≡ true
 fits-from m l f h = rw (fits-line l f, le-leb m (l .tag) h)
 
 -- the four fields one behind the other
-fields-shown : (s : List ℕ) (l : Line) → columns 0 10 s ≡ print 10 (l .tag) → columns 10 6 s ≡ print 6 (l .tare)
-    → columns 16 4 s ≡ print 4 (l .code) → columns 20 6 s ≡ print 6 (l .weighing) → columns 0 26 s ≡ figures l
+fields-shown : (s : List ℕ) (l : Line) → columns tagStart tagWidth s ≡ print tagWidth (l .tag) → columns tareStart tareWidth s ≡ print tareWidth (l .tare)
+    → columns codeStart codeWidth s ≡ print codeWidth (l .code) → columns weighingStart weighingWidth s ≡ print weighingWidth (l .weighing) → columns tagStart figuresWidth s ≡ figures l
 unfolding figures
 fields-shown s l tag tare code weighing =
-    columns-split 0 10 16 s
+    columns-split tagStart tagWidth restWidth s
     ∙ ap₂ {C = List ℕ} _++_ tag
-    (columns-split 10 6 10 s
-    ∙ ap₂ {C = List ℕ} _++_ tare (columns-split 16 4 6 s ∙ ap₂ {C = List ℕ} _++_ code weighing))
+    (columns-split tareStart tareWidth (codeWidth + weighingWidth) s
+    ∙ ap₂ {C = List ℕ} _++_ tare (columns-split codeStart codeWidth weighingWidth s ∙ ap₂ {C = List ℕ} _++_ code weighing))
 
-pub figures-only : (m : ℕ) (s : List ℕ) {l : Line} → 26 ≤ length s → readFigures m s ≡ some l
-    → (columns 0 26 s ≡ figures l) × (fitsFrom m l ≡ true)
+pub figures-only : (m : ℕ) (s : List ℕ) {l : Line} → figuresWidth ≤ length s → readFigures m s ≡ some l
+    → (columns tagStart figuresWidth s ≡ figures l) × (fitsFrom m l ≡ true)
 unfolding readFigures
 figures-only m s {l} long h =
-    let first = then-found (numberWithin m 4294967295 (columns 0 10 s)) _ h in
-    let second = then-found (numberWithin 0 99999 (columns 10 6 s)) _ (first .2) in
-    let third = then-found (numberWithin 0 9999 (columns 16 4 s)) _ (second .2) in
-    let fourth = then-found (numberWithin 0 999999 (columns 20 6 s)) _ (third .2) in
+    let first = then-found (numberWithin m tagMost (columns tagStart tagWidth s)) _ h in
+    let second = then-found (numberWithin 0 tareMost (columns tareStart tareWidth s)) _ (first .2) in
+    let third = then-found (numberWithin 0 codeMost (columns codeStart codeWidth s)) _ (second .2) in
+    let fourth = then-found (numberWithin 0 weighingMost (columns weighingStart weighingWidth s)) _ (third .2) in
     let found : Line = record { tag = first .0; tare = second .0; code = third .0; weighing = fourth .0 } in
     let is : found ≡ l = cc in
-    let tag = field-only m 4294967295 0 10 s (omega arith) (first .1) in
-    let tare = field-only 0 99999 10 6 s (omega arith) (second .1) in
-    let code = field-only 0 9999 16 4 s (omega arith) (third .1) in
-    let weighing = field-only 0 999999 20 6 s (omega arith) (fourth .1) in
+    let tag = field-only m tagMost tagStart tagWidth s (omega arith) (first .1) in
+    let tare = field-only 0 tareMost tareStart tareWidth s (omega arith) (second .1) in
+    let code = field-only 0 codeMost codeStart codeWidth s (omega arith) (third .1) in
+    let weighing = field-only 0 weighingMost weighingStart weighingWidth s (omega arith) (fourth .1) in
     rw (← is) (
       fields-shown s found (tag .printed) (tare .printed) (code .printed) (weighing .printed),
       fits-from m found
@@ -82,39 +85,39 @@ figures-only m s {l} long h =
           (tag .least),
     )
 
--- the same of 26 columns
+-- the same of a line's columns alone
 pub figures-alone-back : (m : ℕ) (l : Line) → fitsFrom m l ≡ true → readFigures m (figures l) ≡ some l
 figures-alone-back m l h = rw append-nil at (figures-back m l [] h)
 
-pub figures-alone-only : (m : ℕ) (s : List ℕ) {l : Line} → length s ≡ 26 → readFigures m s ≡ some l
+pub figures-alone-only : (m : ℕ) (s : List ℕ) {l : Line} → length s ≡ figuresWidth → readFigures m s ≡ some l
     → (s ≡ figures l) × (fitsFrom m l ≡ true)
 figures-alone-only m s long h =
     let told = figures-only m s (omega arith) h in
-    (columns-all 26 s long ∙ told .0, told .1)
+    (columns-all figuresWidth s long ∙ told .0, told .1)
 
 -- a line with its newline, read field by field
 unfoldable pub readLineFields : List ℕ → Option Line
-readLineFields s = pick (eqb (length s) 27 && eqb (getD s 26 0) 10) (readFigures 0 s) none
+readLineFields s = pick (eqb (length s) lineLength && eqb (getD s figuresWidth 0) newline) (readFigures 0 s) none
 
 line-back : (l : Line) → fits l ≡ true → readLineFields (printLine l) ≡ some l
 unfolding readLineFields printLine
 line-back l h =
     let any : fitsFrom 0 l ≡ true = rw (h, le-leb 0 (l .tag) (omega arith)) in
-    let long : length (printLine l) ≡ 27 = length-printLine l in
-    let last : getD (figures l ++ 10 ∷ []) 26 0 ≡ 10 = getD-at (figures l) 10 [] 0 26 (length-figures l) in
-    rw (long, last) (figures-back 0 l (10 ∷ []) any)
+    let long : length (printLine l) ≡ lineLength = length-printLine l in
+    let last : getD (figures l ++ newline ∷ []) figuresWidth 0 ≡ newline = getD-at (figures l) newline [] 0 figuresWidth (length-figures l) in
+    rw (long, last) (figures-back 0 l (newline ∷ []) any)
 
 line-only : (s : List ℕ) {l : Line} → readLineFields s ≡ some l → (s ≡ printLine l) × (fits l ≡ true)
 unfolding readLineFields printLine
 line-only s {l} h =
-    let test = pick-found (eqb (length s) 27 && eqb (getD s 26 0) 10) (readFigures 0 s) h in
-    let two = both (eqb (length s) 27) (eqb (getD s 26 0) 10) (test .0) in
-    let long : length s ≡ 27 = eqb-true (length s) 27 (two .0) in
-    let last : getD s 26 0 ≡ 10 = eqb-true (getD s 26 0) 10 (two .1) in
+    let test = pick-found (eqb (length s) lineLength && eqb (getD s figuresWidth 0) newline) (readFigures 0 s) h in
+    let two = both (eqb (length s) lineLength) (eqb (getD s figuresWidth 0) newline) (test .0) in
+    let long : length s ≡ lineLength = eqb-true (length s) lineLength (two .0) in
+    let last : getD s figuresWidth 0 ≡ newline = eqb-true (getD s figuresWidth 0) newline (two .1) in
     let found = figures-only 0 s (omega arith) (test .1) in (
-      columns-all 27 s long
-          ∙ columns-split 0 26 1 s
-          ∙ ap₂ {C = List ℕ} _++_ (found .0) (columns-one 26 s (omega arith) ∙ ap (λ (c : ℕ). c ∷ []) last),
+      columns-all lineLength s long
+          ∙ columns-split tagStart figuresWidth 1 s
+          ∙ ap₂ {C = List ℕ} _++_ (found .0) (columns-one figuresWidth s (omega arith) ∙ ap (λ (c : ℕ). c ∷ []) last),
       both (fits l) (leb 0 (l .tag)) (found .1) .0,
     )
 
@@ -129,25 +132,25 @@ read-line-fields s = same-found (readLine s) (readLineFields s) forth back
     back l h = let told = line-only s h in rw (told .0) (read-of-print-line l (told .1))
 
 -- its length, its newline, and its figures
-pub wrong-length : (s : List ℕ) → (length s ≡ 27 → ⊥) → readLine s ≡ none
+pub wrong-length : (s : List ℕ) → (length s ≡ lineLength → ⊥) → readLine s ≡ none
 unfolding readLineFields
-wrong-length s h = read-line-fields s ∙ rw (ne-eqb (length s) 27 h)
+wrong-length s h = read-line-fields s ∙ rw (ne-eqb (length s) lineLength h)
 
-pub no-newline : (s : List ℕ) → length s ≡ 27 → (getD s 26 0 ≡ 10 → ⊥) → readLine s ≡ none
+pub no-newline : (s : List ℕ) → length s ≡ lineLength → (getD s figuresWidth 0 ≡ newline → ⊥) → readLine s ≡ none
 unfolding readLineFields
-no-newline s h n = read-line-fields s ∙ rw (eq-eqb (length s) 27 h, ne-eqb (getD s 26 0) 10 n)
+no-newline s h n = read-line-fields s ∙ rw (eq-eqb (length s) lineLength h, ne-eqb (getD s figuresWidth 0) newline n)
 
-pub by-figures : (s : List ℕ) → length s ≡ 27 → getD s 26 0 ≡ 10 → readLine s ≡ readFigures 0 s
+pub by-figures : (s : List ℕ) → length s ≡ lineLength → getD s figuresWidth 0 ≡ newline → readLine s ≡ readFigures 0 s
 unfolding readLineFields
-by-figures s h n = read-line-fields s ∙ rw (eq-eqb (length s) 27 h, eq-eqb (getD s 26 0) 10 n)
+by-figures s h n = read-line-fields s ∙ rw (eq-eqb (length s) lineLength h, eq-eqb (getD s figuresWidth 0) newline n)
 
 -- ---- the tag of a line that was read
 
-tag-small : (l : Line) → fits l ≡ true → l .tag ≤ 4294967295
+tag-small : (l : Line) → fits l ≡ true → l .tag ≤ tagMost
 tag-small l h = line-fits l h .small-tag
 
-pub figures-tag-small : (m : ℕ) (s : List ℕ) → 26 ≤ length s → (l : Line) → readFigures m s ≡ some l → l .tag ≤ 4294967295
+pub figures-tag-small : (m : ℕ) (s : List ℕ) → figuresWidth ≤ length s → (l : Line) → readFigures m s ≡ some l → l .tag ≤ tagMost
 figures-tag-small m s long l h = tag-small l (both (fits l) (leb m (l .tag)) (figures-only m s long h .1) .0)
 
-pub line-tag-small : (s : List ℕ) (l : Line) → readLine s ≡ some l → l .tag ≤ 4294967295
+pub line-tag-small : (s : List ℕ) (l : Line) → readLine s ≡ some l → l .tag ≤ tagMost
 line-tag-small s l h = tag-small l (print-of-read-line s h .1)

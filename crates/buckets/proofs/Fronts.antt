@@ -2,28 +2,27 @@
 --     entries-next, length-entries    entries from two arrays, one more, and how many
 --     joined-next                     one more item behind those that stand
 --     entry-written                   one more entry, printed as two numbers
---     length-copied-to, copied-printed    entries whose tags are copied from a text
 --     entries-first                   the first entry and the others
 --     pairs-printed, pairs-blank      pairs printed as entries, and with a blank tag first
 --     line-written, figures-at        one more line, and where its figures stand in a list
 -- Assumes nothing.
 use Prim.Native.Nat.{ℕ, zero, suc, _+_, _-_, _*_, _≤_, _<_}
-use mathlib.Core.Path.{_≡_, refl, sym, ap, ap₂, _∙_}
+use mathlib.Core.Path.{_≡_, refl, sym, ap, _∙_}
 use mathlib.Core.Bool.{true, false}
 use mathlib.Core.List.{List, [], _∷_, _++_, map, append-assoc, append-nil}
 use native.Mathlib.Numerals.{add-one}
 use native.Mathlib.Omega.{arith}
 use lib.Dec.{lit≤}
-use lib.ListN.{length, take, drop, getD, length-append}
+use lib.ListN.{length, take, drop, getD}
 use lib.Seq.{length-take-le, take-suc, take-take, take-at}
 use Rattle.columns.specs.Lists.{joined}
 use Rattle.columns.specs.PrintedNumbers.{print, blanks}
-use Rattle.columns.proofs.Put.{length-part}
 use Rattle.columns.proofs.Joined.{joined-append, length-joined, joined-at}
 use Rattle.buckets.specs.declared.Line.{Line}
 use Rattle.buckets.specs.ListLine.{figures, printLine}
 use Rattle.buckets.specs.Bucket.{Entry, printPair, printEntry}
-use Rattle.buckets.specs.Held.{entriesOf, printedPair, pairsOf, copiedTo}
+use Rattle.buckets.specs.Held.{entriesOf, printedPair, pairsOf}
+use Rattle.buckets.specs.Lengths.{newline, tagWidth, figuresWidth, lineLength, placeWidth, entryWidth}
 use Rattle.buckets.proofs.ListLines.{length-figures, length-printLine}
 use Rattle.buckets.proofs.Buckets.{length-printEntry}
 
@@ -49,7 +48,7 @@ joined-next f xs x = joined-append f xs (x ∷ []) ∙ ap (λ (s : List ℕ). jo
 
 -- n columns and two arrays that have room for count entries
 pub record Room (n count : ℕ) (ts ds : List ℕ) : Type 0 where
-  pub columns : 16 * count ≤ n
+  pub columns : entryWidth * count ≤ n
   pub tags : count ≤ length ts
   pub distances : count ≤ length ds
 
@@ -57,41 +56,17 @@ pub record Room (n count : ℕ) (ts ds : List ℕ) : Type 0 where
 abbrev pub entriesTo : List ℕ → List ℕ → ℕ → List ℕ
 entriesTo ts ds i = joined printEntry (take i (entriesOf ts ds))
 
-pub length-entries-to : (ts ds : List ℕ) (i : ℕ) → i ≤ length ts → i ≤ length ds → length (entriesTo ts ds i) ≡ i * 16
-length-entries-to ts ds i h g = length-joined printEntry 16 length-printEntry (take i (entriesOf ts ds)) ∙ ap (λ (k : ℕ). k * 16) (length-entries ts ds i h g)
+pub length-entries-to : (ts ds : List ℕ) (i : ℕ) → i ≤ length ts → i ≤ length ds → length (entriesTo ts ds i) ≡ i * entryWidth
+length-entries-to ts ds i h g = length-joined printEntry entryWidth length-printEntry (take i (entriesOf ts ds)) ∙ ap (λ (k : ℕ). k * entryWidth) (length-entries ts ds i h g)
 
 pub entry-written : (ts ds : List ℕ) (i : ℕ) → i < length ts → i < length ds →
-    (entriesTo ts ds i ++ print 10 (getD ts i 0)) ++ print 6 (getD ds i 0) ≡ entriesTo ts ds (i + 1)
+    (entriesTo ts ds i ++ print tagWidth (getD ts i 0)) ++ print placeWidth (getD ds i 0) ≡ entriesTo ts ds (i + 1)
 unfolding printEntry
 entry-written ts ds i h g =
-    append-assoc (entriesTo ts ds i) (print 10 (getD ts i 0)) (print 6 (getD ds i 0))
+    append-assoc (entriesTo ts ds i) (print tagWidth (getD ts i 0)) (print placeWidth (getD ds i 0))
     ∙ sym (joined-next printEntry (take i (entriesOf ts ds)) (entryAt ts ds i))
     ∙ ap (joined printEntry) (sym (entries-next ts ds i h g))
     ∙ ap (entriesTo ts ds) (sym (add-one i))
-
--- the first entries, each tag copied from a text: how wide, and the same as printed ones where the text has the tags
-pub length-copied-to : (text places ds : List ℕ) (i : ℕ) → ((k : ℕ) → k < i → getD places k 0 + 10 ≤ length text) →
-    length (copiedTo text places ds i) ≡ i * 16
-length-copied-to text places ds zero h = refl
-length-copied-to text places ds (suc i) h =
-    let tag : List ℕ = take 10 (drop (getD places i 0) text) in
-    let wide : length tag ≡ 10 = length-part text (getD places i 0) 10 (h i (omega arith)) in
-    let before : length (copiedTo text places ds i) ≡ i * 16 = length-copied-to text places ds i (λ k l. h k (omega arith)) in
-    let one : length (tag ++ print 6 (getD ds i 0)) ≡ length tag + 6 = length-append tag (print 6 (getD ds i 0)) in
-    let all : length (copiedTo text places ds (suc i)) ≡ length (copiedTo text places ds i) + length (tag ++ print 6 (getD ds i 0)) =
-    length-append (copiedTo text places ds i) (tag ++ print 6 (getD ds i 0)) in
-    omega arith
-
-pub copied-printed : (text places ts ds : List ℕ) (i : ℕ) → i ≤ length ts → i ≤ length ds →
-    ((k : ℕ) → k < i → take 10 (drop (getD places k 0) text) ≡ print 10 (getD ts k 0)) →
-    copiedTo text places ds i ≡ entriesTo ts ds i
-copied-printed text places ts ds zero h g e = refl
-copied-printed text places ts ds (suc i) h g e =
-    ap₂ (λ (s t : List ℕ). s ++ (t ++ print 6 (getD ds i 0)))
-    (copied-printed text places ts ds i (omega arith) (omega arith) (λ k l. e k (omega arith))) (e i (omega arith))
-    ∙ sym (append-assoc (entriesTo ts ds i) (print 10 (getD ts i 0)) (print 6 (getD ds i 0)))
-    ∙ entry-written ts ds i (omega arith) (omega arith)
-    ∙ ap (entriesTo ts ds) (add-one i)
 
 -- the first entry, and those of the arrays without their first places
 pub entries-first : (ts ds : List ℕ) (n : ℕ) → 0 < n → n ≤ length ts → n ≤ length ds →
@@ -113,16 +88,16 @@ pairs-printed [] = refl
 pairs-printed (e ∷ es) = ap (λ (s : List ℕ). printEntry e ++ s) (later-printed es)
 
 pub pairs-blank : (e : Entry) (es : List Entry) →
-    joined printPair (pairsOf true (e ∷ es)) ≡ (blanks 10 ++ print 6 (e .distance)) ++ joined printEntry es
+    joined printPair (pairsOf true (e ∷ es)) ≡ (blanks tagWidth ++ print placeWidth (e .distance)) ++ joined printEntry es
 unfolding printPair
-pairs-blank e es = ap (λ (s : List ℕ). (blanks 10 ++ print 6 (e .distance)) ++ s) (later-printed es)
+pairs-blank e es = ap (λ (s : List ℕ). (blanks tagWidth ++ print placeWidth (e .distance)) ++ s) (later-printed es)
 
 -- the first i lines, without their newlines
 abbrev pub linesTo : List Line → ℕ → List ℕ
 linesTo ls i = joined figures (take i ls)
 
-pub length-lines-to : (ls : List Line) (i : ℕ) → i ≤ length ls → length (linesTo ls i) ≡ i * 26
-length-lines-to ls i h = length-joined figures 26 length-figures (take i ls) ∙ ap (λ (k : ℕ). k * 26) (length-take-le i ls h)
+pub length-lines-to : (ls : List Line) (i : ℕ) → i ≤ length ls → length (linesTo ls i) ≡ i * figuresWidth
+length-lines-to ls i h = length-joined figures figuresWidth length-figures (take i ls) ∙ ap (λ (k : ℕ). k * figuresWidth) (length-take-le i ls h)
 
 pub line-written : (ls : List Line) (d : Line) (i : ℕ) → i < length ls → linesTo ls i ++ figures (getD ls i d) ≡ linesTo ls (i + 1)
 line-written ls d i h =
@@ -132,11 +107,11 @@ line-written ls d i h =
 
 -- the figures of line i in a printed list
 pub figures-at : (s : List ℕ) (ls : List Line) (d : Line) (i : ℕ) → s ≡ joined printLine ls → i < length ls →
-    take 26 (drop (i * 27) s) ≡ figures (getD ls i d)
+    take figuresWidth (drop (i * lineLength) s) ≡ figures (getD ls i d)
 unfolding printLine
 figures-at s ls d i e h =
-    let line : take 27 (drop (i * 27) s) ≡ printLine (getD ls i d) =
-    rw (e, ← append-nil (joined printLine ls)) (joined-at printLine 27 length-printLine d ls [] i h) in
-    sym (take-take 26 27 (drop (i * 27) s) (lit≤ tt))
-    ∙ ap (take 26) line
-    ∙ take-at (figures (getD ls i d)) (10 ∷ []) 26 (length-figures (getD ls i d))
+    let line : take lineLength (drop (i * lineLength) s) ≡ printLine (getD ls i d) =
+    rw (e, ← append-nil (joined printLine ls)) (joined-at printLine lineLength length-printLine d ls [] i h) in
+    sym (take-take figuresWidth lineLength (drop (i * lineLength) s) (lit≤ tt))
+    ∙ ap (take figuresWidth) line
+    ∙ take-at (figures (getD ls i d)) (newline ∷ []) figuresWidth (length-figures (getD ls i d))

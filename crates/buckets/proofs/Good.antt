@@ -12,6 +12,7 @@ use Rattle.columns.proofs.Strict.{both}
 use Rattle.buckets.specs.declared.Line.{Line}
 use Rattle.buckets.specs.ListLine.{tagFits, fits}
 use Rattle.buckets.specs.Bucket.{Pair, Entry, Body, indexBody, dataBody, Bucket, cycleLength, reaches, pairTagFits, pairFits, entryFits, laterPrinted, rising, bodyGood, good}
+use Rattle.buckets.specs.Lengths.{pairsMost, entriesMost, bucketLinesMost, bucketsMost}
 
 -- ---- a distance, an entry
 
@@ -52,8 +53,8 @@ fits-pair n p t d = rw (t, reached n (p .distance) d)
 -- ---- a body
 
 pub record GoodIndex (n : ℕ) (ps : List Pair) (es : List Entry) : Type 0 where
-  pub few-pairs : length ps ≤ 4
-  pub few-entries : length es ≤ 8
+  pub few-pairs : length ps ≤ pairsMost
+  pub few-entries : length es ≤ entriesMost
   pub pairs-fit : every (pairFits n) ps ≡ true
   pub later-printed : laterPrinted ps ≡ true
   pub entries-fit : every (entryFits n) es ≡ true
@@ -61,7 +62,7 @@ pub record GoodIndex (n : ℕ) (ps : List Pair) (es : List Entry) : Type 0 where
 
 pub record GoodData (c f : ℕ) (ls : List Line) : Type 0 where
   pub one-line : 1 ≤ length ls
-  pub few-lines : length ls ≤ 8
+  pub few-lines : length ls ≤ bucketLinesMost
   pub lines-fit : every fits ls ≡ true
   pub in-order : rising 0 (map (λ l. l .tag) ls) ≡ true
   pub follow-on-near : f < c
@@ -76,14 +77,14 @@ body-good n c (indexBody ps es) h =
     let entries = every (entryFits n) es in
     let later = laterPrinted ps in
     let pairs = every (pairFits n) ps in
-    let first = both (leb (length ps) 4) (leb (length es) 8 && (pairs && (later && (entries && order)))) h in
-    let second = both (leb (length es) 8) (pairs && (later && (entries && order))) (first .1) in
+    let first = both (leb (length ps) pairsMost) (leb (length es) entriesMost && (pairs && (later && (entries && order)))) h in
+    let second = both (leb (length es) entriesMost) (pairs && (later && (entries && order))) (first .1) in
     let third = both pairs (later && (entries && order)) (second .1) in
     let fourth = both later (entries && order) (third .1) in
     let fifth = both entries order (fourth .1) in
     record {
-      few-pairs = leb-true (length ps) 4 (first .0);
-      few-entries = leb-true (length es) 8 (second .0);
+      few-pairs = leb-true (length ps) pairsMost (first .0);
+      few-entries = leb-true (length es) entriesMost (second .0);
       pairs-fit = third .0;
       later-printed = fourth .0;
       entries-fit = fifth .0;
@@ -91,13 +92,13 @@ body-good n c (indexBody ps es) h =
     }
 body-good n c (dataBody f ls) h =
     let order = rising 0 (map (λ (l : Line). l .tag) ls) in
-    let first = both (leb 1 (length ls)) (leb (length ls) 8 && (every fits ls && (order && ltb f c))) h in
-    let second = both (leb (length ls) 8) (every fits ls && (order && ltb f c)) (first .1) in
+    let first = both (leb 1 (length ls)) (leb (length ls) bucketLinesMost && (every fits ls && (order && ltb f c))) h in
+    let second = both (leb (length ls) bucketLinesMost) (every fits ls && (order && ltb f c)) (first .1) in
     let third = both (every fits ls) (order && ltb f c) (second .1) in
     let fourth = both order (ltb f c) (third .1) in
     record {
       one-line = leb-true 1 (length ls) (first .0);
-      few-lines = leb-true (length ls) 8 (second .0);
+      few-lines = leb-true (length ls) bucketLinesMost (second .0);
       lines-fit = third .0;
       in-order = fourth .0;
       follow-on-near = ltb-true f c (fourth .1);
@@ -106,8 +107,8 @@ body-good n c (dataBody f ls) h =
 pub good-body : (n c : ℕ) (x : Body) → GoodBody n c x → bodyGood n c x ≡ true
 good-body n c (indexBody ps es) h =
     rw (
-      le-leb (length ps) 4 (h .few-pairs),
-      le-leb (length es) 8 (h .few-entries),
+      le-leb (length ps) pairsMost (h .few-pairs),
+      le-leb (length es) entriesMost (h .few-entries),
       h .pairs-fit,
       h .later-printed,
       h .entries-fit,
@@ -116,7 +117,7 @@ good-body n c (indexBody ps es) h =
 good-body n c (dataBody f ls) h =
     rw (
       le-leb 1 (length ls) (h .one-line),
-      le-leb (length ls) 8 (h .few-lines),
+      le-leb (length ls) bucketLinesMost (h .few-lines),
       h .lines-fit,
       h .in-order,
       lt-ltb f c (h .follow-on-near),
@@ -125,7 +126,7 @@ good-body n c (dataBody f ls) h =
 -- ---- a bucket
 
 pub record Good (b : Bucket) : Type 0 where
-  pub short-cycle : b .position + b .toCycle ≤ 99999
+  pub short-cycle : b .position + b .toCycle ≤ bucketsMost
   pub cycle-onward : 1 ≤ b .toCycle
   pub segment-reached : Reaches (b .position + b .toCycle) (b .toSegment)
   pub good-rest : GoodBody (b .position + b .toCycle) (b .toCycle) (b .body)
@@ -135,11 +136,11 @@ unfolding good cycleLength
 bucket-good b h =
     let n = b .position + b .toCycle in
     let rest = bodyGood n (b .toCycle) (b .body) in
-    let first = both (leb n 99999) (leb 1 (b .toCycle) && (reaches n (b .toSegment) && rest)) h in
+    let first = both (leb n bucketsMost) (leb 1 (b .toCycle) && (reaches n (b .toSegment) && rest)) h in
     let second = both (leb 1 (b .toCycle)) (reaches n (b .toSegment) && rest) (first .1) in
     let third = both (reaches n (b .toSegment)) rest (second .1) in
     record {
-      short-cycle = leb-true n 99999 (first .0);
+      short-cycle = leb-true n bucketsMost (first .0);
       cycle-onward = leb-true 1 (b .toCycle) (second .0);
       segment-reached = reach n (b .toSegment) (third .0);
       good-rest = body-good n (b .toCycle) (b .body) (third .1);
@@ -150,7 +151,7 @@ unfolding good cycleLength
 good-bucket b h =
     let n = b .position + b .toCycle in
     rw (
-      le-leb n 99999 (h .short-cycle),
+      le-leb n bucketsMost (h .short-cycle),
       le-leb 1 (b .toCycle) (h .cycle-onward),
       reached n (b .toSegment) (h .segment-reached),
       good-body n (b .toCycle) (b .body) (h .good-rest),

@@ -1,15 +1,14 @@
 -- How the code's structs hold a bucket: an item stands at its number, and what is held is the body again.
 -- Assumes nothing.
-use Prim.Native.Nat.{ℕ, _-_, _<_, _≤_}
+use Prim.Native.Nat.{ℕ, _-_, _≤_}
 use mathlib.Core.Path.{_≡_, refl, ap, ap₂, _∙_}
 use mathlib.Core.Bool.{true}
 use mathlib.Core.Option.{Option, none, some}
 use mathlib.Core.List.{List, [], _∷_, _++_, map, map-id}
 use native.Mathlib.Omega.{arith}
-use lib.ListN.{length, take, getD, replicate, length-append, length-replicate, length-map, List·getD-append}
+use lib.ListN.{length, take, length-append, length-replicate}
 use Rattle.columns.specs.Lists.{pick, every}
 use Rattle.columns.proofs.Strict.{both}
-use Rattle.columns.proofs.Joined.{map-at}
 use Rattle.buckets.specs.Bucket.{Pair, Entry, Body, indexBody, Bucket, printedTag, laterPrinted}
 use Rattle.buckets.specs.Held.{entriesOf, printedPair, pairsOf, indexOf, bucketWith, filled, tagOr0, firstBlank, heldIndex, headOf}
 
@@ -18,14 +17,6 @@ use Rattle.buckets.specs.Held.{entriesOf, printedPair, pairsOf, indexOf,
 pub length-filled : (w : ℕ) (xs : List ℕ) → length xs ≤ w → length (filled w xs) ≡ w
 unfolding filled
 length-filled w xs h = simp (length-append, length-replicate) (omega arith)
-
--- what an array holds of item i
-pub held-at : {A : Type 0} (f : A → ℕ) (w : ℕ) (xs : List A) (d : A) (i : ℕ) → i < length xs
-    → getD (filled w (map f xs)) i 0 ≡ f (getD xs i d)
-unfolding filled
-held-at f w xs d i h =
-    let many : i < length (map f xs) = rw (length-map xs f) h in
-    List·getD-append (map f xs) (replicate (w - length (map f xs)) 0) 0 i many ∙ map-at f xs i d 0 h
 
 -- ---- entries and pairs
 

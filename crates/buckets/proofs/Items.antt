@@ -14,7 +14,8 @@ use Rattle.columns.specs.Lists.{joined, every, padded}
 use Rattle.columns.proofs.Strict.{both, and-false}
 use Rattle.columns.proofs.Joined.{length-joined}
 use Rattle.buckets.specs.Bucket.{rising}
-use Rattle.buckets.specs.Columns.{andThen, allBlank, readRun, readItems}
+use Rattle.columns.specs.PrintedNumbers.{allBlank}
+use Rattle.buckets.specs.Columns.{andThen, readRun, readItems}
 use Rattle.buckets.proofs.Chained.{then-found, pick-found}
 use Rattle.buckets.proofs.Within.{blank-blanks, blanks-of-blank}
 

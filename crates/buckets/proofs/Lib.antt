@@ -3,6 +3,7 @@ pub mod ListLines
 pub mod Lists
 pub mod Good
 pub mod Buckets
+pub mod BucketLines
 pub mod Chained
 pub mod Within
 pub mod Bounds
@@ -10,6 +11,7 @@ pub mod Items
 pub mod Figures
 pub mod PrintedRest
 pub mod Entries
+pub mod EntriesPut
 pub mod BodyItems
 pub mod ByField
 pub mod Answers
@@ -18,3 +20,4 @@ pub mod Holding
 pub mod Fronts
 pub mod Pages
 pub mod ListParts
+pub mod CopiedLines

@@ -12,66 +12,72 @@ use borrow.Author.Tests.{leb-true, le-leb}
 use Rattle.columns.proofs.Strict.{both, strict-back, strict-only}
 use Rattle.columns.proofs.Printed.{value-print}
 use Rattle.buckets.specs.declared.Line.{Line}
-use Rattle.buckets.specs.ListLine.{tagFits, fits, figures, printLine, spelled, readLine, taken}
+use Rattle.buckets.specs.ListLine.{tagFits, fits, figures, printLine, spelledFigures, spelled, readLine, taken}
+use Rattle.buckets.specs.Lengths.{newline, tagWidth, tareWidth, codeWidth, weighingWidth, figuresWidth, lineLength}
+use Rattle.buckets.specs.Lengths.{tagMost, tareMost, codeMost, weighingMost}
 
 -- what `fits` tests
 pub record Fits (l : Line) : Type 0 where
-  pub small-tag : l .tag ≤ 4294967295
-  pub small-tare : l .tare ≤ 99999
-  pub small-code : l .code ≤ 9999
-  pub small-weighing : l .weighing ≤ 999999
+  pub small-tag : l .tag ≤ tagMost
+  pub small-tare : l .tare ≤ tareMost
+  pub small-code : l .code ≤ codeMost
+  pub small-weighing : l .weighing ≤ weighingMost
 
-pub tag-small : (t : ℕ) → tagFits t ≡ true → t ≤ 4294967295
+pub tag-small : (t : ℕ) → tagFits t ≡ true → t ≤ tagMost
 unfolding tagFits
-tag-small t h = leb-true t 4294967295 h
+tag-small t h = leb-true t tagMost h
 
-pub small-tag : (t : ℕ) → t ≤ 4294967295 → tagFits t ≡ true
+pub small-tag : (t : ℕ) → t ≤ tagMost → tagFits t ≡ true
 unfolding tagFits
-small-tag t h = le-leb t 4294967295 h
+small-tag t h = le-leb t tagMost h
 
 pub line-fits : (l : Line) → fits l ≡ true → Fits l
 unfolding fits
 line-fits l h =
-    let w = leb (l .weighing) 999999 in
-    let c = leb (l .code) 9999 in
-    let t = leb (l .tare) 99999 in
+    let w = leb (l .weighing) weighingMost in
+    let c = leb (l .code) codeMost in
+    let t = leb (l .tare) tareMost in
     let first = both (tagFits (l .tag)) (t && (c && w)) h in
     let second = both t (c && w) (first .1) in
     let third = both c w (second .1) in
     record {
       small-tag = tag-small (l .tag) (first .0);
-      small-tare = leb-true (l .tare) 99999 (second .0);
-      small-code = leb-true (l .code) 9999 (third .0);
-      small-weighing = leb-true (l .weighing) 999999 (third .1);
+      small-tare = leb-true (l .tare) tareMost (second .0);
+      small-code = leb-true (l .code) codeMost (third .0);
+      small-weighing = leb-true (l .weighing) weighingMost (third .1);
     }
 
-pub length-figures : (l : Line) → length (figures l) ≡ 26
+pub length-figures : (l : Line) → length (figures l) ≡ figuresWidth
 unfolding figures
 length-figures l = refl
 
-pub length-printLine : (l : Line) → length (printLine l) ≡ 27
+pub length-printLine : (l : Line) → length (printLine l) ≡ lineLength
 unfolding figures printLine
 length-printLine l = refl
 
 -- a line's columns spell the line, whatever stands behind them
-pub spelled-figures : (l : Line) (rest : List ℕ) → fits l ≡ true → spelled (figures l ++ rest) ≡ l
-unfolding figures spelled
-spelled-figures l rest h =
+pub figures-spelled : (l : Line) (rest : List ℕ) → fits l ≡ true → spelledFigures (figures l ++ rest) ≡ l
+unfolding figures
+figures-spelled l rest h =
     let f = line-fits l h in
     λ i.
     record {
-      tag = value-print 10 (l .tag) (omega arith) i;
-      tare = value-print 6 (l .tare) (omega arith) i;
-      code = value-print 4 (l .code) (omega arith) i;
-      weighing = value-print 6 (l .weighing) (omega arith) i;
+      tag = value-print tagWidth (l .tag) (omega arith) i;
+      tare = value-print tareWidth (l .tare) (omega arith) i;
+      code = value-print codeWidth (l .code) (omega arith) i;
+      weighing = value-print weighingWidth (l .weighing) (omega arith) i;
     }
+
+pub spelled-figures : (l : Line) (rest : List ℕ) → fits l ≡ true → spelled (figures l ++ rest) ≡ l
+unfolding spelled
+spelled-figures l rest h = figures-spelled l rest h
 
 pub spelled-alone : (l : Line) → fits l ≡ true → spelled (figures l) ≡ l
 spelled-alone l h = rw append-nil at (spelled-figures l [] h)
 
 pub spelled-printLine : (l : Line) → fits l ≡ true → spelled (printLine l) ≡ l
 unfolding printLine
-spelled-printLine l h = spelled-figures l (10 ∷ []) h
+spelled-printLine l h = spelled-figures l (newline ∷ []) h
 
 pub read-of-print-line : (l : Line) → fits l ≡ true → readLine (printLine l) ≡ some l
 unfolding readLine

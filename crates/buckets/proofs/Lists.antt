@@ -16,26 +16,27 @@ use Rattle.columns.proofs.Joined.{length-joined, parts-joined, length-parts, pa
 use Rattle.buckets.specs.declared.Line.{Line}
 use Rattle.buckets.specs.ListLine.{fits, printLine, spelled, readLine, cutLines, listLines, taken, misprintFrom, fallFrom}
 use Rattle.buckets.specs.Bucket.{rising}
+use Rattle.buckets.specs.Lengths.{lineLength}
 use Rattle.buckets.proofs.ListLines.{length-printLine, spelled-printLine, read-of-print-line, read-line-spelled}
 
-pub length-cutLines : (s : List ℕ) → length (cutLines s) ≡ length s / 27
+pub length-cutLines : (s : List ℕ) → length (cutLines s) ≡ length s / lineLength
 unfolding cutLines
-length-cutLines s = length-parts (length s / 27) 27 s
+length-cutLines s = length-parts (length s / lineLength) lineLength s
 
-pub length-listLines : (s : List ℕ) → length (listLines s) ≡ length s / 27
+pub length-listLines : (s : List ℕ) → length (listLines s) ≡ length s / lineLength
 unfolding listLines
 length-listLines s = length-map (cutLines s) spelled ∙ length-cutLines s
 
-pub length-printed : (ls : List Line) → length (joined printLine ls) ≡ length ls * 27
-length-printed ls = length-joined printLine 27 length-printLine ls
+pub length-printed : (ls : List Line) → length (joined printLine ls) ≡ length ls * lineLength
+length-printed ls = length-joined printLine lineLength length-printLine ls
 
 -- line i of a list as bytes
-pub cut-at : (s : List ℕ) (d : List ℕ) (i : ℕ) → i < length s / 27 → getD (cutLines s) i d ≡ take 27 (drop (i * 27) s)
+pub cut-at : (s : List ℕ) (d : List ℕ) (i : ℕ) → i < length s / lineLength → getD (cutLines s) i d ≡ take lineLength (drop (i * lineLength) s)
 unfolding cutLines
-cut-at s d i h = parts-at (length s / 27) 27 s d i h
+cut-at s d i h = parts-at (length s / lineLength) lineLength s d i h
 
 -- line i of a list as numbers
-pub line-at : (s : List ℕ) (d : Line) (i : ℕ) → i < length s / 27 → getD (listLines s) i d ≡ spelled (take 27 (drop (i * 27) s))
+pub line-at : (s : List ℕ) (d : Line) (i : ℕ) → i < length s / lineLength → getD (listLines s) i d ≡ spelled (take lineLength (drop (i * lineLength) s))
 unfolding listLines
 line-at s d i h =
     map-at spelled (cutLines s) i [] d (rw length-cutLines h) ∙ ap spelled (cut-at s [] i h)
@@ -45,9 +46,9 @@ line-at s d i h =
 pub cut-of-printed : (ls : List Line) → cutLines (joined printLine ls) ≡ map printLine ls
 unfolding cutLines
 cut-of-printed ls =
-    let count : length (joined printLine ls) / 27 ≡ length ls =
-    rw (length-printed ls) (mul-div-cancel (length ls) {n = 27} (lit< tt)) in
-    rw (count, ← append-nil (joined printLine ls)) (parts-joined printLine 27 length-printLine ls [])
+    let count : length (joined printLine ls) / lineLength ≡ length ls =
+    rw (length-printed ls) (mul-div-cancel (length ls) {n = lineLength} (lit< tt)) in
+    rw (count, ← append-nil (joined printLine ls)) (parts-joined printLine lineLength length-printLine ls [])
 
 pub lines-of-printed : (ls : List Line) → every fits ls ≡ true → listLines (joined printLine ls) ≡ ls
 unfolding listLines
@@ -93,13 +94,13 @@ print-of-parts (s ∷ ss) h =
     (ap₂ {C = List ℕ} _++_ (is .0) (rest .0), rw (is .1) (rest .1))
 
 -- a list of whole lines that all read is the print of its lines, and these fit
-pub print-of-list : (s : List ℕ) → length s % 27 ≡ 0 → misprintFrom 0 (cutLines s) ≡ none
+pub print-of-list : (s : List ℕ) → length s % lineLength ≡ 0 → misprintFrom 0 (cutLines s) ≡ none
     → (s ≡ joined printLine (listLines s)) × (every fits (listLines s) ≡ true)
 unfolding listLines cutLines
 print-of-list s whole h =
-    let told = print-of-parts (parts (length s / 27) 27 s) (none-misprinted 0 (parts (length s / 27) 27 s) h) in
-    let all : take (length s / 27 * 27) s ≡ s = take-all (length s / 27 * 27) s (omega arith) in
-    (sym all ∙ sym (joined-parts (length s / 27) 27 s) ∙ told .0, told .1)
+    let told = print-of-parts (parts (length s / lineLength) lineLength s) (none-misprinted 0 (parts (length s / lineLength) lineLength s) h) in
+    let all : take (length s / lineLength * lineLength) s ≡ s = take-all (length s / lineLength * lineLength) s (omega arith) in
+    (sym all ∙ sym (joined-parts (length s / lineLength) lineLength s) ∙ told .0, told .1)
 
 -- ---- order
 

@@ -1,7 +1,7 @@
 -- A line whose tag is within bounds, and the columns behind the tag: the line is read exactly if the tare leaves its first column
 -- blank and each of those columns is well printed.
 -- Assumes nothing.
-use Prim.Native.Nat.{ℕ, suc, _^_, _≤_, _<_}
+use Prim.Native.Nat.{ℕ, suc, _^_, _≤_, _<_, _+_, _-_}
 use mathlib.Core.Path.{_≡_, refl, sym, ap, _∙_}
 use mathlib.Core.Bool.{true, false, _&&_, true≢false}
 use mathlib.Core.Option.{Option, none, some}
@@ -20,32 +20,34 @@ use Rattle.buckets.specs.declared.Line.{Line}
 use Rattle.buckets.specs.Bucket.{columns}
 use Rattle.buckets.specs.Held.{tagOrMisprint}
 use Rattle.buckets.specs.Columns.{numberWithin, readFigures, restPlaces}
+use Rattle.buckets.specs.Lengths.{tagWidth, tareWidth, codeWidth, weighingWidth, tagStart, tareStart, codeStart}
+use Rattle.buckets.specs.Lengths.{weighingStart, figuresWidth, restWidth, tagMost, tareMost, codeMost, weighingMost}
 use Rattle.buckets.proofs.Bounds.{within}
 use Rattle.buckets.proofs.Chained.{then-found}
 use Rattle.buckets.proofs.Within.{length-columns, columns-split, first-used}
 
 -- three fields one behind the other
-fields-printed : (a b c : List ℕ) → length a ≡ 6 → length b ≡ 4 → length c ≡ 6
+fields-printed : (a b c : List ℕ) → length a ≡ tareWidth → length b ≡ codeWidth → length c ≡ weighingWidth
     → columnsPrinted restPlaces 32 (a ++ (b ++ c))
     ≡ (found (readNumber a) && (found (readNumber b) && found (readNumber c)))
-fields-printed a b c six four last =
-    field-printed (places 2 ++ places 4) (b ++ c) (found (readNumber b) && found (readNumber c)) second 4 32 a six
+fields-printed a b c wide-tare wide-code wide-weighing =
+    field-printed (places (codeWidth - 2) ++ places (weighingWidth - 2)) (b ++ c) (found (readNumber b) && found (readNumber c)) second (tareWidth - 2) 32 a wide-tare
   where
-    third : (x : ℕ) → columnsPrinted (places 4) x c ≡ found (readNumber c)
-    third x = rw (append-nil c, and-true (found (readNumber c))) at (field-printed [] [] true (λ y. refl) 4 x c last)
+    third : (x : ℕ) → columnsPrinted (places (weighingWidth - 2)) x c ≡ found (readNumber c)
+    third x = rw (append-nil c, and-true (found (readNumber c))) at (field-printed [] [] true (λ y. refl) (weighingWidth - 2) x c wide-weighing)
 
-    second : (x : ℕ) → columnsPrinted (places 2 ++ places 4) x (b ++ c) ≡ (found (readNumber b) && found (readNumber c))
-    second x = field-printed (places 4) c (found (readNumber c)) third 2 x b four
+    second : (x : ℕ) → columnsPrinted (places (codeWidth - 2) ++ places (weighingWidth - 2)) x (b ++ c) ≡ (found (readNumber b) && found (readNumber c))
+    second x = field-printed (places (weighingWidth - 2)) c (found (readNumber c)) third (codeWidth - 2) x b wide-code
 
-module _ (s : List ℕ) (long : 26 ≤ length s) where
-  pub rest-printed : columnsPrinted restPlaces 32 (columns 10 16 s)
-      ≡ (found (readNumber (columns 10 6 s)) && (found (readNumber (columns 16 4 s)) && found (readNumber (columns 20 6 s))))
+module _ (s : List ℕ) (long : figuresWidth ≤ length s) where
+  pub rest-printed : columnsPrinted restPlaces 32 (columns tareStart restWidth s)
+      ≡ (found (readNumber (columns tareStart tareWidth s)) && (found (readNumber (columns codeStart codeWidth s)) && found (readNumber (columns weighingStart weighingWidth s))))
   rest-printed =
-      let cut : columns 10 16 s ≡ columns 10 6 s ++ (columns 16 4 s ++ columns 20 6 s) =
-      columns-split 10 6 10 s ∙ ap (λ (r : List ℕ). columns 10 6 s ++ r) (columns-split 16 4 6 s) in
+      let cut : columns tareStart restWidth s ≡ columns tareStart tareWidth s ++ (columns codeStart codeWidth s ++ columns weighingStart weighingWidth s) =
+      columns-split tareStart tareWidth (codeWidth + weighingWidth) s ∙ ap (λ (r : List ℕ). columns tareStart tareWidth s ++ r) (columns-split codeStart codeWidth weighingWidth s) in
       ap (columnsPrinted restPlaces 32) cut
-      ∙ fields-printed (columns 10 6 s) (columns 16 4 s) (columns 20 6 s)
-      (length-columns 10 6 s (omega arith)) (length-columns 16 4 s (omega arith)) (length-columns 20 6 s (omega arith))
+      ∙ fields-printed (columns tareStart tareWidth s) (columns codeStart codeWidth s) (columns weighingStart weighingWidth s)
+      (length-columns tareStart tareWidth s (omega arith)) (length-columns codeStart codeWidth s (omega arith)) (length-columns weighingStart weighingWidth s (omega arith))
 
 -- a number read within bounds was read
 read-found : (low high : ℕ) (f : List ℕ) {x : ℕ} → numberWithin low high f ≡ some x → found (readNumber f) ≡ true
@@ -66,45 +68,45 @@ all-within high w f wide room h =
     (read .0, within 0 high f (read .0) (read .1) (omega arith) (omega arith))
 
 -- the tare, its first column blank
-tare-within : (f : List ℕ) → length f ≡ 6 → getD f 0 0 ≡ 32 → found (readNumber f) ≡ true
-    → (x : ℕ) × (numberWithin 0 99999 f ≡ some x)
+tare-within : (f : List ℕ) → length f ≡ tareWidth → getD f 0 0 ≡ 32 → found (readNumber f) ≡ true
+    → (x : ℕ) × (numberWithin 0 tareMost f ≡ some x)
 tare-within f wide blank h =
     let read = found-some (readNumber f) h in
-    let behind : length (drop 1 f) ≡ 5 = rw (length-drop 1 f) (omega arith) in
-    let small : read .0 < 10 ^ 5 = rw behind at (print-of-read (drop 1 f) (sym (past-one f (omega arith) blank) ∙ read .1) .1) in
-    (read .0, within 0 99999 f (read .0) (read .1) (omega arith) (omega arith))
+    let behind : length (drop 1 f) ≡ tareWidth - 1 = rw (length-drop 1 f) (omega arith) in
+    let small : read .0 < 10 ^ (tareWidth - 1) = rw behind at (print-of-read (drop 1 f) (sym (past-one f (omega arith) blank) ∙ read .1) .1) in
+    (read .0, within 0 tareMost f (read .0) (read .1) (omega arith) (omega arith))
 
-module _ (m : ℕ) (s : List ℕ) (long : 26 ≤ length s) where
+module _ (m : ℕ) (s : List ℕ) (long : figuresWidth ≤ length s) where
   -- a line that was read tells of its columns
-  figures-printed : {l : Line} → readFigures m s ≡ some l → columnsPrinted restPlaces 32 (columns 10 16 s) ≡ true
+  figures-printed : {l : Line} → readFigures m s ≡ some l → columnsPrinted restPlaces 32 (columns tareStart restWidth s) ≡ true
   unfolding readFigures
   figures-printed h =
-      let first = then-found (numberWithin m 4294967295 (columns 0 10 s)) _ h in
-      let second = then-found (numberWithin 0 99999 (columns 10 6 s)) _ (first .2) in
-      let third = then-found (numberWithin 0 9999 (columns 16 4 s)) _ (second .2) in
-      let fourth = then-found (numberWithin 0 999999 (columns 20 6 s)) _ (third .2) in
+      let first = then-found (numberWithin m tagMost (columns tagStart tagWidth s)) _ h in
+      let second = then-found (numberWithin 0 tareMost (columns tareStart tareWidth s)) _ (first .2) in
+      let third = then-found (numberWithin 0 codeMost (columns codeStart codeWidth s)) _ (second .2) in
+      let fourth = then-found (numberWithin 0 weighingMost (columns weighingStart weighingWidth s)) _ (third .2) in
       rest-printed s long
-      ∙ rw (read-found 0 99999 _ (second .1), read-found 0 9999 _ (third .1), read-found 0 999999 _ (fourth .1))
+      ∙ rw (read-found 0 tareMost _ (second .1), read-found 0 codeMost _ (third .1), read-found 0 weighingMost _ (fourth .1))
 
-  pub rest-misprinted : columnsPrinted restPlaces 32 (columns 10 16 s) ≡ false → readFigures m s ≡ none
+  pub rest-misprinted : columnsPrinted restPlaces 32 (columns tareStart restWidth s) ≡ false → readFigures m s ≡ none
   rest-misprinted h = go (readFigures m s) refl
     where
       go : (o : Option Line) → readFigures m s ≡ o → readFigures m s ≡ none
       go none e = e
       go (some l) e = absurd (true≢false (sym (figures-printed e) ∙ h))
 
-  module _ (t : ℕ) (tag : numberWithin m 4294967295 (columns 0 10 s) ≡ some t) where
-    pub tare-too-long : (getD (columns 10 6 s) 0 0 ≡ 32 → ⊥) → readFigures m s ≡ none
+  module _ (t : ℕ) (tag : numberWithin m tagMost (columns tagStart tagWidth s) ≡ some t) where
+    pub tare-too-long : (getD (columns tareStart tareWidth s) 0 0 ≡ 32 → ⊥) → readFigures m s ≡ none
     unfolding readFigures
-    tare-too-long n = rw (tag, first-used 0 99999 4 (columns 10 6 s) (length-columns 10 6 s (omega arith)) (omega arith) n)
+    tare-too-long n = rw (tag, first-used 0 tareMost (tareWidth - 2) (columns tareStart tareWidth s) (length-columns tareStart tareWidth s (omega arith)) (omega arith) n)
 
-    pub tag-answered : getD (columns 10 6 s) 0 0 ≡ 32 → columnsPrinted restPlaces 32 (columns 10 16 s) ≡ true
+    pub tag-answered : getD (columns tareStart tareWidth s) 0 0 ≡ 32 → columnsPrinted restPlaces 32 (columns tareStart restWidth s) ≡ true
         → tagOrMisprint (readFigures m s) ≡ t
     unfolding readFigures
     tag-answered b h =
-        let told = both (found (readNumber (columns 10 6 s))) _ (sym (rest-printed s long) ∙ h) in
-        let two = both (found (readNumber (columns 16 4 s))) (found (readNumber (columns 20 6 s))) (told .1) in
-        let tare = tare-within (columns 10 6 s) (length-columns 10 6 s (omega arith)) b (told .0) in
-        let code = all-within 9999 4 (columns 16 4 s) (length-columns 16 4 s (omega arith)) (omega arith) (two .0) in
-        let weighing = all-within 999999 6 (columns 20 6 s) (length-columns 20 6 s (omega arith)) (omega arith) (two .1) in
+        let told = both (found (readNumber (columns tareStart tareWidth s))) _ (sym (rest-printed s long) ∙ h) in
+        let two = both (found (readNumber (columns codeStart codeWidth s))) (found (readNumber (columns weighingStart weighingWidth s))) (told .1) in
+        let tare = tare-within (columns tareStart tareWidth s) (length-columns tareStart tareWidth s (omega arith)) b (told .0) in
+        let code = all-within codeMost codeWidth (columns codeStart codeWidth s) (length-columns codeStart codeWidth s (omega arith)) (omega arith) (two .0) in
+        let weighing = all-within weighingMost weighingWidth (columns weighingStart weighingWidth s) (length-columns weighingStart weighingWidth s (omega arith)) (omega arith) (two .1) in
         rw (tag, tare .1, code .1, weighing .1)

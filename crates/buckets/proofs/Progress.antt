@@ -2,7 +2,7 @@
 -- Assumes nothing.
 use Prim.Native.Nat.{ℕ, suc, _+_, _-_, _*_, _<_, _≤_}
 use mathlib.Core.Path.{_≡_, refl, sym, ap, _∙_}
-use mathlib.Core.Bool.{true, false}
+use mathlib.Core.Bool.{Bool, true, false, not}
 use mathlib.Core.Option.{Option, none, some}
 use mathlib.Core.List.{List, [], _∷_, _++_, map, map-append, append-assoc, append-nil}
 use native.Mathlib.Omega.{arith}
@@ -10,8 +10,10 @@ use native.Mathlib.Nat.{zero-mul, suc-mul}
 use native.Mathlib.Numerals.{add-one}
 use lib.ListN.{length, take, drop, set, replicate, length-append, length-take, length-drop, length-map}
 use lib.Seq.{drop-drop, take-all, set-at}
+use borrow.Author.Tests.{not-true, not-false}
+use Rattle.columns.specs.PrintedNumbers.{allBlank}
 use Rattle.buckets.specs.Held.{filled}
-use Rattle.buckets.specs.Columns.{andThen, allBlank, readRun, readItems}
+use Rattle.buckets.specs.Columns.{andThen, readRun, readItems}
 
 -- ---- parts of a slice, as the code lends them
 
@@ -40,55 +42,67 @@ behind-more : {A : Type 0} (xs : List A) (a : A) (o : Option (List A))
 behind-more xs a none = refl
 behind-more xs a (some ys) = ap {B = Option (List _)} some (sym (append-assoc xs (a ∷ []) ys))
 
--- i items of c are read, xs, and leave m
-pub record SoFar {A : Type 0} (read : ℕ → List ℕ → Option A) (next : ℕ → A → ℕ) (w c : ℕ) (s : List ℕ) (m i : ℕ) (xs : List A) : Type 0 where
+-- i items of c are read and leave m; h holds them
+pub record ReadSoFar {A H : Type 0} (hold : Option (List A) → H) (read : ℕ → List ℕ → Option A) (next : ℕ → A → ℕ)
+    (w c : ℕ) (s : List ℕ) (h : H) (m i : ℕ) : Type 0 where
+  pub items : List A
   pub few : i ≤ c
-  pub count : length xs ≡ i
-  pub left : readRun read next w 0 c s ≡ behind xs (readRun read next w m (c - i) (drop (i * w) s))
+  pub count : length items ≡ i
+  pub left : readRun read next w 0 c s ≡ behind items (readRun read next w m (c - i) (drop (i * w) s))
+  pub held : h ≡ hold (some items)
 
-module _ {A : Type 0} (read : ℕ → List ℕ → Option A) (next : ℕ → A → ℕ) (w c : ℕ) (s : List ℕ) where
-  pub nothing-yet : SoFar read next w c s 0 0 []
-  nothing-yet =
+module _ {A H : Type 0} (hold : Option (List A) → H) (read : ℕ → List ℕ → Option A) (next : ℕ → A → ℕ)
+    (w c : ℕ) (s : List ℕ) where
+  pub nothing-yet : {h : H} → h ≡ hold (some []) → ReadSoFar hold read next w c s h 0 0
+  nothing-yet e =
       let all : c - 0 ≡ c = omega arith in
       record {
+        items = [];
         few = omega arith;
         count = refl;
         left = rw (all, zero-mul w) (sym (behind-nil (readRun read next w 0 c s)));
+        held = e;
       }
 
-  pub one-more : (m i : ℕ) (xs : List A) (a : A) → SoFar read next w c s m i xs → i < c
-      → read m (take (i * w + w - i * w) (drop (i * w) s)) ≡ some a → SoFar read next w c s (next m a) (i + 1) (xs ++ a ∷ [])
-  one-more m i xs a so h e =
-      let rest : c - i ≡ suc (c - (i + 1)) = omega arith in
-      let on : i * w + w ≡ (i + 1) * w = sym (rw add-one (suc-mul i w)) in
-      record {
-        few = omega arith;
-        count = simp length-append (omega (arith, so .count));
-        left =
-            so .left
-            ∙ rw (rest, ← part-at (i * w) w s, e, drop-drop w (i * w) s, on)
-            (behind-more xs a (readRun read next w (next m a) (c - (i + 1)) (drop ((i + 1) * w) s)));
-      }
+  module _ {h : H} {m i : ℕ} (so : ReadSoFar hold read next w c s h m i) where
+    pub one-more : i < c → {a : A} → read m (take (i * w + w - i * w) (drop (i * w) s)) ≡ some a
+        → {h′ : H} → ((xs : List A) → length xs ≡ i → h ≡ hold (some xs) → h′ ≡ hold (some (xs ++ a ∷ [])))
+        → ReadSoFar hold read next w c s h′ (next m a) (i + 1)
+    one-more l {a} e more =
+        let rest : c - i ≡ suc (c - (i + 1)) = omega arith in
+        let on : i * w + w ≡ (i + 1) * w = sym (rw add-one (suc-mul i w)) in
+        record {
+          items = so .items ++ a ∷ [];
+          few = omega arith;
+          count = simp length-append (omega (arith, so .count));
+          left =
+              so .left
+              ∙ rw (rest, ← part-at (i * w) w s, e, drop-drop w (i * w) s, on)
+              (behind-more (so .items) a (readRun read next w (next m a) (c - (i + 1)) (drop ((i + 1) * w) s)));
+          held = more (so .items) (so .count) (so .held);
+        }
 
-  pub stopped : (m i : ℕ) (xs : List A) → SoFar read next w c s m i xs → i < c
-      → read m (take (i * w + w - i * w) (drop (i * w) s)) ≡ none → readRun read next w 0 c s ≡ none
-  stopped m i xs so h e =
-      let rest : c - i ≡ suc (c - (i + 1)) = omega arith in
-      so .left ∙ rw (rest, ← part-at (i * w) w s, e)
+  -- the columns behind the items were tested: r tells whether they are blank
+  module _ {r : Bool} (test : r ≡ allBlank (take (length s - c * w) (drop (c * w) s))) where
+    pub not-blank-behind : not r ≡ true → hold none ≡ hold (readItems read next w c s)
+    unfolding readItems
+    not-blank-behind n = ap hold (sym (rw (← part-rest (c * w) s, sym test ∙ not-true r n)))
 
-  pub all-done : (m i : ℕ) (xs : List A) → SoFar read next w c s m i xs → c ≤ i → readRun read next w 0 c s ≡ some xs
-  all-done m i xs so h =
-      let none-left : c - i ≡ 0 = omega arith in
-      so .left ∙ rw none-left (ap {B = Option (List A)} some (append-nil xs))
+    module _ (n : not r ≡ false) {h : H} {m i : ℕ} (so : ReadSoFar hold read next w c s h m i) where
+      whole : readItems read next w c s ≡ behind (so .items) (readRun read next w m (c - i) (drop (i * w) s))
+      unfolding readItems
+      whole = rw (← part-rest (c * w) s, sym test ∙ not-false r n) (so .left)
 
-  pub not-blank-behind : allBlank (take (length s - c * w) (drop (c * w) s)) ≡ false → readItems read next w c s ≡ none
-  unfolding readItems
-  not-blank-behind e = rw (← part-rest (c * w) s, e)
+      pub item-misprinted : i < c → read m (take (i * w + w - i * w) (drop (i * w) s)) ≡ none
+          → hold none ≡ hold (readItems read next w c s)
+      item-misprinted l e =
+          let rest : c - i ≡ suc (c - (i + 1)) = omega arith in
+          ap hold (sym (whole ∙ rw (rest, ← part-at (i * w) w s, e)))
 
-  pub blank-behind : allBlank (take (length s - c * w) (drop (c * w) s)) ≡ true
-      → readItems read next w c s ≡ readRun read next w 0 c s
-  unfolding readItems
-  blank-behind e = rw (← part-rest (c * w) s, e)
+      pub all-held : c ≤ i → h ≡ hold (readItems read next w c s)
+      all-held l =
+          let none-left : c - i ≡ 0 = omega arith in
+          so .held ∙ ap hold (sym (whole ∙ rw none-left (ap {B = Option (List A)} some (append-nil (so .items)))))
 
 -- ---- the array
 
@@ -101,8 +115,10 @@ filled-next w xs v i e h =
     ∙ set-at xs 0 (replicate rest 0) v i e
     ∙ sym (append-assoc xs (v ∷ []) (replicate rest 0))
 
--- one more item in the array
-pub filled-more : {A : Type 0} (f : A → ℕ) (w : ℕ) (xs : List A) (a : A) (i : ℕ) → length xs ≡ i → i < w
-    → set (filled w (map f xs)) i (f a) ≡ filled w (map f (xs ++ a ∷ []))
-filled-more f w xs a i e h =
-    filled-next w (map f xs) (f a) i (length-map xs f ∙ e) h ∙ ap (filled w) (sym (map-append f xs (a ∷ [])))
+-- one more item in the array t
+pub filled-more : {A : Type 0} (f : A → ℕ) (w : ℕ) (xs : List A) (a : A) {i : ℕ} {t : List ℕ} → t ≡ filled w (map f xs)
+    → length xs ≡ i → i < w → set t i (f a) ≡ filled w (map f (xs ++ a ∷ []))
+filled-more f w xs a {i} {t} is e h =
+    ap (λ (ts : List ℕ). set ts i (f a)) is
+    ∙ filled-next w (map f xs) (f a) i (length-map xs f ∙ e) h
+    ∙ ap (filled w) (sym (map-append f xs (a ∷ [])))

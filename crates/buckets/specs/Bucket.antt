@@ -1,7 +1,7 @@
 -- Document 01, "A bucket".
 -- Assumes nothing.
-use Prim.Native.Nat.{ℕ, zero, suc, _+_, _-_, _*_}
-use mathlib.Core.Bool.{Bool, true, false, _&&_, not}
+use Prim.Native.Nat.{ℕ, _+_}
+use mathlib.Core.Bool.{Bool, true, false, _&&_}
 use mathlib.Core.Option.{Option, none, some}
 use mathlib.Core.List.{List, [], _∷_, _++_, map}
 use lib.Dec.{leb, ltb, eqb}
@@ -9,7 +9,12 @@ use lib.ListN.{length, take, drop, getD}
 use Rattle.columns.specs.Lists.{pick, joined, every, parts, same, strict, padded}
 use Rattle.columns.specs.PrintedNumbers.{print, blanks, value}
 use Rattle.buckets.specs.declared.Line.{Line}
-use Rattle.buckets.specs.ListLine.{tagFits, fits, figures, spelled}
+use Rattle.buckets.specs.ListLine.{tagFits, fits, figures, spelledFigures}
+use Rattle.buckets.specs.Lengths.{newline, letterIndex, letterData, tagWidth, tagStart, figuresWidth, placeWidth}
+use Rattle.buckets.specs.Lengths.{positionStart, toCycleStart, toSegmentStart, followOnStart, letterColumn, countWidth}
+use Rattle.buckets.specs.Lengths.{pairCountStart, itemCountStart, pairsMost, entriesMost, bucketLinesMost, distanceStart}
+use Rattle.buckets.specs.Lengths.{entryWidth, pairsStart, pairsWidth, entriesStart, entriesWidth, linesStart, linesWidth}
+use Rattle.buckets.specs.Lengths.{bucketsMost}
 
 -- a control pair: its tag, none if blank, and its distance
 pub record Pair : Type 0 where
@@ -46,8 +51,8 @@ followOn (dataBody f ls) = f
 
 -- "Column 24: letter I (index) or D (data)."
 abbrev pub letter : Body → ℕ
-letter (indexBody ps es) = 73
-letter (dataBody f ls) = 68
+letter (indexBody ps es) = letterIndex
+letter (dataBody f ls) = letterData
 
 -- "25-26: number of control pairs"; a data bucket has "No control pairs"
 abbrev pub pairCount : Body → ℕ
@@ -60,37 +65,42 @@ itemCount (indexBody ps es) = length es
 itemCount (dataBody f ls) = length ls
 
 -- "Columns 0-5: position in the cycle. 6-11: distance to the next cycle's start. 12-17: distance to the next index
--- segment's start. 18-23: follow-on." and columns 24 to 28
+-- segment's start. 18-23: follow-on." and columns 24 to 28: the head of these seven values
+abbrev pub headColumns : (position toCycle toSegment follow kind pairs items : ℕ) → List ℕ
+headColumns position toCycle toSegment follow kind pairs items =
+    print placeWidth position ++
+    (print placeWidth toCycle ++
+    (print placeWidth toSegment ++
+    (print placeWidth follow ++
+    (kind ∷
+    (print countWidth pairs ++ print countWidth items)))))
+
 unfoldable pub printHead : Bucket → List ℕ
 printHead b =
-    print 6 (b .position) ++
-    (print 6 (b .toCycle) ++
-    (print 6 (b .toSegment) ++
-    (print 6 (followOn (b .body)) ++
-    (letter (b .body) ∷
-    (print 2 (pairCount (b .body)) ++ print 2 (itemCount (b .body)))))))
+    headColumns (b .position) (b .toCycle) (b .toSegment)
+    (followOn (b .body)) (letter (b .body)) (pairCount (b .body)) (itemCount (b .body))
 
 -- the tag columns of a pair, which may be blank
 abbrev pub printTag : Option ℕ → List ℕ
-printTag none = blanks 10
-printTag (some t) = print 10 t
+printTag none = blanks tagWidth
+printTag (some t) = print tagWidth t
 
 -- "each a tag (10 ..) and a distance (6)"
 unfoldable pub printPair : Pair → List ℕ
-printPair p = printTag (p .tag) ++ print 6 (p .distance)
+printPair p = printTag (p .tag) ++ print placeWidth (p .distance)
 
 unfoldable pub printEntry : Entry → List ℕ
-printEntry e = print 10 (e .tag) ++ print 6 (e .distance)
+printEntry e = print tagWidth (e .tag) ++ print placeWidth (e .distance)
 
 -- "Index: control pairs from column 29, entries from column 93" "Data: lines without newline, 26 columns each, from
 -- column 29.", "unused columns blank"
 abbrev pub printBody : Body → List ℕ
-printBody (indexBody ps es) = padded 64 (joined printPair ps) ++ padded 146 (joined printEntry es)
-printBody (dataBody f ls) = padded 210 (joined figures ls)
+printBody (indexBody ps es) = padded pairsWidth (joined printPair ps) ++ padded entriesWidth (joined printEntry es)
+printBody (dataBody f ls) = padded linesWidth (joined figures ls)
 
 -- "240 bytes, byte 239 a newline"
 unfoldable pub printBucket : Bucket → List ℕ
-printBucket b = printHead b ++ (printBody (b .body) ++ 10 ∷ [])
+printBucket b = printHead b ++ (printBody (b .body) ++ newline ∷ [])
 
 -- ---- the rules
 
@@ -127,21 +137,21 @@ rising m (t ∷ ts) = leb m t && rising t ts
 -- follow-on "is below the distance to the next cycle" (c)
 abbrev pub bodyGood : ℕ → ℕ → Body → Bool
 bodyGood n c (indexBody ps es) =
-    leb (length ps) 4 &&
-    (leb (length es) 8 &&
+    leb (length ps) pairsMost &&
+    (leb (length es) entriesMost &&
     (every (pairFits n) ps &&
     (laterPrinted ps &&
     (every (entryFits n) es && rising 0 (map (λ e. e .tag) es)))))
 bodyGood n c (dataBody f ls) =
     leb 1 (length ls) &&
-    (leb (length ls) 8 &&
+    (leb (length ls) bucketLinesMost &&
     (every fits ls &&
     (rising 0 (map (λ l. l .tag) ls) && ltb f c)))
 
 -- "N, at most 99,999"; both distances of the head 1 to N
 unfoldable pub good : Bucket → Bool
 good b =
-    leb (cycleLength b) 99999 &&
+    leb (cycleLength b) bucketsMost &&
     (leb 1 (b .toCycle) &&
     (reaches (cycleLength b) (b .toSegment) && bodyGood (cycleLength b) (b .toCycle) (b .body)))
 
@@ -156,22 +166,37 @@ unfoldable pub field : ℕ → ℕ → List ℕ → ℕ
 field k w s = value 0 (columns k w s)
 
 unfoldable pub spelledPair : List ℕ → Pair
-spelledPair s = record { tag = pick (same (take 10 s) (blanks 10)) none (some (field 0 10 s)); distance = field 10 6 s }
+spelledPair s =
+    record {
+      tag = pick (same (take tagWidth s) (blanks tagWidth)) none (some (field tagStart tagWidth s));
+      distance = field distanceStart placeWidth s;
+    }
 
 unfoldable pub spelledEntry : List ℕ → Entry
-spelledEntry s = record { tag = field 0 10 s; distance = field 10 6 s }
+spelledEntry s = record { tag = field tagStart tagWidth s; distance = field distanceStart placeWidth s }
+
+-- a line of a data bucket
+abbrev pub spelledLine : List ℕ → Line
+spelledLine s = spelledFigures s
 
 -- what stands behind the head, by the letter
 unfoldable pub spelledBody : List ℕ → Body
 spelledBody s =
-    pick (eqb (getD s 24 0) 73)
+    pick (eqb (getD s letterColumn 0) letterIndex)
     (indexBody
-    (map spelledPair (parts (field 25 2 s) 16 (columns 29 64 s)))
-    (map spelledEntry (parts (field 27 2 s) 16 (columns 93 146 s))))
-    (dataBody (field 18 6 s) (map spelled (parts (field 27 2 s) 26 (columns 29 210 s))))
+    (map spelledPair (parts (field pairCountStart countWidth s) entryWidth (columns pairsStart pairsWidth s)))
+    (map spelledEntry (parts (field itemCountStart countWidth s) entryWidth (columns entriesStart entriesWidth s))))
+    (dataBody (field followOnStart placeWidth s)
+    (map spelledLine (parts (field itemCountStart countWidth s) figuresWidth (columns linesStart linesWidth s))))
 
 unfoldable pub spelledBucket : List ℕ → Bucket
-spelledBucket s = record { position = field 0 6 s; toCycle = field 6 6 s; toSegment = field 12 6 s; body = spelledBody s }
+spelledBucket s =
+    record {
+      position = field positionStart placeWidth s;
+      toCycle = field toCycleStart placeWidth s;
+      toSegment = field toSegmentStart placeWidth s;
+      body = spelledBody s;
+    }
 
 -- "A single bucket is misprinted exactly if it breaks a rule of this section or of "Printed numbers" that its own 240
 -- bytes can show": none where it is misprinted, also where it is not 240 bytes

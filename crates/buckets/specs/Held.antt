@@ -1,22 +1,23 @@
 -- How the code holds what "A list line" and "A bucket" describe: its structs and enums against those definitions.
 -- Assumes nothing.
 use mathlib.Core.Path.{_≡_}
-use Prim.Native.Nat.{ℕ, zero, suc, _+_, _-_, _≤_, _<_}
+use Prim.Native.Nat.{ℕ, _+_, _-_, _*_}
 use mathlib.Core.Bool.{Bool, true, false}
 use mathlib.Core.Option.{Option, none, some}
 use mathlib.Core.List.{List, [], _∷_, _++_, map}
-use lib.ListN.{length, take, drop, getD, replicate}
+use lib.ListN.{length, take, drop, replicate}
 use Rattle.columns.specs.Lists.{pick, joined, padded}
-use Rattle.columns.specs.PrintedNumbers.{print}
+use Rattle.columns.specs.PrintedNumbers.{blanks}
 use Rattle.buckets.specs.declared.Line.{Line}
 use Rattle.buckets.specs.declared.LineRead.{LineRead}
 use Rattle.buckets.specs.declared.LineRead.the-variants.{Read, Misprinted as LineMisprinted}
 use Rattle.buckets.specs.declared.Head.{Head}
 use Rattle.buckets.specs.declared.Index.{Index}
-use Rattle.buckets.specs.declared.Kind.{Kind}
 use Rattle.buckets.specs.declared.Kind.the-variants.{Index as KindIndex, Data as KindData, Misprinted as KindMisprinted}
 use Rattle.buckets.specs.declared.Reading.{Reading}
-use Rattle.buckets.specs.Bucket.{Pair, Entry, Body, indexBody, dataBody, Bucket, printPair}
+use Rattle.buckets.specs.Bucket.{Pair, Entry, Body, indexBody, dataBody, Bucket, headColumns, printPair}
+use Rattle.buckets.specs.Lengths.{letterIndex, placeWidth, distanceStart, entryWidth, pairsWidth, entriesStart}
+use Rattle.buckets.specs.Lengths.{pairsMost, entriesMost, bucketLinesMost}
 
 -- a strict reading of a list line as the code answers it
 abbrev pub asLineRead : Option Line → LineRead
@@ -50,19 +51,6 @@ indexOf x =
     (pairsOf (x .blank) (take (x .pairs) (entriesOf (x .«pair_tags») (x .«pair_distances»))))
     (take (x .entries) (entriesOf (x .«entry_tags») (x .«entry_distances»)))
 
--- an index bucket with these entries
-unfoldable pub entered : Index → ℕ → List ℕ → List ℕ → Index
-entered x count tags distances =
-    record {
-      pairs = x .pairs;
-      blank = x .blank;
-      «pair_tags» = x .«pair_tags»;
-      «pair_distances» = x .«pair_distances»;
-      entries = count;
-      «entry_tags» = tags;
-      «entry_distances» = distances;
-    }
-
 unfoldable pub bucketWith : Head → Body → Bucket
 bucketWith h b = record { position = h .position; toCycle = h .«to_cycle»; toSegment = h .«to_segment»; body = b }
 
@@ -89,11 +77,11 @@ heldIndex ps es =
     record {
       pairs = length ps;
       blank = firstBlank ps;
-      «pair_tags» = filled 4 (map (λ p. tagOr0 (p .tag)) ps);
-      «pair_distances» = filled 4 (map (λ p. p .distance) ps);
+      «pair_tags» = filled pairsMost (map (λ p. tagOr0 (p .tag)) ps);
+      «pair_distances» = filled pairsMost (map (λ p. p .distance) ps);
       entries = length es;
-      «entry_tags» = filled 8 (map (λ e. e .tag) es);
-      «entry_distances» = filled 8 (map (λ e. e .distance) es);
+      «entry_tags» = filled entriesMost (map (λ e. e .tag) es);
+      «entry_distances» = filled entriesMost (map (λ e. e .distance) es);
     }
 
 unfoldable pub headOf : Bucket → Head
@@ -105,7 +93,7 @@ noHead = record { position = 0; «to_cycle» = 0; «to_segment» = 0 }
 abbrev pub heldBody : Head → Body → Reading
 heldBody h (indexBody ps es) =
     record
-    { kind = KindIndex; head = h; «follow_on» = 0; index = heldIndex ps es; lines = 0; tags = replicate 8 0 }
+    { kind = KindIndex; head = h; «follow_on» = 0; index = heldIndex ps es; lines = 0; tags = replicate bucketLinesMost 0 }
 heldBody h (dataBody f ls) =
     record {
       kind = KindData;
@@ -113,7 +101,7 @@ heldBody h (dataBody f ls) =
       «follow_on» = f;
       index = heldIndex [] [];
       lines = length ls;
-      tags = filled 8 (map (λ l. l .tag) ls);
+      tags = filled bucketLinesMost (map (λ l. l .tag) ls);
     }
 
 -- a strict reading of a bucket as the code answers it
@@ -125,7 +113,7 @@ asReading none =
       «follow_on» = 0;
       index = heldIndex [] [];
       lines = 0;
-      tags = replicate 8 0;
+      tags = replicate bucketLinesMost 0;
     }
 asReading (some b) = heldBody (headOf b) (b .body)
 
@@ -134,23 +122,13 @@ asReading (some b) = heldBody (headOf b) (b .body)
 -- the columns before its entries, of which there are `count`
 unfoldable pub indexFront : Head → List Pair → ℕ → List ℕ
 indexFront h ps count =
-    (print 6 (h .position) ++
-    (print 6 (h .«to_cycle») ++ (print 6 (h .«to_segment») ++ (print 6 0 ++ (73 ∷ (print 2 (length ps) ++ print 2 count))))))
-    ++ padded 64 (joined printPair ps)
+    headColumns (h .position) (h .«to_cycle») (h .«to_segment») 0 letterIndex (length ps) count
+    ++ padded pairsWidth (joined printPair ps)
 
--- ten columns of a text from each of the first `count` places on, and as many distances
-pub record Standing (text : List ℕ) (count : ℕ) (places distances : List ℕ) : Type 0 where
-  pub enough-places : count ≤ length places
-  pub enough-distances : count ≤ length distances
-  pub within : (i : ℕ) → i < count → getD places i 0 + 10 ≤ length text
+-- the column where entry i starts
+abbrev pub entryStart : ℕ → ℕ
+entryStart i = entriesStart + i * entryWidth
 
--- those columns are the printed tags
-pub record Tagged (text : List ℕ) (count : ℕ) (places tags : List ℕ) : Type 0 where
-  pub enough : count ≤ length tags
-  pub printed : (i : ℕ) → i < count → take 10 (drop (getD places i 0) text) ≡ print 10 (getD tags i 0)
-
--- the first entries, each tag copied from its place in a text
-abbrev pub copiedTo : List ℕ → List ℕ → List ℕ → ℕ → List ℕ
-copiedTo text places distances zero = []
-copiedTo text places distances (suc i) =
-    copiedTo text places distances i ++ (take 10 (drop (getD places i 0) text) ++ print 6 (getD distances i 0))
+-- the columns of its distance are blank
+abbrev pub EntryBlank : List ℕ → ℕ → Type 0
+EntryBlank bucket i = take placeWidth (drop (entryStart i + distanceStart) bucket) ≡ blanks placeWidth

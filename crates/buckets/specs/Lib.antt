@@ -1,6 +1,8 @@
 -- The definitions that the contracts of this crate and of the crates above it cite.
+pub mod Lengths
 pub mod ListLine
 pub mod Bucket
+pub mod BucketLines
 pub mod Held
 pub mod Columns
 pub mod Read

@@ -1,40 +1,57 @@
 -- Document 01, "A list line", and the conditions 2, 3 and 4 of "Refused inputs".
 -- Assumes nothing.
-use Prim.Native.Nat.{ℕ, zero, suc, _+_, _*_, _/_, _%_}
-use mathlib.Core.Bool.{Bool, true, false, _&&_, not}
+use Prim.Native.Nat.{ℕ, suc, _/_, _%_}
+use mathlib.Core.Bool.{Bool, true, false, _&&_}
 use mathlib.Core.Option.{Option, none, some}
 use mathlib.Core.List.{List, [], _∷_, _++_, map}
-use lib.Dec.{leb, ltb, eqb}
+use lib.Dec.{leb, eqb}
 use lib.ListN.{length, take, drop}
-use Rattle.columns.specs.Lists.{pick, parts, strict}
+use Rattle.columns.specs.Lists.{pick, joined, parts, strict}
 use Rattle.columns.specs.PrintedNumbers.{print, value}
 use Rattle.buckets.specs.declared.Line.{Line}
+use Rattle.buckets.specs.Lengths.{newline, tagWidth, tareWidth, codeWidth, weighingWidth, tareStart, codeStart}
+use Rattle.buckets.specs.Lengths.{weighingStart, figuresWidth, lineLength, tagMost, tareMost, codeMost, weighingMost}
+use Rattle.buckets.specs.Lengths.{linesMost}
 
 -- "tag 0 to 4,294,967,295"
 unfoldable pub tagFits : ℕ → Bool
-tagFits x = leb x 4294967295
+tagFits x = leb x tagMost
 
 -- ".., tare in kg 0 to 99,999, material code 0 to 9,999, weighing number 0 to 999,999"
 unfoldable pub fits : Line → Bool
-fits l = tagFits (l .tag) && (leb (l .tare) 99999 && (leb (l .code) 9999 && leb (l .weighing) 999999))
+fits l = tagFits (l .tag) && (leb (l .tare) tareMost && (leb (l .code) codeMost && leb (l .weighing) weighingMost))
 
 -- a line without its newline, 26 columns: "tag (10 columns), tare (6), material code (4), weighing number (6)"
 unfoldable pub figures : Line → List ℕ
-figures l = print 10 (l .tag) ++ (print 6 (l .tare) ++ (print 4 (l .code) ++ print 6 (l .weighing)))
+figures l =
+    print tagWidth (l .tag) ++
+    (print tareWidth (l .tare) ++ (print codeWidth (l .code) ++ print weighingWidth (l .weighing)))
 
 -- "27 bytes: .., newline (byte 10)"
 unfoldable pub printLine : Line → List ℕ
-printLine l = figures l ++ 10 ∷ []
+printLine l = figures l ++ newline ∷ []
 
--- the numbers that 26 columns spell
-unfoldable pub spelled : List ℕ → Line
-spelled s =
+-- a line whose columns stand at the front of s, as a list line
+abbrev pub endedLine : List ℕ → List ℕ
+endedLine s = take figuresWidth s ++ newline ∷ []
+
+-- lines whose columns stand side by side from the front of s on, c of them, as list lines
+unfoldable pub endedLines : ℕ → List ℕ → List ℕ
+endedLines c s = joined (λ p. p ++ newline ∷ []) (parts c figuresWidth s)
+
+-- the numbers that a line's columns spell
+abbrev pub spelledFigures : List ℕ → Line
+spelledFigures s =
     record {
-      tag = value 0 (take 10 s);
-      tare = value 0 (take 6 (drop 10 s));
-      code = value 0 (take 4 (drop 16 s));
-      weighing = value 0 (take 6 (drop 20 s));
+      tag = value 0 (take tagWidth s);
+      tare = value 0 (take tareWidth (drop tareStart s));
+      code = value 0 (take codeWidth (drop codeStart s));
+      weighing = value 0 (take weighingWidth (drop weighingStart s));
     }
+
+-- those of a list line
+unfoldable pub spelled : List ℕ → Line
+spelled s = spelledFigures s
 
 -- a list line read strictly
 unfoldable pub readLine : List ℕ → Option Line
@@ -42,7 +59,7 @@ readLine s = strict spelled fits printLine s
 
 -- a list's lines as bytes, 27 each
 unfoldable pub cutLines : List ℕ → List (List ℕ)
-cutLines s = parts (length s / 27) 27 s
+cutLines s = parts (length s / lineLength) lineLength s
 
 -- a list's lines as numbers
 unfoldable pub listLines : List ℕ → List Line
@@ -50,7 +67,7 @@ listLines s = map spelled (cutLines s)
 
 -- 2: "list length no multiple of 27, or over 40,000 lines" does not hold
 unfoldable pub wholeLines : ℕ → Bool
-wholeLines c = eqb (c % 27) 0 && leb (c / 27) 40000
+wholeLines c = eqb (c % lineLength) 0 && leb (c / lineLength) linesMost
 
 -- whether a strict reading took what it was given
 abbrev pub taken {ℓ} : {A : Type ℓ} → Option A → Bool

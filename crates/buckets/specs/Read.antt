@@ -19,6 +19,7 @@ use Rattle.buckets.specs.declared.reader.Entries.{Entries}
 use Rattle.buckets.specs.declared.reader.Tags.{Tags}
 use Rattle.buckets.specs.Bucket.{Pair, Entry}
 use Rattle.buckets.specs.Held.{filled, tagOr0, firstBlank}
+use Rattle.buckets.specs.Lengths.{pairsMost, entriesMost, bucketLinesMost}
 
 abbrev pub asEntryRead : Option Entry → EntryRead
 asEntryRead none = EntryMisprinted
@@ -34,23 +35,27 @@ asPairRead (some p) =
     record { good = true; blank = firstBlank (p ∷ []); tag = tagOr0 (p .tag); distance = p .distance }
 
 abbrev pub heldPairs : Option (List Pair) → Pairs
-heldPairs none = record { good = false; blank = false; tags = replicate 4 0; distances = replicate 4 0 }
+heldPairs none = record { good = false; blank = false; tags = replicate pairsMost 0; distances = replicate pairsMost 0 }
 heldPairs (some ps) =
     record {
       good = true;
       blank = firstBlank ps;
-      tags = filled 4 (map (λ p. tagOr0 (p .tag)) ps);
-      distances = filled 4 (map (λ p. p .distance) ps);
+      tags = filled pairsMost (map (λ p. tagOr0 (p .tag)) ps);
+      distances = filled pairsMost (map (λ p. p .distance) ps);
     }
 
 abbrev pub heldEntries : Option (List Entry) → Entries
-heldEntries none = record { good = false; tags = replicate 8 0; distances = replicate 8 0 }
+heldEntries none = record { good = false; tags = replicate entriesMost 0; distances = replicate entriesMost 0 }
 heldEntries (some es) =
-    record { good = true; tags = filled 8 (map (λ e. e .tag) es); distances = filled 8 (map (λ e. e .distance) es) }
+    record {
+      good = true;
+      tags = filled entriesMost (map (λ e. e .tag) es);
+      distances = filled entriesMost (map (λ e. e .distance) es);
+    }
 
 abbrev pub heldTags : Option (List Line) → Tags
-heldTags none = record { good = false; tags = replicate 8 0 }
-heldTags (some ls) = record { good = true; tags = filled 8 (map (λ l. l .tag) ls) }
+heldTags none = record { good = false; tags = replicate bucketLinesMost 0 }
+heldTags (some ls) = record { good = true; tags = filled bucketLinesMost (map (λ l. l .tag) ls) }
 
 -- an index bucket of k pairs, held as p, and c entries, held as e
 unfoldable pub indexReading : Head → ℕ → Pairs → ℕ → Entries → Reading
@@ -70,5 +75,5 @@ indexReading h k p c e =
             «entry_distances» = e .distances;
           };
       lines = 0;
-      tags = replicate 8 0;
+      tags = replicate bucketLinesMost 0;
     }

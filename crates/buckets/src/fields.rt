@@ -1,4 +1,4 @@
-// What fields are read with: a number within bounds, and blank columns.
+// What fields are read with: a number within bounds.
 use super::BLANK;
 use columns;
 use columns::MISPRINT;
@@ -8,11 +8,13 @@ ghost use Prim.Native.Nat.{ℕ, _≤_};
 ghost use mathlib.Core.List.{List};
 ghost use lib.ListN.{length};
 ghost use Rattle.columns.specs.PrintedNumbers.{readNumber, asNumber, orMisprint};
-ghost use Rattle.buckets.specs.Columns.{numberWithin, allBlank};
+ghost use Rattle.buckets.specs.Lengths.{codeWidth, placeWidth, countWidth};
+ghost use Rattle.buckets.specs.Columns.{numberWithin};
 
 // x, which is the number that was read or MISPRINT, if it is from low to high.
 fn within(x: u64, low: u64, high: u64) -> Number
-    ensures { λ r. ⌜ ((s : List ℕ) → length s ≤ 10 → x ≡ orMisprint (readNumber s) → r ≡ asNumber (numberWithin low high s)) ⌝ }
+    ensures { λ r.
+        ⌜ ((s : List ℕ) → length s ≤ placeWidth → x ≡ orMisprint (readNumber s) → r ≡ asNumber (numberWithin low high s)) ⌝ }
 {
     if x == MISPRINT {
         return Number::Misprinted;
@@ -28,7 +30,7 @@ fn within(x: u64, low: u64, high: u64) -> Number
 
 // The number in six columns, if it is from low to high.
 pub fn six_within(part: &[u8], low: u64, high: u64) -> Number
-    requires { ⌜ length (now part) ≡ 6 ⌝ }
+    requires { ⌜ length (now part) ≡ placeWidth ⌝ }
     ensures { λ r. ⌜ r ≡ asNumber (numberWithin low high (now (part .entry))) ⌝ }
 {
     within(columns::read_six(part), low, high)
@@ -36,7 +38,7 @@ pub fn six_within(part: &[u8], low: u64, high: u64) -> Number
 
 // The same of four columns.
 pub fn four_within(part: &[u8], low: u64, high: u64) -> Number
-    requires { ⌜ length (now part) ≡ 4 ⌝ }
+    requires { ⌜ length (now part) ≡ codeWidth ⌝ }
     ensures { λ r. ⌜ r ≡ asNumber (numberWithin low high (now (part .entry))) ⌝ }
 {
     within(columns::read_four(part), low, high)
@@ -44,24 +46,11 @@ pub fn four_within(part: &[u8], low: u64, high: u64) -> Number
 
 // The same of two columns. A number of one digit leaves the first one blank.
 pub fn digit_within(part: &[u8], low: u64, high: u64) -> Number
-    requires { ⌜ (length (now part) ≡ 2) × (high ≤ 9) ⌝ }
+    requires { ⌜ (length (now part) ≡ countWidth) × (high ≤ 9) ⌝ }
     ensures { λ r. ⌜ r ≡ asNumber (numberWithin low high (now (part .entry))) ⌝ }
 {
     if part[0] != BLANK {
         return Number::Misprinted;
     }
     within(columns::read_digit(part[1]), low, high)
-}
-
-// Whether every column of part is blank. It looks at each of them, so that many are tested at once.
-pub fn all_blank(part: &[u8]) -> bool
-    ensures { λ r. ⌜ r ≡ allBlank (now (part .entry)) ⌝ }
-{
-    let mut blank = true;
-    let mut i = 0;
-    while i < part.len() {
-        blank = columns::still_blank(blank, part[i]);
-        i += 1;
-    }
-    blank
 }

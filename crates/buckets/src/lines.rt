@@ -1,13 +1,8 @@
 // A list line, read and written.
 use super::BLANK;
-use super::CODE;
-use super::FIGURES;
-use super::LINE;
 use super::Line;
 use super::LineRead;
 use super::NEWLINE;
-use super::TARE;
-use super::WEIGHING;
 use super::fields;
 use columns;
 use columns::BETWEEN;
@@ -16,15 +11,19 @@ use columns::LAST;
 use columns::MISPRINT;
 use columns::Number;
 ghost use mathlib.Core.Path.{_≡_};
-ghost use Prim.Native.Nat.{_≤_};
-ghost use lib.ListN.{length};
+ghost use Prim.Native.Nat.{_+_, _*_, _≤_};
+ghost use lib.ListN.{length, take, drop};
+ghost use Rattle.columns.specs.Lists.{put};
+ghost use Rattle.columns.specs.PrintedNumbers.{value};
 ghost use Rattle.columns.specs.Places.{columnsPrinted};
-ghost use Rattle.buckets.specs.ListLine.{figures, printLine, readLine};
+ghost use Rattle.buckets.specs.Lengths.{tagWidth, figuresWidth, restWidth, lineLength};
+ghost use Rattle.buckets.specs.ListLine.{figures, printLine, endedLine, endedLines, readLine};
+ghost use Rattle.buckets.specs.Bucket.{spelledLine};
 ghost use Rattle.buckets.specs.Held.{asLineRead, tagOrMisprint};
 ghost use Rattle.buckets.specs.Columns.{readFigures, restPlaces};
 
 // The places of the columns of tare, material code and weighing number in their fields.
-const PLACES: [u8; 16] = [
+const PLACES: [u8; Line::REST] = [
     FIRST,
     BETWEEN,
     BETWEEN,
@@ -43,25 +42,34 @@ const PLACES: [u8; 16] = [
     LAST,
 ];
 
-// The line in the first 26 columns of part, its tag at least low.
+// The line in the first columns of part, as a bucket has it, its tag at least low.
 pub fn read_figures(part: &[u8], low: u64) -> LineRead
-    requires { ⌜ 26 ≤ length (now part) ⌝ }
+    requires { ⌜ figuresWidth ≤ length (now part) ⌝ }
     ensures { λ r. ⌜ r ≡ asLineRead (readFigures low (now (part .entry))) ⌝ }
 {
-    let tag = columns::read_ten(&part[0..TARE]);
+    let tag = columns::read_ten(&part[Line::TAG..Line::TARE]);
     if tag < low {
         return LineRead::Misprinted;
     }
-    if 4294967295 < tag {
+    if Line::TAG_MOST < tag {
         return LineRead::Misprinted;
     }
-    let Number::Value(tare) = fields::six_within(&part[TARE..CODE], 0, 99999) else {
+    let Number::Value(tare) = fields::six_within(&part[Line::TARE..Line::CODE], 0, Line::TARE_MOST)
+    else {
         return LineRead::Misprinted;
     };
-    let Number::Value(code) = fields::four_within(&part[CODE..WEIGHING], 0, 9999) else {
+    let Number::Value(code) = fields::four_within(
+        &part[Line::CODE..Line::WEIGHING],
+        0,
+        Line::CODE_MOST,
+    ) else {
         return LineRead::Misprinted;
     };
-    let Number::Value(weighing) = fields::six_within(&part[WEIGHING..FIGURES], 0, 999999) else {
+    let Number::Value(weighing) = fields::six_within(
+        &part[Line::WEIGHING..Line::FIGURES],
+        0,
+        Line::WEIGHING_MOST,
+    ) else {
         return LineRead::Misprinted;
     };
     LineRead::Read(Line {
@@ -72,17 +80,17 @@ pub fn read_figures(part: &[u8], low: u64) -> LineRead
     })
 }
 
-// Whether tare, material code and weighing number are well printed in 16 columns. Each column is looked at, so that all are
-// tested at once.
+// Whether tare, material code and weighing number are well printed in the columns behind the tag. Each column is looked at, so
+// that all are tested at once.
 fn rest_printed(part: &[u8]) -> bool
-    requires { ⌜ length (now part) ≡ 16 ⌝ }
+    requires { ⌜ length (now part) ≡ restWidth ⌝ }
     ensures { λ r. ⌜ r ≡ columnsPrinted restPlaces 32 (now (part .entry)) ⌝ }
 {
     let places = PLACES;
     let mut still = true;
     let mut before = BLANK;
     let mut i = 0;
-    while i < 16 {
+    while i < Line::REST {
         let c = part[i];
         still = columns::still_printed(still, places[i], before, c);
         before = c;
@@ -91,22 +99,23 @@ fn rest_printed(part: &[u8]) -> bool
     still
 }
 
-// The tag of the line in the first 26 columns of part, at least low, or MISPRINT. The tare leaves its first column blank.
+// The tag of the line in the first columns of part, as a bucket has it, at least low, or MISPRINT. The tare leaves its first
+// column blank.
 pub fn read_tag(part: &[u8], low: u64) -> u64
-    requires { ⌜ 26 ≤ length (now part) ⌝ }
+    requires { ⌜ figuresWidth ≤ length (now part) ⌝ }
     ensures { λ r. ⌜ r ≡ tagOrMisprint (readFigures low (now (part .entry))) ⌝ }
 {
-    let tag = columns::read_ten(&part[0..TARE]);
+    let tag = columns::read_ten(&part[Line::TAG..Line::TARE]);
     if tag < low {
         return MISPRINT;
     }
-    if 4294967295 < tag {
+    if Line::TAG_MOST < tag {
         return MISPRINT;
     }
-    if part[TARE] != BLANK {
+    if part[Line::TARE] != BLANK {
         return MISPRINT;
     }
-    if rest_printed(&part[TARE..FIGURES]) {
+    if rest_printed(&part[Line::TARE..Line::FIGURES]) {
         return tag;
     }
     MISPRINT
@@ -116,10 +125,10 @@ pub fn read_tag(part: &[u8], low: u64) -> u64
 pub fn read_line(part: &[u8]) -> LineRead
     ensures { λ r. ⌜ r ≡ asLineRead (readLine (now (part .entry))) ⌝ }
 {
-    if part.len() != LINE {
+    if part.len() != Line::LENGTH {
         return LineRead::Misprinted;
     }
-    if part[FIGURES] != NEWLINE {
+    if part[Line::FIGURES] != NEWLINE {
         return LineRead::Misprinted;
     }
     read_figures(part, 0)
@@ -129,10 +138,10 @@ pub fn read_line(part: &[u8]) -> LineRead
 pub fn line_tag(part: &[u8]) -> u64
     ensures { λ r. ⌜ r ≡ tagOrMisprint (readLine (now (part .entry))) ⌝ }
 {
-    if part.len() != LINE {
+    if part.len() != Line::LENGTH {
         return MISPRINT;
     }
-    if part[FIGURES] != NEWLINE {
+    if part[Line::FIGURES] != NEWLINE {
         return MISPRINT;
     }
     read_tag(part, 0)
@@ -140,20 +149,88 @@ pub fn line_tag(part: &[u8]) -> u64
 
 // A line without its newline.
 pub fn write_figures(part: &mut [u8], l: Line)
-    requires { ⌜ length (now part) ≡ 26 ⌝ }
+    requires { ⌜ length (now part) ≡ figuresWidth ⌝ }
     ensures { λ _. ⌜ now (part .exit) ≡ figures l ⌝ }
 {
     columns::print_blanks(part);
-    columns::print_at(part, 0, TARE, l.tag);
-    columns::print_at(part, TARE, CODE, l.tare);
-    columns::print_at(part, CODE, WEIGHING, l.code);
-    columns::print_at(part, WEIGHING, FIGURES, l.weighing);
+    columns::print_at(part, Line::TAG, Line::TARE, l.tag);
+    columns::print_at(part, Line::TARE, Line::CODE, l.tare);
+    columns::print_at(part, Line::CODE, Line::WEIGHING, l.code);
+    columns::print_at(part, Line::WEIGHING, Line::FIGURES, l.weighing);
 }
 
 pub fn write_line(part: &mut [u8], l: Line)
-    requires { ⌜ length (now part) ≡ 27 ⌝ }
+    requires { ⌜ length (now part) ≡ lineLength ⌝ }
     ensures { λ _. ⌜ now (part .exit) ≡ printLine l ⌝ }
 {
-    write_figures(&mut part[0..FIGURES], l);
-    part[FIGURES] = NEWLINE;
+    write_figures(&mut part[0..Line::FIGURES], l);
+    part[Line::FIGURES] = NEWLINE;
+}
+
+// A line's columns from a place of a text on, and a newline, to a place of out.
+fn copy_line(out: &mut [u8], to: usize, text: &[u8], from: usize)
+    requires { ⌜ (to + lineLength ≤ length (now out)) × (from + figuresWidth ≤ length (now text)) ⌝ }
+    ensures { λ _. ⌜ now (out .exit) ≡ put (now (out .entry)) to (endedLine (drop from (now (text .entry)))) ⌝ }
+{
+    let end = to + Line::FIGURES;
+    let behind = from + Line::FIGURES;
+    columns::copy_columns(&mut out[to..end], &text[from..behind]);
+    out[end] = NEWLINE;
+}
+
+// Lines that stand side by side from a place of a text on, count of them, as list lines from a place of out on.
+pub fn copy_lines(out: &mut [u8], to: usize, text: &[u8], from: usize, count: usize)
+    requires { ⌜ (to + lineLength * count ≤ length (now out)) × (from + figuresWidth * count ≤ length (now text)) ⌝ }
+    ensures { λ _. ⌜ now (out .exit) ≡ put (now (out .entry)) to (endedLines count (drop from (now (text .entry)))) ⌝ }
+{
+    let mut i = 0;
+    while i < count {
+        copy_line(out, to + Line::LENGTH * i, text, from + Line::FIGURES * i);
+        i += 1;
+    }
+}
+
+fn wide(c: u8) -> u64
+    ensures { λ r. ⌜ r ≡ c ⌝ }
+{
+    c as u64
+}
+
+// The number that the columns of a text from a place on spell, a blank counting as 0.
+fn spelled_columns(text: &[u8], at: usize, width: usize) -> u64
+    requires { ⌜ (at + width ≤ length (now text)) × (width ≤ tagWidth) ⌝ }
+    ensures { λ r. ⌜ r ≡ value 0 (take width (drop at (now (text .entry)))) ⌝ }
+{
+    let mut x = 0;
+    let mut i = 0;
+    while i < width {
+        let c = text[at + i];
+        x = x * 10;
+        if 48 < c {
+            x += wide(c - 48);
+        }
+        i += 1;
+    }
+    x
+}
+
+// The number that a tag's columns from a place of a text on spell.
+pub fn spelled_tag(text: &[u8], at: usize) -> u64
+    requires { ⌜ at + tagWidth ≤ length (now text) ⌝ }
+    ensures { λ r. ⌜ r ≡ value 0 (take tagWidth (drop at (now (text .entry)))) ⌝ }
+{
+    spelled_columns(text, at, Line::TAG_WIDTH)
+}
+
+// The line that a line's columns spell.
+pub fn spelled_line(part: &[u8]) -> Line
+    requires { ⌜ length (now part) ≡ figuresWidth ⌝ }
+    ensures { λ r. ⌜ r ≡ spelledLine (now (part .entry)) ⌝ }
+{
+    Line {
+        tag: spelled_columns(part, Line::TAG, Line::TAG_WIDTH),
+        tare: spelled_columns(part, Line::TARE, Line::TARE_WIDTH),
+        code: spelled_columns(part, Line::CODE, Line::CODE_WIDTH),
+        weighing: spelled_columns(part, Line::WEIGHING, Line::WEIGHING_WIDTH),
+    }
 }

@@ -1,24 +1,11 @@
 // A bucket, read: field by field, each column once.
-use super::BODY;
-use super::BUCKET;
-use super::BUCKET_END;
-use super::DATA;
-use super::DISTANCE;
-use super::ENTRIES;
-use super::ENTRY;
-use super::FIGURES;
-use super::FOLLOW_ON;
+use super::Bucket;
 use super::Head;
-use super::INDEX;
-use super::ITEM_COUNT;
 use super::Index;
 use super::Kind;
-use super::LETTER;
+use super::Line;
 use super::NEWLINE;
-use super::PAIR_COUNT;
 use super::Reading;
-use super::TO_CYCLE;
-use super::TO_SEGMENT;
 use super::fields;
 use super::lines;
 use columns;
@@ -29,9 +16,12 @@ ghost use mathlib.Core.List.{[]};
 ghost use mathlib.Core.Option.{none};
 ghost use Prim.Native.Nat.{_+_, _≤_};
 ghost use lib.ListN.{length};
+ghost use Rattle.buckets.specs.Lengths.{entryWidth, pairsWidth, entriesWidth, linesWidth, bucketLength};
+ghost use Rattle.buckets.specs.Lengths.{pairsMost, entriesMost, bucketLinesMost, bucketsMost};
 ghost use Rattle.buckets.specs.Bucket.{readBucket};
 ghost use Rattle.buckets.specs.Held.{heldIndex, asReading};
-ghost use Rattle.buckets.specs.Columns.{readEntry, readBlankPair, readPrintedPair, readPair, readPairs, readEntries, readLines, readHead, readIndex, readData};
+ghost use Rattle.buckets.specs.Columns.{readEntry, readBlankPair, readPrintedPair, readPair, readPairs, readEntries};
+ghost use Rattle.buckets.specs.Columns.{readLines, readHead, readIndex, readData};
 ghost use Rattle.buckets.specs.Read.{asEntryRead, asPairRead, heldPairs, heldEntries, heldTags, asHeadRead, indexReading};
 
 // What a reading of an entry finds: its tag and distance.
@@ -50,23 +40,23 @@ struct PairRead {
 
 // What a reading of all control pairs finds, held as in `Index`: false and 0 in each if one is misprinted.
 struct Pairs {
+    tags: [u64; Bucket::PAIRS_MOST],
+    distances: [u64; Bucket::PAIRS_MOST],
     good: bool,
     blank: bool,
-    tags: [u64; 4],
-    distances: [u64; 4],
 }
 
 // The same of all entries.
 struct Entries {
+    tags: [u64; Bucket::ENTRIES_MOST],
+    distances: [u64; Bucket::ENTRIES_MOST],
     good: bool,
-    tags: [u64; 8],
-    distances: [u64; 8],
 }
 
 // The same of the tags of all lines.
 struct Tags {
+    tags: [u64; Bucket::LINES_MOST],
     good: bool,
-    tags: [u64; 8],
 }
 
 // What a reading of the first three numbers finds.
@@ -77,34 +67,43 @@ enum HeadRead {
 
 // The entry in part, its tag at least low, in a cycle of n.
 fn read_entry(part: &[u8], low: u64, n: u64) -> EntryRead
-    requires { ⌜ length (now part) ≡ 16 ⌝ }
+    requires { ⌜ length (now part) ≡ entryWidth ⌝ }
     ensures { λ r. ⌜ r ≡ asEntryRead (readEntry n low (now (part .entry))) ⌝ }
 {
-    let tag = columns::read_ten(&part[0..DISTANCE]);
+    let tag = columns::read_ten(&part[Line::TAG..Bucket::DISTANCE]);
     if tag < low {
         return EntryRead::Misprinted;
     }
-    if 4294967295 < tag {
+    if Line::TAG_MOST < tag {
         return EntryRead::Misprinted;
     }
-    let Number::Value(distance) = fields::six_within(&part[DISTANCE..ENTRY], 1, n) else {
+    let Number::Value(distance) = fields::six_within(&part[Bucket::DISTANCE..Bucket::ENTRY], 1, n)
+    else {
         return EntryRead::Misprinted;
     };
     EntryRead::Read(tag, distance)
 }
 
+// What is answered of a misprinted pair.
+fn no_pair() -> PairRead
+    ensures { λ r. ⌜ r ≡ asPairRead none ⌝ }
+{
+    PairRead {
+        good: false,
+        blank: false,
+        tag: 0,
+        distance: 0,
+    }
+}
+
 // The pair in part, whose tag is blank.
 fn read_blank_pair(part: &[u8], n: u64) -> PairRead
-    requires { ⌜ length (now part) ≡ 16 ⌝ }
+    requires { ⌜ length (now part) ≡ entryWidth ⌝ }
     ensures { λ r. ⌜ r ≡ asPairRead (readBlankPair n (now (part .entry))) ⌝ }
 {
-    let Number::Value(distance) = fields::six_within(&part[DISTANCE..ENTRY], 1, n) else {
-        return PairRead {
-            good: false,
-            blank: false,
-            tag: 0,
-            distance: 0,
-        };
+    let Number::Value(distance) = fields::six_within(&part[Bucket::DISTANCE..Bucket::ENTRY], 1, n)
+    else {
+        return no_pair();
     };
     PairRead {
         good: true,
@@ -116,16 +115,11 @@ fn read_blank_pair(part: &[u8], n: u64) -> PairRead
 
 // The pair in part, whose tag is printed.
 fn read_printed_pair(part: &[u8], n: u64) -> PairRead
-    requires { ⌜ length (now part) ≡ 16 ⌝ }
+    requires { ⌜ length (now part) ≡ entryWidth ⌝ }
     ensures { λ r. ⌜ r ≡ asPairRead (readPrintedPair n (now (part .entry))) ⌝ }
 {
     let EntryRead::Read(tag, distance) = read_entry(part, 0, n) else {
-        return PairRead {
-            good: false,
-            blank: false,
-            tag: 0,
-            distance: 0,
-        };
+        return no_pair();
     };
     PairRead {
         good: true,
@@ -137,13 +131,13 @@ fn read_printed_pair(part: &[u8], n: u64) -> PairRead
 
 // Pair i, in part.
 fn read_pair(part: &[u8], i: usize, n: u64) -> PairRead
-    requires { ⌜ length (now part) ≡ 16 ⌝ }
+    requires { ⌜ length (now part) ≡ entryWidth ⌝ }
     ensures { λ r. ⌜ r ≡ asPairRead (readPair n i (now (part .entry))) ⌝ }
 {
     if i != 0 {
         return read_printed_pair(part, n);
     }
-    if fields::all_blank(&part[0..DISTANCE]) {
+    if columns::all_blank(&part[Line::TAG..Bucket::DISTANCE]) {
         return read_blank_pair(part, n);
     }
     read_printed_pair(part, n)
@@ -156,32 +150,32 @@ fn no_pairs() -> Pairs
     Pairs {
         good: false,
         blank: false,
-        tags: [0; 4],
-        distances: [0; 4],
+        tags: [0; Bucket::PAIRS_MOST],
+        distances: [0; Bucket::PAIRS_MOST],
     }
 }
 
 // The control pairs in part, count of them, in a cycle of n.
 fn read_pairs(part: &[u8], count: usize, n: u64) -> Pairs
-    requires { ⌜ (length (now part) ≡ 64) × (count ≤ 4) ⌝ }
+    requires { ⌜ (length (now part) ≡ pairsWidth) × (count ≤ pairsMost) ⌝ }
     ensures { λ r. ⌜ r ≡ heldPairs (readPairs n count (now (part .entry))) ⌝ }
 {
-    let used = count * ENTRY;
-    if !fields::all_blank(&part[used..]) {
+    let used = count * Bucket::ENTRY;
+    if !columns::all_blank(&part[used..]) {
         return no_pairs();
     }
     let mut blank = false;
-    let mut tags = [0; 4];
-    let mut distances = [0; 4];
+    let mut tags = [0; Bucket::PAIRS_MOST];
+    let mut distances = [0; Bucket::PAIRS_MOST];
     let mut i = 0;
     while i < count {
-        let at = i * ENTRY;
-        let pair = read_pair(&part[at..at + ENTRY], i, n);
+        let at = i * Bucket::ENTRY;
+        let pair = read_pair(&part[at..at + Bucket::ENTRY], i, n);
         if !pair.good {
             return no_pairs();
         }
-        if pair.blank {
-            blank = true;
+        if i == 0 {
+            blank = pair.blank;
         }
         tags[i] = pair.tag;
         distances[i] = pair.distance;
@@ -195,31 +189,35 @@ fn read_pairs(part: &[u8], count: usize, n: u64) -> Pairs
     }
 }
 
+// What is answered of misprinted entries.
+fn no_entries() -> Entries
+    ensures { λ r. ⌜ r ≡ heldEntries none ⌝ }
+{
+    Entries {
+        good: false,
+        tags: [0; Bucket::ENTRIES_MOST],
+        distances: [0; Bucket::ENTRIES_MOST],
+    }
+}
+
 // The entries in part, count of them, in a cycle of n.
 fn read_entries(part: &[u8], count: usize, n: u64) -> Entries
-    requires { ⌜ (length (now part) ≡ 146) × (count ≤ 8) ⌝ }
+    requires { ⌜ (length (now part) ≡ entriesWidth) × (count ≤ entriesMost) ⌝ }
     ensures { λ r. ⌜ r ≡ heldEntries (readEntries n count (now (part .entry))) ⌝ }
 {
-    let used = count * ENTRY;
-    if !fields::all_blank(&part[used..]) {
-        return Entries {
-            good: false,
-            tags: [0; 8],
-            distances: [0; 8],
-        };
+    let used = count * Bucket::ENTRY;
+    if !columns::all_blank(&part[used..]) {
+        return no_entries();
     }
-    let mut tags = [0; 8];
-    let mut distances = [0; 8];
+    let mut tags = [0; Bucket::ENTRIES_MOST];
+    let mut distances = [0; Bucket::ENTRIES_MOST];
     let mut last = 0;
     let mut i = 0;
     while i < count {
-        let at = i * ENTRY;
-        let EntryRead::Read(tag, distance) = read_entry(&part[at..at + ENTRY], last, n) else {
-            return Entries {
-                good: false,
-                tags: [0; 8],
-                distances: [0; 8],
-            };
+        let at = i * Bucket::ENTRY;
+        let EntryRead::Read(tag, distance) = read_entry(&part[at..at + Bucket::ENTRY], last, n)
+        else {
+            return no_entries();
         };
         tags[i] = tag;
         distances[i] = distance;
@@ -233,29 +231,33 @@ fn read_entries(part: &[u8], count: usize, n: u64) -> Entries
     }
 }
 
+// What is answered of lines of which one is misprinted.
+fn no_tags() -> Tags
+    ensures { λ r. ⌜ r ≡ heldTags none ⌝ }
+{
+    Tags {
+        good: false,
+        tags: [0; Bucket::LINES_MOST],
+    }
+}
+
 // The tags of the lines in part, count of them.
 fn read_tags(part: &[u8], count: usize) -> Tags
-    requires { ⌜ (length (now part) ≡ 210) × (count ≤ 8) ⌝ }
+    requires { ⌜ (length (now part) ≡ linesWidth) × (count ≤ bucketLinesMost) ⌝ }
     ensures { λ r. ⌜ r ≡ heldTags (readLines count (now (part .entry))) ⌝ }
 {
-    let used = count * FIGURES;
-    if !fields::all_blank(&part[used..]) {
-        return Tags {
-            good: false,
-            tags: [0; 8],
-        };
+    let used = count * Line::FIGURES;
+    if !columns::all_blank(&part[used..]) {
+        return no_tags();
     }
-    let mut tags = [0; 8];
+    let mut tags = [0; Bucket::LINES_MOST];
     let mut last = 0;
     let mut i = 0;
     while i < count {
-        let at = i * FIGURES;
-        last = lines::read_tag(&part[at..at + FIGURES], last);
+        let at = i * Line::FIGURES;
+        last = lines::read_tag(&part[at..at + Line::FIGURES], last);
         if last == MISPRINT {
-            return Tags {
-                good: false,
-                tags: [0; 8],
-            };
+            return no_tags();
         }
         tags[i] = last;
         i += 1;
@@ -268,21 +270,25 @@ fn read_tags(part: &[u8], count: usize) -> Tags
 
 // The first three numbers of a bucket.
 fn read_head(part: &[u8]) -> HeadRead
-    requires { ⌜ length (now part) ≡ 240 ⌝ }
+    requires { ⌜ length (now part) ≡ bucketLength ⌝ }
     ensures { λ r. ⌜ r ≡ asHeadRead (readHead (now (part .entry))) ⌝ }
 {
-    let Number::Value(position) = fields::six_within(&part[0..TO_CYCLE], 0, 99999) else {
+    let Number::Value(position) = fields::six_within(
+        &part[Bucket::POSITION..Bucket::TO_CYCLE],
+        0,
+        Bucket::BUCKETS_MOST,
+    ) else {
         return HeadRead::Misprinted;
     };
     let Number::Value(to_cycle) = fields::six_within(
-        &part[TO_CYCLE..TO_SEGMENT],
+        &part[Bucket::TO_CYCLE..Bucket::TO_SEGMENT],
         1,
-        99999 - position,
+        Bucket::BUCKETS_MOST - position,
     ) else {
         return HeadRead::Misprinted;
     };
     let Number::Value(to_segment) = fields::six_within(
-        &part[TO_SEGMENT..FOLLOW_ON],
+        &part[Bucket::TO_SEGMENT..Bucket::FOLLOW_ON],
         1,
         position + to_cycle,
     ) else {
@@ -295,18 +301,18 @@ fn read_head(part: &[u8]) -> HeadRead
     })
 }
 
-// The index of a bucket that is no index bucket.
-fn no_index() -> Index
+// The index of a bucket without control pairs and entries.
+pub fn no_index() -> Index
     ensures { λ r. ⌜ r ≡ heldIndex [] [] ⌝ }
 {
     Index {
         pairs: 0,
         blank: false,
-        pair_tags: [0; 4],
-        pair_distances: [0; 4],
+        pair_tags: [0; Bucket::PAIRS_MOST],
+        pair_distances: [0; Bucket::PAIRS_MOST],
         entries: 0,
-        entry_tags: [0; 8],
-        entry_distances: [0; 8],
+        entry_tags: [0; Bucket::ENTRIES_MOST],
+        entry_distances: [0; Bucket::ENTRIES_MOST],
     }
 }
 
@@ -326,7 +332,7 @@ fn misprinted() -> Reading
         follow_on: 0,
         index: index,
         lines: 0,
-        tags: [0; 8],
+        tags: [0; Bucket::LINES_MOST],
     }
 }
 
@@ -359,30 +365,42 @@ fn index_reading(
         follow_on: 0,
         index: index,
         lines: 0,
-        tags: [0; 8],
+        tags: [0; Bucket::LINES_MOST],
     }
 }
 
 // The index bucket that part is, behind its head.
 fn read_index(part: &[u8], head: Head) -> Reading
-    requires { ⌜ (length (now part) ≡ 240) × (head .position + head .«to_cycle» ≤ 99999) ⌝ }
+    requires { ⌜ (length (now part) ≡ bucketLength) × (head .position + head .«to_cycle» ≤ bucketsMost) ⌝ }
     ensures { λ r. ⌜ r ≡ asReading (readIndex head (now (part .entry))) ⌝ }
 {
-    let Number::Value(_) = fields::six_within(&part[FOLLOW_ON..LETTER], 0, 0) else {
+    let Number::Value(_) = fields::six_within(&part[Bucket::FOLLOW_ON..Bucket::LETTER], 0, 0) else {
         return misprinted();
     };
-    let Number::Value(pair_count) = fields::digit_within(&part[PAIR_COUNT..ITEM_COUNT], 0, 4) else {
+    let Number::Value(pair_count) = fields::digit_within(
+        &part[Bucket::PAIR_COUNT..Bucket::ITEM_COUNT],
+        0,
+        Bucket::PAIRS_MOST as u64,
+    ) else {
         return misprinted();
     };
-    let Number::Value(entry_count) = fields::digit_within(&part[ITEM_COUNT..BODY], 0, 8) else {
+    let Number::Value(entry_count) = fields::digit_within(
+        &part[Bucket::ITEM_COUNT..Bucket::PAIRS],
+        0,
+        Bucket::ENTRIES_MOST as u64,
+    ) else {
         return misprinted();
     };
     let n = head.position + head.to_cycle;
-    let pairs = read_pairs(&part[BODY..ENTRIES], pair_count as usize, n);
+    let pairs = read_pairs(
+        &part[Bucket::PAIRS..Bucket::ENTRIES],
+        pair_count as usize,
+        n,
+    );
     if !pairs.good {
         return misprinted();
     }
-    let entries = read_entries(&part[ENTRIES..BUCKET_END], entry_count as usize, n);
+    let entries = read_entries(&part[Bucket::ENTRIES..Bucket::END], entry_count as usize, n);
     if !entries.good {
         return misprinted();
     }
@@ -397,23 +415,28 @@ fn read_index(part: &[u8], head: Head) -> Reading
 
 // The data bucket that part is, behind its head.
 fn read_data(part: &[u8], head: Head) -> Reading
-    requires { ⌜ (length (now part) ≡ 240) × (1 ≤ head .«to_cycle») ⌝ }
+    requires { ⌜ (length (now part) ≡ bucketLength) × (1 ≤ head .«to_cycle») ⌝ }
     ensures { λ r. ⌜ r ≡ asReading (readData head (now (part .entry))) ⌝ }
 {
     let Number::Value(follow_on) = fields::six_within(
-        &part[FOLLOW_ON..LETTER],
+        &part[Bucket::FOLLOW_ON..Bucket::LETTER],
         0,
         head.to_cycle - 1,
     ) else {
         return misprinted();
     };
-    let Number::Value(_) = fields::digit_within(&part[PAIR_COUNT..ITEM_COUNT], 0, 0) else {
+    let Number::Value(_) = fields::digit_within(&part[Bucket::PAIR_COUNT..Bucket::ITEM_COUNT], 0, 0)
+    else {
         return misprinted();
     };
-    let Number::Value(count) = fields::digit_within(&part[ITEM_COUNT..BODY], 1, 8) else {
+    let Number::Value(count) = fields::digit_within(
+        &part[Bucket::ITEM_COUNT..Bucket::PAIRS],
+        1,
+        Bucket::LINES_MOST as u64,
+    ) else {
         return misprinted();
     };
-    let read = read_tags(&part[BODY..BUCKET_END], count as usize);
+    let read = read_tags(&part[Bucket::LINES..Bucket::END], count as usize);
     if !read.good {
         return misprinted();
     }
@@ -433,19 +456,19 @@ fn read_data(part: &[u8], head: Head) -> Reading
 pub fn read_bucket(part: &[u8]) -> Reading
     ensures { λ r. ⌜ r ≡ asReading (readBucket (now (part .entry))) ⌝ }
 {
-    if part.len() != BUCKET {
+    if part.len() != Bucket::LENGTH {
         return misprinted();
     }
-    if part[BUCKET_END] != NEWLINE {
+    if part[Bucket::END] != NEWLINE {
         return misprinted();
     }
     let HeadRead::Read(head) = read_head(part) else {
         return misprinted();
     };
-    if part[LETTER] == INDEX {
+    if part[Bucket::LETTER] == Bucket::INDEX {
         return read_index(part, head);
     }
-    if part[LETTER] == DATA {
+    if part[Bucket::LETTER] == Bucket::DATA {
         return read_data(part, head);
     }
     misprinted()

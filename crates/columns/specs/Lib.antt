@@ -2,3 +2,4 @@
 pub mod Lists
 pub mod PrintedNumbers
 pub mod Places
+pub mod Starts

@@ -4,9 +4,9 @@ use Prim.Native.Nat.{ℕ, zero, suc, _+_, _-_, _*_, _/_, _%_, _^_}
 use mathlib.Core.Bool.{Bool, true, false, _&&_}
 use mathlib.Core.Option.{Option, none, some}
 use mathlib.Core.List.{List, [], _∷_}
-use lib.Dec.{leb, ltb}
+use lib.Dec.{leb, ltb, eqb}
 use lib.ListN.{length, replicate}
-use Rattle.columns.specs.Lists.{pick, strict}
+use Rattle.columns.specs.Lists.{pick, every, strict}
 use Rattle.columns.specs.declared.Number.{Number}
 use Rattle.columns.specs.declared.Number.the-variants.{Value, Misprinted}
 
@@ -24,6 +24,10 @@ print (suc w) x = column w x ∷ print w x
 -- w blank columns
 unfoldable pub blanks : ℕ → List ℕ
 blanks w = replicate w 32
+
+-- every column is blank
+unfoldable pub allBlank : List ℕ → Bool
+allBlank s = every (λ c. eqb c 32) s
 
 -- what the columns spell, left to right behind acc, a blank counting as 0
 abbrev pub value : ℕ → List ℕ → ℕ

@@ -4,10 +4,11 @@ ghost use mathlib.Core.Bool.{true, _&&_};
 ghost use mathlib.Core.List.{[], _∷_};
 ghost use Prim.Native.Nat.{_-_, _^_, _≤_, _<_};
 ghost use lib.Dec.{eqb};
-ghost use lib.ListN.{length, getD, take, drop};
+ghost use lib.ListN.{length, take, drop};
 ghost use Rattle.columns.specs.Lists.{put, every};
 ghost use Rattle.columns.specs.Places.{columnPrinted};
-ghost use Rattle.columns.specs.PrintedNumbers.{print, blanks, value, digit, readNumber, asNumber, orMisprint};
+ghost use Rattle.columns.specs.PrintedNumbers.{print, blanks, allBlank, value, digit, readNumber, orMisprint};
+ghost use Rattle.columns.specs.Starts.{Starts};
 
 // What a strict reading of columns finds.
 pub enum Number {
@@ -134,6 +135,29 @@ pub fn copy_columns(part: &mut [u8], from: &[u8])
     }
 }
 
+// Whether c is blank and the columns before it are.
+fn still_blank(before: bool, c: u8) -> bool
+    ensures { λ r. ⌜ r ≡ (before && eqb c 32) ⌝ }
+{
+    if c == BLANK {
+        return before;
+    }
+    false
+}
+
+// Whether every column of part is blank. It looks at each of them, so that many are tested at once.
+pub fn all_blank(part: &[u8]) -> bool
+    ensures { λ r. ⌜ r ≡ allBlank (now (part .entry)) ⌝ }
+{
+    let mut blank = true;
+    let mut i = 0;
+    while i < part.len() {
+        blank = still_blank(blank, part[i]);
+        i += 1;
+    }
+    blank
+}
+
 // Whether every column is a digit.
 fn all_digits(part: &[u8]) -> bool
     ensures { λ r. ⌜ r ≡ every digit (now (part .entry)) ⌝ }
@@ -173,10 +197,10 @@ pub fn read_digit(c: u8) -> u64
     x as u64
 }
 
-// The number in all the columns of part, or MISPRINT. The first column is not blank: digits to the end, the first no 0 unless
-// it is the only one.
+// The number in all the columns of part, or MISPRINT, where the first column is used or the only one: digits to the end, the
+// first no 0 unless it is the only one. Each call lends a part of constant length, for which it is compiled.
 fn read_digits(part: &[u8]) -> u64
-    requires { ⌜ (1 ≤ length (now part)) × ((length (now part) ≤ 10) × (getD (now part) 0 0 ≡ 32 → ⊥)) ⌝ }
+    requires { ⌜ Starts (now part) ⌝ }
     ensures { λ r. ⌜ r ≡ orMisprint (readNumber (now (part .entry))) ⌝ }
 {
     if part.len() == 1 {
@@ -191,6 +215,17 @@ fn read_digits(part: &[u8]) -> u64
     spelled(part)
 }
 
+// The number in two columns, or MISPRINT.
+fn read_two(part: &[u8]) -> u64
+    requires { ⌜ length (now part) ≡ 2 ⌝ }
+    ensures { λ r. ⌜ r ≡ orMisprint (readNumber (now (part .entry))) ⌝ }
+{
+    if part[0] != BLANK {
+        return read_digits(&part[0..2]);
+    }
+    read_digits(&part[1..2])
+}
+
 // The number in four columns, or MISPRINT.
 pub fn read_four(part: &[u8]) -> u64
     requires { ⌜ length (now part) ≡ 4 ⌝ }
@@ -202,13 +237,7 @@ pub fn read_four(part: &[u8]) -> u64
     if part[1] != BLANK {
         return read_digits(&part[1..4]);
     }
-    if part[2] != BLANK {
-        return read_digits(&part[2..4]);
-    }
-    if part[3] != BLANK {
-        return read_digits(&part[3..4]);
-    }
-    MISPRINT
+    read_two(&part[2..4])
 }
 
 // The number in six columns, or MISPRINT.
@@ -225,18 +254,39 @@ pub fn read_six(part: &[u8]) -> u64
     read_four(&part[2..6])
 }
 
-// Whether c is blank and the columns before it are.
-pub fn still_blank(before: bool, c: u8) -> bool
-    ensures { λ r. ⌜ r ≡ (before && eqb c 32) ⌝ }
+// The number in eight columns, or MISPRINT.
+fn read_eight(part: &[u8]) -> u64
+    requires { ⌜ length (now part) ≡ 8 ⌝ }
+    ensures { λ r. ⌜ r ≡ orMisprint (readNumber (now (part .entry))) ⌝ }
 {
-    if c == BLANK {
-        return before;
+    if part[0] != BLANK {
+        return read_digits(&part[0..8]);
     }
-    false
+    if part[1] != BLANK {
+        return read_digits(&part[1..8]);
+    }
+    read_six(&part[2..8])
 }
 
-// Whether c is well printed and the columns before it are. Behind unused columns of its field, and in the first one, c is blank or
-// a digit that is no 0; in the last column, and behind a used one, it is a digit.
+// The number in ten columns, or MISPRINT.
+pub fn read_ten(part: &[u8]) -> u64
+    requires { ⌜ length (now part) ≡ 10 ⌝ }
+    ensures { λ r. ⌜ r ≡ orMisprint (readNumber (now (part .entry))) ⌝ }
+{
+    if all_blank(&part[0..4]) {
+        return read_six(&part[4..10]);
+    }
+    if part[0] != BLANK {
+        return read_digits(&part[0..10]);
+    }
+    if part[1] != BLANK {
+        return read_digits(&part[1..10]);
+    }
+    read_eight(&part[2..10])
+}
+
+// Whether c is well printed and the columns before it are. Behind unused columns of its field, and in the first one, c is blank
+// or a digit that is no 0; in the last column, and behind a used one, it is a digit.
 pub fn still_printed(still: bool, place: u8, before: u8, c: u8) -> bool
     ensures { λ r. ⌜ r ≡ (still && columnPrinted place before c) ⌝ }
 {
@@ -245,69 +295,4 @@ pub fn still_printed(still: bool, place: u8, before: u8, c: u8) -> bool
     let nought = (c == ZERO) & unused & (place != LAST);
     let blank = (c == BLANK) & unused & (place != LAST);
     still & ((digit & !nought) | blank)
-}
-
-// Whether four columns are blank. Each of them is looked at, so that they are tested at once.
-fn four_blank(part: &[u8]) -> bool
-    requires { ⌜ length (now part) ≡ 4 ⌝ }
-    ensures { λ r. ⌜ (r ≡ true → (getD (now (part .entry)) 0 0 ≡ 32) × ((getD (now (part .entry)) 1 0 ≡ 32) × ((getD (now (part .entry)) 2 0 ≡ 32) × (getD (now (part .entry)) 3 0 ≡ 32)))) ⌝ }
-{
-    let one = still_blank(true, part[0]);
-    let two = still_blank(one, part[1]);
-    let three = still_blank(two, part[2]);
-    still_blank(three, part[3])
-}
-
-// The number in ten columns, or MISPRINT, where one of the first four is used.
-fn read_wide(part: &[u8]) -> u64
-    requires { ⌜ length (now part) ≡ 10 ⌝ }
-    ensures { λ r. ⌜ r ≡ orMisprint (readNumber (now (part .entry))) ⌝ }
-{
-    if part[0] != BLANK {
-        return read_digits(&part[0..10]);
-    }
-    if part[1] != BLANK {
-        return read_digits(&part[1..10]);
-    }
-    if part[2] != BLANK {
-        return read_digits(&part[2..10]);
-    }
-    if part[3] != BLANK {
-        return read_digits(&part[3..10]);
-    }
-    read_six(&part[4..10])
-}
-
-// The number in ten columns, or MISPRINT.
-pub fn read_ten(part: &[u8]) -> u64
-    requires { ⌜ length (now part) ≡ 10 ⌝ }
-    ensures { λ r. ⌜ r ≡ orMisprint (readNumber (now (part .entry))) ⌝ }
-{
-    if four_blank(&part[0..4]) {
-        return read_six(&part[4..10]);
-    }
-    read_wide(&part[0..10])
-}
-
-// The number that stands in all the columns of part, read strictly: blanks are passed over.
-pub fn read_number(part: &[u8]) -> Number
-    requires { ⌜ length (now part) ≤ 10 ⌝ }
-    ensures { λ r. ⌜ r ≡ asNumber (readNumber (now (part .entry))) ⌝ }
-{
-    let n = part.len();
-    let mut i = 0;
-    while i < n {
-        if part[i] != BLANK {
-            let x = read_digits(&part[i..]);
-            if x == MISPRINT {
-                return Number::Misprinted;
-            }
-            return Number::Value(x);
-        }
-        i += 1;
-    }
-    if n == 0 {
-        return Number::Value(0);
-    }
-    Number::Misprinted
 }

@@ -19,14 +19,15 @@ use Rattle.buckets.specs.declared.Reading.{Reading}
 use Rattle.buckets.specs.ListLine.{spelled}
 use Rattle.buckets.specs.Bucket.{Body, indexBody, dataBody, Bucket, printBucket, readBucket, good, followOn}
 use Rattle.buckets.specs.Held.{headOf, indexOf, heldBody, asReading, bucketWith, filled}
+use Rattle.buckets.specs.Lengths.{bucketLinesMost}
 use Rattle.buckets.proofs.Buckets.{print-of-read-bucket, read-of-print-bucket}
 use Rattle.cycle.specs.Tree.{Plan, children, linesOf, tagsOf, lastTag}
 use Rattle.cycle.specs.Layouts.{Slot, slot}
-use Rattle.cycle.specs.Cycle.{isData, followOnFrom}
+use Rattle.cycle.specs.Cycle.{isData, followOnFrom, bucketAt}
 use Rattle.cycle.specs.declared.Figures.{Figures}
 use Rattle.cycle.specs.declared.Source.the-variants.{Image as InImage}
 use Rattle.cycle.specs.Held.{planOf, Ready, Stand, firstPlace, linesHeld, planIn, cycleBucket, asIndex}
-use Rattle.cycle.specs.Comparing.{Decides, bucketBytes, RisesAt, MatchesAt}
+use Rattle.cycle.specs.Comparing.{Decides, RisesAt, MatchesAt}
 use Rattle.cycle.proofs.Sequence.{Keeps, dataCount}
 use Rattle.cycle.proofs.Keeping.{keeps}
 use Rattle.cycle.proofs.Shapes.{stand-shape, firstPlace-shape, children-shape}
@@ -36,7 +37,8 @@ use Rattle.cycle.proofs.BucketsWritten.{HeldAt, held-at}
 use Rattle.cycle.proofs.Readiness.{sound}
 use Rattle.cycle.proofs.Sending.{head-shape}
 use Rattle.cycle.proofs.Deciding.{decides-by}
-use Rattle.cycle.proofs.ImageLines.{data-first, data-placed, lineBytes, printed-spells, length-held, held-line}
+use Rattle.buckets.specs.BucketLines.{lineBytes}
+use Rattle.cycle.proofs.ImageLines.{data-first, data-placed, printed-spells, length-held, held-line}
 
 -- ---- the tags of the data bucket at x against the next one's
 
@@ -76,23 +78,27 @@ module _ (f : Figures) (bytes : List ℕ) (ready : Ready f) where
         subst (λ cs. HeldAt (planIn f InImage bytes) x (length cs)) (children-shape f (linesHeld f InImage bytes) [] i j)
         (held-at (stand-at {i = i} {j = j} (stand-held st)) low fine)
 
-    pub index-decided :
-        x < f .size → (head : Head) (index : Index) (r : Bool) → head ≡ headOf (cycleBucket (planOf f []) x) →
-        index ≡ asIndex (cycleBucket (planIn f InImage bytes) x .body) →
-        Decides (bucketBytes bytes x ≡ printBucket (bucketWith head (indexOf index))) r → Decides (MatchesAt (planIn f InImage bytes) bytes x) r
+    pub bucket-decided :
+        (r : Bool) → Decides (bucketAt bytes x ≡ printBucket (cycleBucket (planIn f InImage bytes) x)) r →
+        Decides (MatchesAt (planIn f InImage bytes) bytes x) r
     unfolding planIn planOf
-    index-decided below head index r head-is index-is d =
-        let t : Plan = planIn f InImage bytes in
-        let whole : bucketWith head (indexOf index) ≡ cycleBucket t x =
-        ap₂ (λ (h : Head) (y : Index). bucketWith h (indexOf y)) (head-is ∙ head-held x below) index-is ∙ index-held-in .whole in
+    bucket-decided r =
         decides-by
         (λ e.
         record {
-          reads = ap readBucket (e ∙ ap printBucket whole) ∙ read-of-print-bucket (cycleBucket t x) fine;
-          rises = none-falls t held-keeps (stand-at {i = i} {j = j} (stand-held st)) low;
+          reads = ap readBucket e ∙ read-of-print-bucket (cycleBucket (planIn f InImage bytes) x) fine;
+          rises = none-falls (planIn f InImage bytes) held-keeps (stand-at {i = i} {j = j} (stand-held st)) low;
         })
-        (λ m. print-of-read-bucket (bucketBytes bytes x) (m .reads) .0 ∙ sym (ap printBucket whole))
-        d
+        (λ m. print-of-read-bucket (bucketAt bytes x) (m .reads) .0)
+
+    pub index-decided :
+        x < f .size → (head : Head) (index : Index) (r : Bool) → head ≡ headOf (cycleBucket (planOf f []) x) →
+        index ≡ asIndex (cycleBucket (planIn f InImage bytes) x .body) →
+        Decides (bucketAt bytes x ≡ printBucket (bucketWith head (indexOf index))) r → Decides (MatchesAt (planIn f InImage bytes) bytes x) r
+    index-decided below head index r head-is index-is d =
+        let whole : bucketWith head (indexOf index) ≡ cycleBucket (planIn f InImage bytes) x =
+        ap₂ (λ (h : Head) (y : Index). bucketWith h (indexOf y)) (head-is ∙ head-held x below) index-is ∙ index-held-in .whole in
+        bucket-decided r (subst (λ b. Decides (bucketAt bytes x ≡ printBucket b) r) whole d)
 
 -- ---- data buckets
 
@@ -163,8 +169,8 @@ last-of-read (some b) ls known k c h = of (b .body) refl
         let tags : List ℕ = map (λ (l : Line). l .tag) ms in
         let long : length tags ≡ length ms = length-map ms (λ (l : Line). l .tag) in
         ap (λ x. getD (heldBody (headOf b) x .tags) (heldBody (headOf b) x .lines - 1) 0) g
-        ∙ (ap (λ m. getD (filled 8 tags) (m - 1) 0) (sym long)
-        ∙ (last-filled 8 0 0 tags (omega (arith, long, count)) ∙ ap (λ xs. lastOr 0 (map (λ (l : Line). l .tag) xs)) same))
+        ∙ (ap (λ m. getD (filled bucketLinesMost tags) (m - 1) 0) (sym long)
+        ∙ (last-filled bucketLinesMost 0 0 tags (omega (arith, long, count)) ∙ ap (λ xs. lastOr 0 (map (λ (l : Line). l .tag) xs)) same))
 
 module _ (f : Figures) (bytes : List ℕ) (ready : Ready f) (x q : ℕ) (st : Stand (planOf f []) x (slot (f .k + 1) q ∷ [])) where
   -- data bucket q stands at x and nowhere else
@@ -187,7 +193,7 @@ module _ (f : Figures) (bytes : List ℕ) (ready : Ready f) (x q : ℕ) (st : St
   -- its lines are spelled by the bytes there
   pub held-of :
       (z : Line) (m : ℕ) → m < min (f .p) (f .lines - q * f .p) →
-      getD (linesOf (planIn f InImage bytes) q) m z ≡ spelled (lineBytes (bucketBytes bytes x) m)
+      getD (linesOf (planIn f InImage bytes) q) m z ≡ spelled (lineBytes (bucketAt bytes x) m)
   unfolding linesOf planIn planOf
   held-of z m h =
       let ls : List Line = linesHeld f InImage bytes in
@@ -197,15 +203,15 @@ module _ (f : Figures) (bytes : List ℕ) (ready : Ready f) (x q : ℕ) (st : St
       getD-take (f .p) (drop (q * f .p) ls) m z (omega arith)
       ∙ getD-drop (q * f .p) ls m z
       ∙ held-line f bytes z i (omega arith) (ready .shaped .p-low) (ready .shaped .p-high)
-      ∙ ap₂ (λ u v. spelled (lineBytes (bucketBytes bytes (firstPlace (planOf f []) (f .k + 1) u)) v)) bucket line
-      ∙ ap (λ y. spelled (lineBytes (bucketBytes bytes y) m)) data-here
+      ∙ ap₂ (λ u v. spelled (lineBytes (bucketAt bytes (firstPlace (planOf f []) (f .k + 1) u)) v)) bucket line
+      ∙ ap (λ y. spelled (lineBytes (bucketAt bytes y) m)) data-here
 
   pub lines-known :
-      (c : Bucket) (h : ℕ) (ms : List Line) → readBucket (bucketBytes bytes x) ≡ some c → c .body ≡ dataBody h ms →
+      (c : Bucket) (h : ℕ) (ms : List Line) → readBucket (bucketAt bytes x) ≡ some c → c .body ≡ dataBody h ms →
       length ms ≡ length (linesOf (planIn f InImage bytes) q) → ms ≡ linesOf (planIn f InImage bytes) q
   lines-known c h ms e g l =
       let z : Line = spelled [] in
-      let told = print-of-read-bucket (bucketBytes bytes x) e in
+      let told = print-of-read-bucket (bucketAt bytes x) e in
       ext-getD z ms (linesOf (planIn f InImage bytes) q) l
       (λ m b.
       sym (printed-spells c h ms z m (told .1) g b)
@@ -218,12 +224,12 @@ module _ (f : Figures) (bytes : List ℕ) (ready : Ready f) (x q : ℕ) (st : St
 
   -- the last of the tags that were read is the bucket's
   pub last-known :
-      (g : Reading) → g ≡ asReading (readBucket (bucketBytes bytes x)) → g .kind ≡ KindData →
+      (g : Reading) → g ≡ asReading (readBucket (bucketAt bytes x)) → g .kind ≡ KindData →
       g .lines ≡ min (f .p) (f .lines - q * f .p) → 1 ≤ g .lines → getD (g .tags) (g .lines - 1) 0 ≡ lastTag (planIn f InImage bytes) q
   unfolding lastTag tagsOf
   last-known g is kind count some-lines =
       ap (λ (r : Reading). getD (r .tags) (r .lines - 1) 0) is
-      ∙ last-of-read (readBucket (bucketBytes bytes x)) (linesOf (planIn f InImage bytes) q) lines-known
+      ∙ last-of-read (readBucket (bucketAt bytes x)) (linesOf (planIn f InImage bytes) q) lines-known
       (sym (ap (λ (r : Reading). r .kind) is) ∙ kind)
       (sym (ap (λ (r : Reading). r .lines) is) ∙ (count ∙ sym length-held-of))
       (omega (arith, some-lines, count, length-held-of))
@@ -231,7 +237,7 @@ module _ (f : Figures) (bytes : List ℕ) (ready : Ready f) (x q : ℕ) (st : St
   pub data-decided :
       x < f .size → (head : Head) (count follow : ℕ) (r : Bool) → head ≡ headOf (cycleBucket (planOf f []) x) →
       count ≡ min (f .p) (f .lines - q * f .p) → follow ≡ followOn (cycleBucket (planIn f InImage bytes) x .body) →
-      Decides (DataFacts (asReading (readBucket (bucketBytes bytes x))) head count follow × RisesAt (planIn f InImage bytes) q) r →
+      Decides (DataFacts (asReading (readBucket (bucketAt bytes x))) head count follow × RisesAt (planIn f InImage bytes) q) r →
       Decides (MatchesAt (planIn f InImage bytes) bytes x) r
   unfolding planIn planOf
   data-decided below head count follow r head-is count-is follow-is d =
@@ -242,7 +248,7 @@ module _ (f : Figures) (bytes : List ℕ) (ready : Ready f) (x q : ℕ) (st : St
       let same-head : head ≡ headOf (cycleBucket t x) = head-is ∙ head-held f bytes ready x below in
       let same-count : count ≡ length (linesOf t q) = count-is ∙ sym length-held-of in
       let same-follow : follow ≡ from = follow-is ∙ ap followOn body in
-      let o : Option Bucket = readBucket (bucketBytes bytes x) in
+      let o : Option Bucket = readBucket (bucketAt bytes x) in
       decides-by
       (λ g.
       let facts : DataFacts (asReading o) (headOf (cycleBucket t x)) (length (linesOf t q)) from =

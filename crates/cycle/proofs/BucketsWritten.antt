@@ -18,6 +18,7 @@ use Rattle.buckets.specs.declared.Index.{Index}
 use Rattle.buckets.specs.ListLine.{fits, printLine, cutLines, listLines, misprintFrom}
 use Rattle.buckets.specs.Bucket.{Pair, Entry, dataBody, printBucket, good, followOn}
 use Rattle.buckets.specs.Held.{bucketWith, headOf, indexOf}
+use Rattle.buckets.specs.Lengths.{lineLength, linesMost, pairsMost, entriesMost, bucketLinesMost, bucketLength}
 use Rattle.buckets.proofs.Lists.{length-printed, lines-of-printed, none-misprinted-of-printed}
 use Rattle.buckets.proofs.ListParts.{every-take, every-drop}
 use Rattle.buckets.proofs.Holding.{bucket-whole}
@@ -26,13 +27,12 @@ use Rattle.cycle.specs.Layouts.{Slot, slot, slots}
 use Rattle.cycle.specs.Cycle.{pairs, entry, entries, followOnFrom}
 use Rattle.cycle.specs.declared.Figures.{Figures}
 use Rattle.cycle.specs.declared.Source.the-variants.{List as InList}
-use Rattle.cycle.specs.Held.{planOf, Sending, linesHeld, planIn, Stand, treeAt, cycleBucket, asIndex, written, lastSentBefore}
+use Rattle.cycle.specs.Held.{planOf, Sending, linesHeld, planIn, Stand, cycleBucket, asIndex, written, lastSentBefore}
 use Rattle.cycle.proofs.Ranges.{le-or-lt}
 use Rattle.cycle.proofs.TreeLaws.{up-lt}
 use Rattle.cycle.proofs.Shapes.{stand-shape, children-shape}
 use Rattle.cycle.proofs.Positions.{At, stand-at, index-at, data-at}
 use Rattle.cycle.proofs.Stands.{stand-fits}
-use Rattle.cycle.proofs.ChildTrees.{tree-parts}
 use Rattle.cycle.proofs.WholeIndex.{good-held}
 use Rattle.cycle.proofs.Sendable.{sending-lines}
 use Rattle.cycle.proofs.Sending.{plan-in, long-in, good-in, bucket-in, head-in, lines-fit, lines-text}
@@ -40,8 +40,8 @@ use Rattle.cycle.proofs.Written.{written-one}
 
 -- what is held of an index bucket of the cycle
 pub record HeldAt (t : Plan) (x c : ℕ) : Type 0 where
-  pub few-pairs : asIndex (cycleBucket t x .body) .pairs ≤ 4
-  pub few-entries : asIndex (cycleBucket t x .body) .entries ≤ 8
+  pub few-pairs : asIndex (cycleBucket t x .body) .pairs ≤ pairsMost
+  pub few-entries : asIndex (cycleBucket t x .body) .entries ≤ entriesMost
   pub entries-are : asIndex (cycleBucket t x .body) .entries ≡ c
   pub whole : bucketWith (headOf (cycleBucket t x)) (indexOf (asIndex (cycleBucket t x .body))) ≡ cycleBucket t x
 
@@ -82,17 +82,11 @@ module _ (f : Figures) (list : List ℕ) (s : Sending f list) where
       subst (λ cs. HeldAt (planIn f InList list) x (length cs)) (children-shape f (linesHeld f InList list) [] i j)
       (held-at (stand-at {i = i} {j = j} (stand-in st)) h (good-in f list s x (below-size st)))
 
-  pub tree-held-at :
-      (x e j : ℕ) → 1 ≤ e → e ≤ f .k → Stand (planOf f []) x (treeAt (planOf f []) e j) →
-      HeldAt (planIn f InList list) x (length (children (planOf f []) (f .k + 1 - e) j))
-  tree-held-at x e j low high st =
-      index-held-at x (f .k + 1 - e) j (subst (Stand (planOf f []) x) (tree-parts f e j low high) st) (omega arith)
-
   module _ (x : ℕ) (below : x < f .size) (d : List ℕ) (room : 240 * f .size ≤ length d) (head : Head)
       (head-is : head ≡ headOf (cycleBucket (planOf f []) x)) where
     pub index-written :
         (index : Index) (c : ℕ) → index ≡ asIndex (cycleBucket (planIn f InList list) x .body) → HeldAt (planIn f InList list) x c →
-        put d (240 * x) (printBucket (bucketWith head (indexOf index))) ≡ written (planIn f InList list) d x (x + 1)
+        put d (bucketLength * x) (printBucket (bucketWith head (indexOf index))) ≡ written (planIn f InList list) d x (x + 1)
     index-written index c is held =
         let whole : bucketWith head (indexOf index) ≡ cycleBucket (planIn f InList list) x =
         ap₂ (λ (h : Head) (i : Index). bucketWith h (indexOf i)) (head-is ∙ head-in f list s x below) is ∙ held .whole in
@@ -104,7 +98,7 @@ module _ (f : Figures) (list : List ℕ) (s : Sending f list) where
     pub data-written :
         (q follow : ℕ) (ls : List Line) → Stand (planOf f []) x (slot (f .k + 1) q ∷ []) →
         follow ≡ followOn (cycleBucket (planIn f InList list) x .body) → ls ≡ linesOf (planIn f InList list) q →
-        put d (240 * x) (printBucket (bucketWith head (dataBody follow ls))) ≡ written (planIn f InList list) d x (x + 1)
+        put d (bucketLength * x) (printBucket (bucketWith head (dataBody follow ls))) ≡ written (planIn f InList list) d x (x + 1)
     unfolding planIn planOf
     data-written q follow ls st is lines =
         let t : Plan = planIn f InList list in
@@ -120,17 +114,17 @@ module _ (f : Figures) (list : List ℕ) (s : Sending f list) where
   -- the lines of data bucket q, as they stand in the list
   pub record DataText (q from end : ℕ) : Type 0 where
     pub low : q * f .p < f .lines
-    pub next : (q + 1) * f .p ≤ 40008
-    pub few-all : f .lines ≤ 40000
+    pub next : (q + 1) * f .p ≤ linesMost + bucketLinesMost
+    pub few-all : f .lines ≤ linesMost
     pub ordered : from ≤ end
     pub within : end ≤ length list
-    pub few : length (take (end - from) (drop from list)) ≤ 216
-    pub whole-lines : length (take (end - from) (drop from list)) % 27 ≡ 0
+    pub few : length (take (end - from) (drop from list)) ≤ bucketLinesMost * lineLength
+    pub whole-lines : length (take (end - from) (drop from list)) % lineLength ≡ 0
     pub printed : misprintFrom 0 (cutLines (take (end - from) (drop from list))) ≡ none
     pub lines-are : listLines (take (end - from) (drop from list)) ≡ linesOf (planIn f InList list) q
 
   pub data-text :
-      (q from end : ℕ) → q < f .d → from ≡ 27 * (q * f .p) → end ≡ 27 * min (f .lines) ((q + 1) * f .p) → DataText q from end
+      (q from end : ℕ) → q < f .d → from ≡ lineLength * (q * f .p) → end ≡ lineLength * min (f .lines) ((q + 1) * f .p) → DataText q from end
   data-text q from end h from-is end-is =
       let a : ℕ = q * f .p in
       let shaped = s .ready .shaped in
@@ -140,15 +134,15 @@ module _ (f : Figures) (list : List ℕ) (s : Sending f list) where
       let in-d : q < up (f .lines) (f .p) = omega (arith, shaped .d-is) in
       let low : a < f .lines = up-lt (f .lines) (f .p) q (omega arith) in-d in
       let c : ℕ = min (f .lines) ((q + 1) * f .p) - a in
-      let span-is : end - from ≡ 27 * c = omega arith in
+      let span-is : end - from ≡ lineLength * c = omega arith in
       let ls : List Line = listLines list in
       let long : length ls ≡ f .lines = sending-lines f list s in
-      let few-lines : c ≤ 8 = omega arith in
+      let few-lines : c ≤ bucketLinesMost = omega arith in
       let ms : List Line = take c (drop a ls) in
       let text : take (end - from) (drop from list) ≡ joined printLine ms =
       ap₂ (λ w k. take w (drop k list)) span-is from-is ∙ lines-text f list s a c (omega arith) in
       let fit : every fits ms ≡ true = every-take fits c (drop a ls) (every-drop fits a ls (lines-fit f list s)) in
-      let size : length (joined printLine ms) ≡ length ms * 27 = length-printed ms in
+      let size : length (joined printLine ms) ≡ length ms * lineLength = length-printed ms in
       let rest : length (drop a ls) ≡ length ls - a = length-drop a ls in
       let count : length ms ≡ min c (length (drop a ls)) = length-take c (drop a ls) in
       let same : ms ≡ take (f .p) (drop a ls) = taken-most c (f .p) (drop a ls) (omega arith) in
@@ -159,7 +153,7 @@ module _ (f : Figures) (list : List ℕ) (s : Sending f list) where
         ordered = omega arith;
         within = omega (arith, s .whole);
         few = rw text (omega arith);
-        whole-lines = rw (text, size) (mul-mod-left (length ms) 27);
+        whole-lines = rw (text, size) (mul-mod-left (length ms) lineLength);
         printed = rw text (none-misprinted-of-printed ms fit);
         lines-are = ap listLines text ∙ lines-of-printed ms fit ∙ same ∙ lines-there;
       }

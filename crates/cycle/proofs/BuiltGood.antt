@@ -8,6 +8,7 @@ use mathlib.Core.List.{List, [], _∷_, _++_}
 use lib.ListN.{length, length-append}
 use Rattle.columns.specs.Lists.{pick}
 use Rattle.buckets.specs.Bucket.{indexBody, dataBody, good}
+use Rattle.buckets.specs.Lengths.{bucketsMost}
 use Rattle.buckets.proofs.Good.{Reaches, GoodBody, Good, good-bucket}
 use Rattle.cycle.specs.Tree.{Plan, linesOf, lastTag}
 use Rattle.cycle.specs.Layouts.{Slot, slots}
@@ -22,7 +23,7 @@ use Rattle.cycle.proofs.DataGood.{good-data}
 use Rattle.cycle.proofs.IndexGood.{good-index}
 
 module _
-    (t : Plan) (a : Accepted t) (short : cycleSize t ≤ 99999) (before : List Slot) (x : Slot) (rest : List Slot)
+    (t : Plan) (a : Accepted t) (short : cycleSize t ≤ bucketsMost) (before : List Slot) (x : Slot) (rest : List Slot)
     (splits : slots t ≡ before ++ (x ∷ rest))
   where
     pub size-split : cycleSize t ≡ length before + suc (length rest)
@@ -67,7 +68,7 @@ module _
               sum (good-rest s);
         }
 
-pub built-good : (t : Plan) → Accepted t → cycleSize t ≤ 99999 → (x : ℕ) → x < cycleSize t → good (cycleBucket t x) ≡ true
+pub built-good : (t : Plan) → Accepted t → cycleSize t ≤ bucketsMost → (x : ℕ) → x < cycleSize t → good (cycleBucket t x) ≡ true
 built-good t a short x h =
     let p : Place t x = place-of t x h in
     let is : cycleBucket t x ≡ bucketOf t (length (p .before)) (lastOf t (dataCount t (p .before))) (p .slot) (p .rest) (slots t) =

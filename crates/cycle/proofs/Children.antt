@@ -2,19 +2,20 @@
 -- Assumes nothing.
 use mathlib.Core.Path.{_≡_, refl, sym, ap, subst, _∙_}
 use Prim.Native.Nat.{ℕ, suc, _+_, _-_, _*_, _^_, _≤_, _<_, min}
-use native.Mathlib.Nat.{one-le-pow, mul-le-mul}
+use native.Mathlib.Nat.{mul-le-mul}
 use native.Mathlib.Omega.{arith}
 use mathlib.Core.List.{List, [], _∷_, _++_, append-nil}
 use lib.ListN.{length, length-append}
 use Rattle.columns.specs.Lists.{joined, span, range, up}
 use Rattle.columns.proofs.Joined.{joined-append}
+use Rattle.buckets.specs.Lengths.{linesMost, entriesMost}
 use Rattle.cycle.specs.Tree.{Plan, width, children}
 use Rattle.cycle.specs.Layouts.{slots}
 use Rattle.cycle.specs.Cycle.{occurs, cycleSize}
 use Rattle.cycle.specs.declared.Figures.{Figures}
-use Rattle.cycle.specs.Held.{planOf, InTree, Ready, treeAt, firstPlace}
+use Rattle.cycle.specs.Held.{planOf, InTree, Ready, treeAt, firstPlace, spanMost}
 use Rattle.cycle.proofs.Ranges.{length-range, span-append}
-use Rattle.cycle.proofs.TreeLaws.{up-least, width-up, width-lt, length-children}
+use Rattle.cycle.proofs.TreeLaws.{width-up, width-lt, length-children}
 use Rattle.cycle.proofs.Distances.{distance-all}
 use Rattle.cycle.proofs.Readiness.{Reached, reached}
 
@@ -81,23 +82,17 @@ module _ (f : Figures) (ready : Ready f) (e j : ℕ) (low : 1 ≤ e) (inside : I
   children-count =
       length-children (planOf f []) pos (f .k + 1 - e) j ∙ ap (λ w. min (j * f .n + f .n) w - j * f .n) child-width
 
-  -- the empty list's root has none
-  pub no-children : f .d ≡ 0 → children (planOf f []) (f .k + 1 - e) j ≡ []
-  no-children z =
-      let none : up (f .d) (f .n ^ (e - 1)) ≤ 0 = up-least (f .d) (f .n ^ (e - 1)) 0 (one-le-pow (e - 1) (f .n) pos) (omega arith) in
-      nil-of (children (planOf f []) (f .k + 1 - e) j) (omega (arith, children-count))
-
   pub children-row : children (planOf f []) (f .k + 1 - e) j ≡ span (j * f .n) (length (children (planOf f []) (f .k + 1 - e) j))
   unfolding children planOf
   children-row =
       ap (span (j * f .n)) (sym (length-range (j * f .n) (min (j * f .n + f .n) (width (planOf f []) childLevel))))
 
-  pub first-small : j * f .n ≤ 320000
+  pub first-small : j * f .n ≤ spanMost
   first-small =
-      let h : j * f .n ≤ 40000 * 8 = mul-le-mul {n₂ = 40000} {m₂ = 8} (bucket .place) (ready .shaped .n-high) in omega arith
+      let h : j * f .n ≤ linesMost * entriesMost = mul-le-mul {n₂ = linesMost} {m₂ = entriesMost} (bucket .place) (ready .shaped .n-high) in omega arith
 
   module _ (i : ℕ) (among : i < length (children (planOf f []) (f .k + 1 - e) j)) where
-    pub few : i < 8
+    pub few : i < entriesMost
     few = omega (arith, children-count, ready .shaped .n-high)
 
     pub within : j * f .n + i < width (planOf f []) childLevel

@@ -15,20 +15,21 @@ use Rattle.buckets.specs.declared.Head.{Head}
 use Rattle.buckets.specs.declared.Index.{Index}
 use Rattle.buckets.specs.Bucket.{printBucket, readBucket, good, followOn}
 use Rattle.buckets.specs.Held.{headOf, asReading, indexOf, bucketWith}
+use Rattle.buckets.specs.Lengths.{tagWidth, bucketLength, linesStart, bucketsMost}
 use Rattle.cycle.specs.Tree.{Plan, above, children, lastTag, firstTag}
 use Rattle.cycle.specs.Layouts.{slot}
-use Rattle.cycle.specs.Cycle.{cycleSize}
+use Rattle.cycle.specs.Cycle.{cycleSize, bucketAt}
 use Rattle.cycle.specs.declared.Figures.{Figures}
 use Rattle.cycle.specs.declared.Segment.{Segment}
 use Rattle.cycle.specs.declared.Source.the-variants.{Image as InImage}
 use Rattle.cycle.specs.Held.{planOf, Ready, Stand, Placed, firstPlace, treeAt, linesHeld, planIn, cycleBucket, asIndex, TreePlace}
-use Rattle.cycle.specs.Comparing.{Decides, bucketBytes, RisesAt, MatchesAt, Matches, DataMatches, Followed, Comparing, Checking}
+use Rattle.cycle.specs.Comparing.{Decides, RisesAt, MatchesAt, Matches, DataMatches, Followed, Comparing, Checking}
 use Rattle.cycle.proofs.SegmentParts.{Seated, seated, path-size, path-layout, path-there, path-high, data-there}
 use Rattle.cycle.proofs.TreePlaces.{tree-before, bucket-stands}
 use Rattle.cycle.proofs.Deciding.{decides-by}
 use Rattle.cycle.proofs.SentLines.{follow-last, follow-next}
 use Rattle.cycle.proofs.ImageText.{Seam, seam}
-use Rattle.cycle.proofs.BucketsCompared.{DataFacts, index-held-in, index-decided, held-here, data-decided}
+use Rattle.cycle.proofs.BucketsCompared.{DataFacts, index-held-in, index-decided, bucket-decided, held-here, data-decided}
 use Rattle.cycle.proofs.BucketsWritten.{HeldAt}
 use Rattle.cycle.proofs.BuiltGood.{built-good}
 use Rattle.cycle.proofs.Matching.{datas-part, datas-on, datas-to}
@@ -49,7 +50,7 @@ module _ (f : Figures) (bytes : List ℕ) (s : Segment) (w : Comparing f bytes s
   placed-in = w .placed (linesHeld f InImage bytes)
 
   -- a bucket of the segment is in the image
-  pub room-at : (x : ℕ) → x < s .end → (240 * x + 240 ≤ length bytes) × (x ≤ 99999)
+  pub room-at : (x : ℕ) → x < s .end → (bucketLength * x + bucketLength ≤ length bytes) × (x ≤ bucketsMost)
   room-at x h = (omega (arith, seats, w .holding .long), omega (arith, seats))
 
   -- the path bucket of level i
@@ -64,7 +65,7 @@ module _ (f : Figures) (bytes : List ℕ) (s : Segment) (w : Comparing f bytes s
       (q x : ℕ) → s .first ≤ q → q < s .last → x ≡ s .«data_at» + (q - s .first) → (head : Head) (count follow : ℕ) (r : Bool) →
       head ≡ headOf (cycleBucket (planOf f []) x) → count ≡ min (f .p) (f .lines - q * f .p) →
       follow ≡ followOn (cycleBucket (planIn f InImage bytes) x .body) →
-      Decides (DataFacts (asReading (readBucket (bucketBytes bytes x))) head count follow × RisesAt (planIn f InImage bytes) q) r →
+      Decides (DataFacts (asReading (readBucket (bucketAt bytes x))) head count follow × RisesAt (planIn f InImage bytes) q) r →
       Decides (MatchesAt (planIn f InImage bytes) bytes x) r
   data-bucket-decided q x low high is head count follow r head-is count-is follow-is d =
       let there = data-there f s ready-in (w .placed) [] q low high in
@@ -84,7 +85,7 @@ module _ (f : Figures) (bytes : List ℕ) (s : Segment) (w : Comparing f bytes s
 
     -- the tags that meet
     module _ (last first : ℕ) (next : q + 1 < f .d) (last-is : last ≡ lastTag (planIn f InImage bytes) q)
-        (first-is : first ≡ value 0 (take 10 (drop (240 * firstPlace (planOf f []) (f .k + 1) (q + 1) + 29) bytes))) where
+        (first-is : first ≡ value 0 (take tagWidth (drop (bucketLength * firstPlace (planOf f []) (f .k + 1) (q + 1) + linesStart) bytes))) where
       meets : Seam f bytes (w .holding) q
       meets = seam f bytes (w .holding) q next
 
@@ -181,16 +182,10 @@ module _ (f : Figures) (bytes : List ℕ) (s : Segment) (k : Checking f bytes s)
         Stand (planOf f []) x (slot (f .k + 1 - e) j ∷ joined (treeAt (planOf f []) (e - 1)) (children (planOf f []) (f .k + 1 - e) j))
     tree-here = bucket-stands f s (k .comparing .holding .ready) (k .comparing .placed) e j x p
 
-    pub tree-held : HeldAt plan-read x (length (children (planOf f []) (f .k + 1 - e) j))
-    tree-held =
-        index-held-in f bytes (k .comparing .holding .ready) x (f .k + 1 - e) j tree-here (omega (arith, p .low)) (good-at x tree-below)
-
     pub tree-decided :
-        (head : Head) (index : Index) (r : Bool) → head ≡ headOf (cycleBucket (planOf f []) x) →
-        index ≡ asIndex (cycleBucket plan-read x .body) →
-        Decides (bucketBytes bytes x ≡ printBucket (bucketWith head (indexOf index))) r → Decides (MatchesAt plan-read bytes x) r
+        (r : Bool) → Decides (bucketAt bytes x ≡ printBucket (cycleBucket plan-read x)) r → Decides (MatchesAt plan-read bytes x) r
     tree-decided =
-        index-decided f bytes (k .comparing .holding .ready) x (f .k + 1 - e) j tree-here (omega (arith, p .low)) (good-at x tree-below) tree-below
+        bucket-decided f bytes (k .comparing .holding .ready) x (f .k + 1 - e) j tree-here (omega (arith, p .low)) (good-at x tree-below)
 
   -- the path bucket of level i
   module _ (i x : ℕ) (low : s .top ≤ i) (high : i ≤ f .copies) (is : x ≡ s .start + (i - s .top)) where
@@ -215,7 +210,7 @@ module _ (f : Figures) (bytes : List ℕ) (s : Segment) (k : Checking f bytes s)
     pub path-decided :
         (head : Head) (index : Index) (r : Bool) → head ≡ headOf (cycleBucket (planOf f []) x) →
         index ≡ asIndex (cycleBucket plan-read x .body) →
-        Decides (bucketBytes bytes x ≡ printBucket (bucketWith head (indexOf index))) r → Decides (MatchesAt plan-read bytes x) r
+        Decides (bucketAt bytes x ≡ printBucket (bucketWith head (indexOf index))) r → Decides (MatchesAt plan-read bytes x) r
     path-decided =
         index-decided f bytes (k .comparing .holding .ready) x i (above (f .n) (f .copies + 1 - i) (s .number)) path-here
         (omega (arith, path-high f s (k .comparing .holding .ready) (k .comparing .placed) one)) (good-at x path-below-size) path-below-size

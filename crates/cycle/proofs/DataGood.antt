@@ -13,6 +13,7 @@ use Rattle.columns.proofs.Strict.{both}
 use Rattle.buckets.specs.declared.Line.{Line}
 use Rattle.buckets.specs.ListLine.{tagFits, fits}
 use Rattle.buckets.specs.Bucket.{pairTagFits}
+use Rattle.buckets.specs.Lengths.{tagMost, bucketLinesMost}
 use Rattle.buckets.proofs.ListLines.{line-fits, small-tag}
 use Rattle.buckets.proofs.Good.{GoodData}
 use Rattle.buckets.proofs.ListParts.{every-take, every-drop}
@@ -28,7 +29,7 @@ use Rattle.cycle.proofs.Accepted.{Accepted, laid}
 
 -- ---- tags in range
 
-pub last-small : (m : ℕ) (ls : List Line) → m ≤ 4294967295 → every fits ls ≡ true → lastFrom m ls ≤ 4294967295
+pub last-small : (m : ℕ) (ls : List Line) → m ≤ tagMost → every fits ls ≡ true → lastFrom m ls ≤ tagMost
 last-small m [] h e = h
 last-small m (l ∷ ls) h e =
     let told = both (fits l) (every fits ls) e in
@@ -55,7 +56,7 @@ module _ (t : Plan) (a : Accepted t) where
   pub some-lines : (q : ℕ) → q < t .d → 1 ≤ length (linesOf t q)
   some-lines q h = let f : Filled t q = filled t (laid t a) q h in rw (f .is) (omega arith)
 
-  pub few-lines : (q : ℕ) → length (linesOf t q) ≤ 8
+  pub few-lines : (q : ℕ) → length (linesOf t q) ≤ bucketLinesMost
   few-lines q = rw (lines-of, length-take) (omega (arith, a .p-high))
 
 -- ---- the follow-on

@@ -8,6 +8,7 @@ use native.Mathlib.Omega.{arith}
 use mathlib.Core.List.{List, []}
 use lib.Arith.{digits-div}
 use Rattle.buckets.specs.declared.Line.{Line}
+use Rattle.buckets.specs.Lengths.{bucketsMost}
 use Rattle.cycle.specs.declared.Figures.{Figures}
 use Rattle.cycle.specs.declared.Segment.{Segment}
 use Rattle.cycle.specs.Held.{planOf, Ready, InTree, Placed, Under, firstPlace}
@@ -44,7 +45,7 @@ module _ (f : Figures) (ready : Ready f) (one : f .layout ≡ 1) (j i : ℕ) (am
 pub record Row (f : Figures) (s : Segment) (j : ℕ) : Type 0 where
   pub low : s .first ≤ j * f .n
   pub there : firstPlace (planOf f []) (f .k + 1) (j * f .n) ≡ s .«data_at» + (j * f .n - s .first)
-  pub inside : s .«data_at» + (j * f .n - s .first) ≤ 99999
+  pub inside : s .«data_at» + (j * f .n - s .first) ≤ bucketsMost
 
 pub row-room :
     (f : Figures) (s : Segment) → Ready f → ((ls : List Line) → Placed (planOf f ls) s) → f .layout ≡ 1 → 1 ≤ f .d → (j : ℕ) → InTree f 1 j → Under f s 1 j →

@@ -8,6 +8,7 @@ use native.Mathlib.Omega.{arith}
 use mathlib.Core.List.{[]}
 use lib.ListN.{length}
 use Rattle.columns.specs.Lists.{joined, span}
+use Rattle.buckets.specs.Lengths.{linesMost, pairsMost, bucketsMost}
 use Rattle.cycle.specs.Tree.{Plan, width}
 use Rattle.cycle.specs.Layouts.{pathTop, distributedSegment}
 use Rattle.cycle.specs.declared.Figures.{Figures}
@@ -21,11 +22,11 @@ use Rattle.cycle.proofs.FirstPlaces.{first-inside, first-top, first-pla
 
 -- bucket j of a level up to r + 1, and the number b of the segment where it stands first
 pub record First (f : Figures) (level j b : ℕ) : Type 0 where
-  pub few : f .copies ≤ 4
-  pub small : b ≤ 40000
+  pub few : f .copies ≤ pairsMost
+  pub small : b ≤ linesMost
   pub among : b < segmentCount (planOf f [])
   pub top : pathTop (f .n) (f .copies) b ≤ level
-  pub starts : blockAt f b ≤ 99999
+  pub starts : blockAt f b ≤ bucketsMost
   pub is : firstPlace (planOf f []) level j ≡ blockAt f b + (level - pathTop (f .n) (f .copies) b)
 
 pub first-held :

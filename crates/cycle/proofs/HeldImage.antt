@@ -11,15 +11,16 @@ use lib.Seq.{ext-getD, getD-take, getD-drop}
 use Rattle.columns.specs.Lists.{up}
 use Rattle.buckets.specs.declared.Line.{Line}
 use Rattle.buckets.specs.ListLine.{spelled, listLines}
+use Rattle.buckets.specs.Lengths.{linesMost, bucketLength, bucketsMost}
 use Rattle.cycle.specs.Tree.{Settings, Plan, plan, dataBuckets, levels, linesOf, lastTag}
 use Rattle.cycle.specs.Layouts.{Slot}
-use Rattle.cycle.specs.Cycle.{followOnFrom, cycleSize, image}
+use Rattle.cycle.specs.Cycle.{followOnFrom, cycleSize, image, bucketAt}
 use Rattle.cycle.specs.Building.{copiesFit}
 use Rattle.cycle.specs.ReadingBack.{Builds}
 use Rattle.cycle.specs.declared.Figures.{Figures}
 use Rattle.cycle.specs.declared.Source.the-variants.{Image as InImage}
 use Rattle.cycle.specs.Held.{planOf, Shaped, firstPlace, linesHeld, planIn, cycleBucket}
-use Rattle.cycle.specs.Comparing.{bucketBytes, Matches, RisesAt, counted}
+use Rattle.cycle.specs.Comparing.{Matches, RisesAt, counted}
 use Rattle.cycle.proofs.TreeLaws.{up-covers}
 use Rattle.cycle.proofs.Rising.{Rising, rising-take}
 use Rattle.cycle.proofs.Shapes.{firstPlace-shape}
@@ -31,7 +32,8 @@ use Rattle.cycle.proofs.Outcomes.{answered, accepted}
 use Rattle.cycle.proofs.BuiltGood.{built-good}
 use Rattle.cycle.proofs.BuiltImage.{image-bucket, image-reads}
 use Rattle.cycle.proofs.LineCount.{counted-lines}
-use Rattle.cycle.proofs.ImageLines.{data-placed, lineBytes, printed-spells, length-held, held-line}
+use Rattle.buckets.specs.BucketLines.{lineBytes}
+use Rattle.cycle.proofs.ImageLines.{data-placed, printed-spells, length-held, held-line}
 
 -- a bucket that is sent is within the cycle
 pub at-below : {t : Plan} {x i j : ℕ} {xs : List Slot} → At t x i j xs → x < cycleSize t
@@ -74,9 +76,9 @@ no-fall t a q h =
     let c : Rising (lastTag t q) (g .line ∷ g .more) = subst (Rising (lastTag t q)) (g .is) b in
     rw (next, g .first-is) (c .0)
 
-module _ (f : Figures) (ls : List Line) (a : Accepted (planOf f ls)) (short : cycleSize (planOf f ls) ≤ 99999) (count : length ls ≡ f .lines) where
+module _ (f : Figures) (ls : List Line) (a : Accepted (planOf f ls)) (short : cycleSize (planOf f ls) ≤ bucketsMost) (count : length ls ≡ f .lines) where
   pub held-built : linesHeld f InImage (image (planOf f ls)) ≡ ls
-  unfolding planOf bucketBytes
+  unfolding planOf bucketAt
   held-built =
       let t : Plan = planOf f ls in
       let bytes : List ℕ = image t in
@@ -92,14 +94,14 @@ module _ (f : Figures) (ls : List Line) (a : Accepted (planOf f ls)) (short : cy
       let x : ℕ = firstPlace t (f .k + 1) q in
       let in-cycle : x < cycleSize t = at-below there in
       held-line f bytes z i below (a .sound .full) (a .p-high)
-      ∙ ap (λ y. spelled (lineBytes (bucketBytes bytes y) m)) (firstPlace-shape f [] ls (f .k + 1) q)
+      ∙ ap (λ y. spelled (lineBytes (bucketAt bytes y) m)) (firstPlace-shape f [] ls (f .k + 1) q)
       ∙ ap (λ s. spelled (lineBytes s m)) (image-bucket t a short x in-cycle)
       ∙ printed-spells (cycleBucket t x) (followOnFrom t (lastTag t q) 1 (there .next ++ there .behind)) (linesOf t q) z m
       (built-good t a short x in-cycle) (data-at there refl) (place-in-bucket t i (a .sound .full) inside)
       ∙ line-by-bucket t z i (a .sound .full))
 
   pub matches-built : Matches (planOf f ls) (image (planOf f ls)) 0 (cycleSize (planOf f ls))
-  unfolding bucketBytes
+  unfolding bucketAt
   matches-built =
       record {
         each = λ x low high. record { reads = image-reads (planOf f ls) a short x high; rises = λ q e. no-fall (planOf f ls) a q };
@@ -135,7 +137,7 @@ plan-same s f ls g e =
 -- what is then found
 pub record BuiltFrom (f : Figures) (bytes list : List ℕ) : Type 0 where
   pub copies-fit : copiesFit (planOf f []) ≡ true
-  pub size-is : cycleSize (planOf f (listLines list)) ≡ length bytes / 240
+  pub size-is : cycleSize (planOf f (listLines list)) ≡ length bytes / bucketLength
   pub lines-are : linesHeld f InImage bytes ≡ listLines list
   pub matches : Matches (planIn f InImage bytes) bytes 0 (cycleSize (planOf f (listLines list)))
 
@@ -143,23 +145,23 @@ module _ (s : Settings) (bytes list : List ℕ) (b : Builds s list bytes) where
   pub built-lines : counted (s .p) bytes ≡ length (listLines list)
   unfolding plan
   built-lines =
-      let o = answered s list (length bytes) (length bytes / 240) (b .answers) in
+      let o = answered s list (length bytes) (length bytes / bucketLength) (b .answers) in
       let t : Plan = plan s (listLines list) in
       ap (counted (s .p)) (sym (sym (o .output-is) ∙ b .writes))
-      ∙ counted-lines t (accepted s list (length bytes) (length bytes / 240) (b .answers)) (o .short)
+      ∙ counted-lines t (accepted s list (length bytes) (length bytes / bucketLength) (b .answers)) (o .short)
 
-  pub few-lines : length (listLines list) ≤ 40000
+  pub few-lines : length (listLines list) ≤ linesMost
   unfolding plan
-  few-lines = accepted s list (length bytes) (length bytes / 240) (b .answers) .few-lines
+  few-lines = accepted s list (length bytes) (length bytes / bucketLength) (b .answers) .few-lines
 
   pub built-from : (f : Figures) → Figured s f → f .lines ≡ length (listLines list) → BuiltFrom f bytes list
   unfolding planIn
   built-from f g e =
       let ls : List Line = listLines list in
-      let o = answered s list (length bytes) (length bytes / 240) (b .answers) in
+      let o = answered s list (length bytes) (length bytes / bucketLength) (b .answers) in
       let same : planOf f ls ≡ plan s ls = plan-same s f ls g (sym e) in
-      let fine : Accepted (planOf f ls) = subst Accepted (sym same) (accepted s list (length bytes) (length bytes / 240) (b .answers)) in
-      let short : cycleSize (planOf f ls) ≤ 99999 = rw same (o .short) in
+      let fine : Accepted (planOf f ls) = subst Accepted (sym same) (accepted s list (length bytes) (length bytes / bucketLength) (b .answers)) in
+      let short : cycleSize (planOf f ls) ≤ bucketsMost = rw same (o .short) in
       let text : image (planOf f ls) ≡ bytes = ap image same ∙ (sym (o .output-is) ∙ b .writes) in
       let held : linesHeld f InImage bytes ≡ ls = ap (linesHeld f InImage) (sym text) ∙ held-built f ls fine short (sym e) in
       record {

@@ -16,16 +16,19 @@ use Rattle.columns.proofs.Joined.{map-at, joined-at, every-at}
 use Rattle.buckets.specs.declared.Line.{Line}
 use Rattle.buckets.specs.ListLine.{fits, figures, spelled}
 use Rattle.buckets.specs.Bucket.{dataBody, Bucket, printHead, printBody, printBucket, good}
+use Rattle.buckets.specs.Lengths.{newline, tagWidth, tareWidth, codeWidth, weighingWidth, tagStart, tareStart, codeStart}
+use Rattle.buckets.specs.Lengths.{weighingStart, figuresWidth, bucketLinesMost, bucketLength, linesStart, linesWidth}
 use Rattle.buckets.proofs.ListLines.{length-figures, spelled-alone}
 use Rattle.buckets.proofs.Good.{GoodData, bucket-good}
 use Rattle.buckets.proofs.Buckets.{length-printHead}
+use Rattle.buckets.specs.BucketLines.{lineBytes}
+use Rattle.buckets.proofs.BucketLines.{printed-line}
 use Rattle.cycle.specs.Tree.{Plan}
 use Rattle.cycle.specs.Layouts.{Slot, slots}
-use Rattle.cycle.specs.Cycle.{isData}
+use Rattle.cycle.specs.Cycle.{isData, bucketAt}
 use Rattle.cycle.specs.declared.Figures.{Figures}
 use Rattle.cycle.specs.declared.Source.the-variants.{Image as InImage}
 use Rattle.cycle.specs.Held.{planOf, firstPlace, lineAt, linesHeld}
-use Rattle.cycle.specs.Comparing.{bucketBytes}
 use Rattle.cycle.proofs.Ranges.{length-range, getD-range}
 use Rattle.cycle.proofs.Sequence.{dataCount, Keeps}
 use Rattle.cycle.proofs.Suffixes.{data-occurs}
@@ -68,45 +71,27 @@ part-of-front (suc j) w zero s h = absurd (omega arith)
 part-of-front (suc j) w (suc m) [] h = refl
 part-of-front (suc j) w (suc m) (x ∷ s) h = part-of-front j w m s (omega arith)
 
-pub spelled-front : (w : ℕ) (s : List ℕ) → 26 ≤ w → spelled (ListN.take w s) ≡ spelled s
+pub spelled-front : (w : ℕ) (s : List ℕ) → figuresWidth ≤ w → spelled (ListN.take w s) ≡ spelled s
 unfolding spelled
 spelled-front w s h =
     λ i. record {
-      tag = value 0 (part-of-front 0 10 w s (omega arith) i);
-      tare = value 0 (part-of-front 10 6 w s (omega arith) i);
-      code = value 0 (part-of-front 16 4 w s (omega arith) i);
-      weighing = value 0 (part-of-front 20 6 w s (omega arith) i);
+      tag = value 0 (part-of-front tagStart tagWidth w s (omega arith) i);
+      tare = value 0 (part-of-front tareStart tareWidth w s (omega arith) i);
+      code = value 0 (part-of-front codeStart codeWidth w s (omega arith) i);
+      weighing = value 0 (part-of-front weighingStart weighingWidth w s (omega arith) i);
     }
 
 -- a bucket lent as a part of the image
-pub part-bytes : (image : List ℕ) (x : ℕ) → ListN.take (240 * x + 240 - 240 * x) (drop (240 * x) image) ≡ bucketBytes image x
-unfolding bucketBytes
-part-bytes image x = let e : 240 * x + 240 - 240 * x ≡ 240 = omega arith in rw e
-
--- line m of a bucket's bytes
-unfoldable pub lineBytes : List ℕ → ℕ → List ℕ
-lineBytes s m = ListN.take 26 (drop (29 + 26 * m) s)
+pub part-bytes : (image : List ℕ) (x : ℕ) → ListN.take (bucketLength * x + bucketLength - bucketLength * x) (drop (bucketLength * x) image) ≡ bucketAt image x
+unfolding bucketAt
+part-bytes image x = let e : bucketLength * x + bucketLength - bucketLength * x ≡ bucketLength = omega arith in rw e
 
 -- the same, of the image
-pub image-line : (image : List ℕ) (x m : ℕ) → m < 8 → ListN.take 26 (drop (240 * x + (29 + 26 * m)) image) ≡ lineBytes (bucketBytes image x) m
-unfolding lineBytes bucketBytes
+pub image-line : (image : List ℕ) (x m : ℕ) → m < bucketLinesMost → ListN.take figuresWidth (drop (bucketLength * x + (linesStart + figuresWidth * m)) image) ≡ lineBytes (bucketAt image x) m
+unfolding lineBytes bucketAt
 image-line image x m h =
-    ap (ListN.take 26) (sym (drop-drop (29 + 26 * m) (240 * x) image))
-    ∙ sym (part-of-front (29 + 26 * m) 26 240 (drop (240 * x) image) (omega arith))
-
--- a printed data bucket has its lines there
-pub printed-line :
-    (b : Bucket) (f : ℕ) (ls : List Line) (z : Line) (m : ℕ) → b .body ≡ dataBody f ls → m < length ls →
-    lineBytes (printBucket b) m ≡ figures (getD ls m z)
-unfolding lineBytes printBucket padded
-printed-line b f ls z m e h =
-    let body : List ℕ = joined figures ls ++ ListN.replicate (210 - length (joined figures ls)) 32 in
-    let at : 29 + 26 * m ≡ length (printHead b) + m * 26 = omega (arith, length-printHead b) in
-    let whole : printHead b ++ (printBody (b .body) ++ 10 ∷ []) ≡ printHead b ++ (joined figures ls ++ (ListN.replicate (210 - length (joined figures ls)) 32 ++ 10 ∷ [])) =
-    ap (λ x. printHead b ++ (printBody x ++ 10 ∷ [])) e
-    ∙ ap (λ s. printHead b ++ s) (append-assoc (joined figures ls) (ListN.replicate (210 - length (joined figures ls)) 32) (10 ∷ [])) in
-    rw (whole, at, drop-append-add (printHead b) (joined figures ls ++ (ListN.replicate (210 - length (joined figures ls)) 32 ++ 10 ∷ [])) (m * 26))
-    (joined-at figures 26 length-figures z ls (ListN.replicate (210 - length (joined figures ls)) 32 ++ 10 ∷ []) m h)
+    ap (ListN.take figuresWidth) (sym (drop-drop (linesStart + figuresWidth * m) (bucketLength * x) image))
+    ∙ sym (part-of-front (linesStart + figuresWidth * m) figuresWidth bucketLength (drop (bucketLength * x) image) (omega arith))
 
 pub printed-spells :
     (b : Bucket) (f : ℕ) (ls : List Line) (z : Line) (m : ℕ) → good b ≡ true → b .body ≡ dataBody f ls → m < length ls →
@@ -123,8 +108,8 @@ module _ (f : Figures) (image : List ℕ) where
   length-held = length-map (range 0 (f .lines)) (λ i. spelled (drop (lineAt (planOf f []) InImage i) image)) ∙ (length-range 0 (f .lines) ∙ omega arith)
 
   pub held-line :
-      (z : Line) (i : ℕ) → i < f .lines → 1 ≤ f .p → f .p ≤ 8 →
-      getD (linesHeld f InImage image) i z ≡ spelled (lineBytes (bucketBytes image (firstPlace (planOf f []) (f .k + 1) (i / f .p))) (i % f .p))
+      (z : Line) (i : ℕ) → i < f .lines → 1 ≤ f .p → f .p ≤ bucketLinesMost →
+      getD (linesHeld f InImage image) i z ≡ spelled (lineBytes (bucketAt image (firstPlace (planOf f []) (f .k + 1) (i / f .p))) (i % f .p))
   unfolding linesHeld planOf
   held-line z i h low high =
       let g : ℕ → Line = λ j. spelled (drop (lineAt (planOf f []) InImage j) image) in
@@ -134,5 +119,5 @@ module _ (f : Figures) (image : List ℕ) where
       let same : 0 + i ≡ i = omega arith in
       map-at g (range 0 (f .lines)) i 0 z (omega arith)
       ∙ ap g (getD-range 0 0 (f .lines) i (omega arith) ∙ same)
-      ∙ sym (spelled-front 26 (drop (240 * x + (29 + 26 * (i % f .p))) image) (omega arith))
+      ∙ sym (spelled-front figuresWidth (drop (bucketLength * x + (linesStart + figuresWidth * (i % f .p))) image) (omega arith))
       ∙ ap spelled (image-line image x (i % f .p) (omega arith))

@@ -9,10 +9,11 @@ use native.Mathlib.Omega.{arith}
 use mathlib.Core.List.{List, []}
 use lib.Arith.{digits-div, digits-mod}
 use Rattle.buckets.specs.declared.Line.{Line}
+use Rattle.buckets.specs.Lengths.{figuresWidth, linesStart, bucketLength, bucketsMost, linesMost}
 use Rattle.cycle.specs.declared.Figures.{Figures}
 use Rattle.cycle.specs.declared.Segment.{Segment}
-use Rattle.cycle.specs.Held.{planOf, Shaped, Ready, InTree, Placed, Under, firstPlace}
-use Rattle.cycle.specs.Comparing.{imagePlace}
+use Rattle.cycle.specs.declared.Source.the-variants.{Image as InImage}
+use Rattle.cycle.specs.Held.{planOf, Shaped, Ready, InTree, Placed, Under, firstPlace, tagPlace}
 use Rattle.cycle.proofs.Ranges.{le-or-lt}
 use Rattle.cycle.proofs.TreeLaws.{up-covers}
 use Rattle.cycle.proofs.SentLines.{full-lines}
@@ -77,8 +78,8 @@ last-line-at f s some x pos =
 pub record Room (f : Figures) (s : Segment) (q : ℕ) : Type 0 where
   pub low : s .first ≤ q
   pub lines : q * f .p < f .lines
-  pub inside : s .«data_at» + (q - s .first) ≤ 99999
-  pub all-lines : f .lines ≤ 40000
+  pub inside : s .«data_at» + (q - s .first) ≤ bucketsMost
+  pub all-lines : f .lines ≤ linesMost
 
 module _ (f : Figures) (s : Segment) (ready : Ready f) (placed : (ls : List Line) → Placed (planOf f ls) s) (one : f .layout ≡ 1)
     (some : 1 ≤ f .d) (e j : ℕ) (inside : InTree f e j) (under : Under f s e j) where
@@ -102,16 +103,17 @@ module _ (f : Figures) (s : Segment) (ready : Ready f) (placed : (ls : List Line
   unfolding planOf
   last-high = omega (arith, placed [] .data-under one .1, under .to one, wide, power)
 
-  pub place-there : 240 * (s .«data_at» + (lastData f behind - s .first)) + 26 * lastLines f behind + 3 ≡ imagePlace f e j
-  unfolding imagePlace planOf
+  pub place-there :
+      bucketLength * (s .«data_at» + (lastData f behind - s .first)) + (linesStart + figuresWidth * (lastLines f behind - 1)) ≡ tagPlace f InImage (f .n ^ e) j
+  unfolding tagPlace planOf
   place-there =
       let q : ℕ = lastData f behind in
       let here : firstPlace (planOf f []) (f .k + 1) q ≡ s .«data_at» + (q - s .first) =
       data-here f [] ready (s .«data_at» + (q - s .first)) q (data-there f s ready placed [] q last-low last-high) in
       let at = last-line-there in
       sym
-      (ap₂ (λ u v. 240 * firstPlace (planOf f []) (f .k + 1) u + (29 + 26 * v)) (at .bucket) (at .column)
-      ∙ omega (arith, here, at .some-lines))
+      (ap₂ (λ u v. bucketLength * firstPlace (planOf f []) (f .k + 1) u + (linesStart + figuresWidth * v)) (at .bucket) (at .column)
+      ∙ omega (arith, here))
 
   -- what the code's arithmetic asks of the data bucket
   pub place-room : (q : ℕ) → q ≡ lastData f behind → Room f s q

@@ -9,25 +9,26 @@ use lib.ListN.{take, drop}
 use lib.Seq.{take-take}
 use Rattle.columns.specs.PrintedNumbers.{print}
 use Rattle.buckets.specs.ListLine.{spelled}
+use Rattle.buckets.specs.Lengths.{tagWidth, figuresWidth}
 use Rattle.cycle.specs.declared.Figures.{Figures}
 use Rattle.cycle.specs.declared.Source.the-variants.{Image as InImage}
-use Rattle.cycle.specs.Held.{planOf, planIn, lineAt, tagAt}
-use Rattle.cycle.specs.Comparing.{DataMatches, imagePlace, Holding}
+use Rattle.cycle.specs.Held.{planOf, planIn, lineAt, tagAt, tagPlace, TagsStand}
+use Rattle.cycle.specs.Comparing.{DataMatches, Holding}
 use Rattle.cycle.proofs.LargestTags.{lines-some, largest-tag}
-use Rattle.cycle.proofs.PrintedTags.{TagsStand, first-ten}
+use Rattle.cycle.proofs.PrintedTags.{first-ten}
 use Rattle.cycle.proofs.ImageText.{line-room, line-text}
 
 module _ (f : Figures) (bytes : List ℕ) (w : Holding f bytes) (datas : DataMatches (planIn f InImage bytes) bytes 0 (f .d)) where
-  tag-there : (i : ℕ) → i < f .lines → take 10 (drop (lineAt (planOf f []) InImage i) bytes) ≡ print 10 (tagAt f InImage bytes i)
+  tag-there : (i : ℕ) → i < f .lines → take tagWidth (drop (lineAt (planOf f []) InImage i) bytes) ≡ print tagWidth (tagAt f InImage bytes i)
   unfolding tagAt spelled
   tag-there i h =
-      sym (take-take 10 26 (drop (lineAt (planOf f []) InImage i) bytes) (lit≤ tt))
-      ∙ ap (take 10) (line-text f bytes w datas i h)
+      sym (take-take tagWidth figuresWidth (drop (lineAt (planOf f []) InImage i) bytes) (lit≤ tt))
+      ∙ ap (take tagWidth) (line-text f bytes w datas i h)
       ∙ first-ten (spelled (drop (lineAt (planOf f []) InImage i) bytes))
 
   -- the last line under each bucket
-  pub image-tags : TagsStand f InImage bytes (imagePlace f)
-  unfolding imagePlace
+  pub image-tags : TagsStand f InImage bytes
+  unfolding tagPlace
   image-tags =
       record {
         within = λ e j some inside.
@@ -37,5 +38,5 @@ module _ (f : Figures) (bytes : List ℕ) (w : Holding f bytes) (datas : DataMat
             );
         printed = λ e j some inside.
             tag-there (min (f .lines) ((j + 1) * f .n ^ e * f .p) - 1) (omega (arith, lines-some f e j (w .ready .shaped) some inside))
-            ∙ ap (print 10) (sym (largest-tag f e j (w .ready .shaped) some inside InImage bytes));
+            ∙ ap (print tagWidth) (sym (largest-tag f e j (w .ready .shaped) some inside InImage bytes));
       }

@@ -6,24 +6,26 @@ use native.Mathlib.Nat.{add-zero, add-suc, suc-add, mul-div-cancel, mul-mod-left
 use native.Mathlib.Numerals.{add-one}
 use native.Mathlib.Omega.{arith}
 use mathlib.Core.Bool.{true}
-use mathlib.Core.List.{List, [], _∷_, _++_, map, append-nil}
+use mathlib.Core.List.{List, [], _∷_, _++_, map}
 use lib.Arith.{digits-div, digits-mod}
 use lib.ListN
 use lib.ListN.{length, drop, getD, length-append}
 use Rattle.columns.specs.Lists.{joined, span, range}
 use Rattle.columns.proofs.Put.{length-part}
-use Rattle.columns.proofs.Joined.{joined-append, every-at}
+use Rattle.columns.proofs.Joined.{every-at}
 use Rattle.columns.specs.PrintedNumbers.{value}
 use Rattle.buckets.specs.declared.Line.{Line}
-use Rattle.buckets.specs.ListLine.{fits, figures, printLine, spelled}
+use Rattle.buckets.specs.ListLine.{fits, figures, printLine, endedLine, endedLines, spelled}
+use Rattle.buckets.specs.Lengths.{newline, figuresWidth, lineLength, bucketLength, linesStart}
 use Rattle.buckets.proofs.ListLines.{spelled-alone}
+use Rattle.buckets.proofs.CopiedLines.{ended-places}
 use Rattle.cycle.specs.Tree.{Plan, linesOf, lastTag, firstTag}
-use Rattle.cycle.specs.Cycle.{followOnFrom}
+use Rattle.cycle.specs.Cycle.{followOnFrom, bucketAt}
 use Rattle.cycle.specs.declared.Figures.{Figures}
 use Rattle.cycle.specs.declared.Source.the-variants.{Image as InImage}
 use Rattle.cycle.specs.Held.{planOf, firstPlace, lineAt, linesHeld, tagAt, planIn, cycleBucket}
-use Rattle.cycle.specs.Comparing.{bucketBytes, DataMatches, linesText, listText, Holding}
-use Rattle.cycle.proofs.Ranges.{range-snoc, joined-range, joined-same}
+use Rattle.cycle.specs.Comparing.{DataMatches, listText, Holding}
+use Rattle.cycle.proofs.Ranges.{joined-range, joined-same}
 use Rattle.cycle.proofs.Sequence.{Sound}
 use Rattle.cycle.proofs.Keeping.{keeps}
 use Rattle.cycle.proofs.Readiness.{sound}
@@ -33,7 +35,9 @@ use Rattle.cycle.proofs.DataHeld.{data-ends}
 use Rattle.cycle.proofs.LinesHeld.{line-bucket, line-column}
 use Rattle.cycle.proofs.SentLines.{full-lines, last-full}
 use Rattle.cycle.proofs.Tags.{first-tag}
-use Rattle.cycle.proofs.ImageLines.{data-placed, spelled-front, lineBytes, image-line, printed-line, length-held}
+use Rattle.buckets.specs.BucketLines.{lineBytes}
+use Rattle.buckets.proofs.BucketLines.{printed-line}
+use Rattle.cycle.proofs.ImageLines.{data-placed, spelled-front, image-line, length-held}
 use Rattle.cycle.proofs.HeldImage.{place-in-bucket}
 use Rattle.cycle.proofs.Restorable.{bytes-are, data-good}
 
@@ -51,33 +55,9 @@ joined-map : {A B C : Type 0} (g : B → List C) (h : A → B) (xs : List A) →
 joined-map g h [] = refl
 joined-map g h (x ∷ xs) = ap (λ s. g (h x) ++ s) (joined-map g h xs)
 
--- lines that stand side by side
-module _ (bytes : List ℕ) (from : ℕ) where
-  pub lines-none : linesText bytes from 0 ≡ []
-  unfolding linesText
-  lines-none = refl
-
-  pub lines-more : (c : ℕ) → linesText bytes from (c + 1) ≡ linesText bytes from c ++ (ListN.take 26 (drop (from + 26 * c) bytes) ++ 10 ∷ [])
-  unfolding linesText
-  lines-more c =
-      let g : ℕ → List ℕ = λ i. ListN.take 26 (drop (from + 26 * i) bytes) ++ 10 ∷ [] in
-      ap (λ b. joined g (range 0 b)) (add-one c)
-      ∙ ap (joined g) (range-snoc 0 c (omega arith))
-      ∙ joined-append g (range 0 c) (c ∷ [])
-      ∙ ap (λ s. joined g (range 0 c) ++ s) (append-nil (g c))
-
-  pub length-lines-text : (c : ℕ) → from + 26 * c ≤ length bytes → length (linesText bytes from c) ≡ 27 * c
-  length-lines-text zero h = ap length lines-none
-  length-lines-text (suc c) h =
-      let line : List ℕ = ListN.take 26 (drop (from + 26 * c) bytes) ++ 10 ∷ [] in
-      let rest : length (linesText bytes from c) ≡ 27 * c = length-lines-text c (omega arith) in
-      let own : length line ≡ 27 =
-      length-append (ListN.take 26 (drop (from + 26 * c) bytes)) (10 ∷ []) ∙ ap (λ n. n + 1) (length-part bytes (from + 26 * c) 26 (omega arith)) in
-      ap (λ b. length (linesText bytes from b)) (sym (add-one c)) ∙ (ap length (lines-more c) ∙ (length-append (linesText bytes from c) line ∙ omega arith))
-
 module _ (f : Figures) (bytes : List ℕ) (w : Holding f bytes) where
   -- a line lies within the image
-  pub line-room : (i : ℕ) → i < f .lines → lineAt (planOf f []) InImage i + 26 ≤ length bytes
+  pub line-room : (i : ℕ) → i < f .lines → lineAt (planOf f []) InImage i + figuresWidth ≤ length bytes
   unfolding planOf
   line-room i h =
       let place = data-ends f (i / f .p) (w .ready) (line-bucket f i (w .ready .shaped) h) in
@@ -86,53 +66,55 @@ module _ (f : Figures) (bytes : List ℕ) (w : Holding f bytes) where
 
   pub text-on : (a b c : ℕ) → a ≤ b → b ≤ c → listText f bytes a c ≡ listText f bytes a b ++ listText f bytes b c
   unfolding listText
-  text-on a b c h g = joined-range (λ i. ListN.take 26 (drop (lineAt (planOf f []) InImage i) bytes) ++ 10 ∷ []) a b c h g
+  text-on a b c h g = joined-range (λ i. ListN.take figuresWidth (drop (lineAt (planOf f []) InImage i) bytes) ++ newline ∷ []) a b c h g
 
   pub text-none : (a b : ℕ) → b ≤ a → listText f bytes a b ≡ []
   unfolding listText
   text-none a b h = let e : b - a ≡ 0 = omega arith in rw e
 
-  length-line : (i : ℕ) → i < f .lines → length (ListN.take 26 (drop (lineAt (planOf f []) InImage i) bytes) ++ 10 ∷ []) ≡ 27
+  length-line : (i : ℕ) → i < f .lines → length (ListN.take figuresWidth (drop (lineAt (planOf f []) InImage i) bytes) ++ newline ∷ []) ≡ lineLength
   length-line i h =
-      length-append (ListN.take 26 (drop (lineAt (planOf f []) InImage i) bytes)) (10 ∷ [])
-      ∙ ap (λ c. c + 1) (length-part bytes (lineAt (planOf f []) InImage i) 26 (line-room i h))
+      length-append (ListN.take figuresWidth (drop (lineAt (planOf f []) InImage i) bytes)) (newline ∷ [])
+      ∙ ap (λ c. c + 1) (length-part bytes (lineAt (planOf f []) InImage i) figuresWidth (line-room i h))
 
   length-lines :
-      (a c : ℕ) → a + c ≤ f .lines → length (joined (λ i. ListN.take 26 (drop (lineAt (planOf f []) InImage i) bytes) ++ 10 ∷ []) (span a c)) ≡ 27 * c
+      (a c : ℕ) → a + c ≤ f .lines → length (joined (λ i. ListN.take figuresWidth (drop (lineAt (planOf f []) InImage i) bytes) ++ newline ∷ []) (span a c)) ≡ lineLength * c
   length-lines a zero h = refl
   length-lines a (suc c) h =
-      let line : ℕ → List ℕ = λ i. ListN.take 26 (drop (lineAt (planOf f []) InImage i) bytes) ++ 10 ∷ [] in
-      let rest : length (joined line (span (suc a) c)) ≡ 27 * c = length-lines (suc a) c (omega arith) in
-      let own : length (line a) ≡ 27 = length-line a (omega arith) in
+      let line : ℕ → List ℕ = λ i. ListN.take figuresWidth (drop (lineAt (planOf f []) InImage i) bytes) ++ newline ∷ [] in
+      let rest : length (joined line (span (suc a) c)) ≡ lineLength * c = length-lines (suc a) c (omega arith) in
+      let own : length (line a) ≡ lineLength = length-line a (omega arith) in
       length-append (line a) (joined line (span (suc a) c)) ∙ omega arith
 
-  pub length-text : (a b : ℕ) → a ≤ b → b ≤ f .lines → length (listText f bytes a b) ≡ 27 * (b - a)
+  pub length-text : (a b : ℕ) → a ≤ b → b ≤ f .lines → length (listText f bytes a b) ≡ lineLength * (b - a)
   unfolding listText
   length-text a b h g = length-lines a (b - a) (omega arith)
 
   -- the lines of a data bucket stand side by side
   pub bucket-text :
       (q c : ℕ) → c ≤ f .p →
-      linesText bytes (240 * firstPlace (planOf f []) (f .k + 1) q + 29) c ≡ listText f bytes (q * f .p) (q * f .p + c)
-  unfolding linesText listText planOf
+      endedLines c (drop (bucketLength * firstPlace (planOf f []) (f .k + 1) q + linesStart) bytes) ≡ listText f bytes (q * f .p) (q * f .p + c)
+  unfolding listText planOf
   bucket-text q c h =
       let x : ℕ = firstPlace (planOf f []) (f .k + 1) q in
-      let from : q * f .p + c - q * f .p ≡ c - 0 = omega arith in
+      let at : ℕ = bucketLength * x + linesStart in
+      let first : at + figuresWidth * 0 ≡ at = omega arith in
+      let from : q * f .p + c - q * f .p ≡ c = omega arith in
       rw from
-      (joined-shift (λ i. ListN.take 26 (drop (240 * x + 29 + 26 * i) bytes) ++ 10 ∷ [])
-      (λ i. ListN.take 26 (drop (lineAt (planOf f []) InImage i) bytes) ++ 10 ∷ []) 0 (q * f .p) (c - 0)
+      (sym (ended-places bytes at 0 c ∙ ap (λ k. endedLines c (drop k bytes)) first)
+      ∙ joined-shift (λ i. endedLine (drop (at + figuresWidth * i) bytes)) (λ i. endedLine (drop (lineAt (planOf f []) InImage i) bytes)) 0 (q * f .p) c
       (λ i l.
       let none-before : 0 + i ≡ i = omega arith in
       let bucket : (q * f .p + i) / f .p ≡ q = digits-div q {m = f .p} {r = i} (omega arith) in
       let line : (q * f .p + i) % f .p ≡ i = digits-mod q {m = f .p} {r = i} (omega arith) in
-      let place : 240 * x + 29 + 26 * i ≡ 240 * x + (29 + 26 * i) = omega arith in
+      let place : bucketLength * x + linesStart + figuresWidth * i ≡ bucketLength * x + (linesStart + figuresWidth * i) = omega arith in
       rw (none-before, bucket, line, place)))
 
   -- if each data bucket is that of the lines read off the image, the columns of a line are its print
   module _ (datas : DataMatches (planIn f InImage bytes) bytes 0 (f .d)) where
     pub line-text :
         (i : ℕ) → i < f .lines →
-        ListN.take 26 (drop (lineAt (planOf f []) InImage i) bytes) ≡ figures (spelled (drop (lineAt (planOf f []) InImage i) bytes))
+        ListN.take figuresWidth (drop (lineAt (planOf f []) InImage i) bytes) ≡ figures (spelled (drop (lineAt (planOf f []) InImage i) bytes))
     unfolding planIn planOf
     line-text i below =
         let ls : List Line = linesHeld f InImage bytes in
@@ -148,16 +130,16 @@ module _ (f : Figures) (bytes : List ℕ) (w : Holding f bytes) where
         let column : m ≤ 7 = line-column f i (w .ready .shaped) in
         let inside : m < length (linesOf t q) = place-in-bucket t i (w .ready .shaped .p-low) (omega (arith, length-held f bytes)) in
         let from : ℕ = followOnFrom t (lastTag t q) 1 (there .next ++ there .behind) in
-        let columns : ListN.take 26 (drop (240 * firstPlace (planOf f []) (f .k + 1) q + (29 + 26 * m)) bytes) ≡ figures (getD (linesOf t q) m z) =
+        let columns : ListN.take figuresWidth (drop (bucketLength * firstPlace (planOf f []) (f .k + 1) q + (linesStart + figuresWidth * m)) bytes) ≡ figures (getD (linesOf t q) m z) =
         image-line bytes (firstPlace (planOf f []) (f .k + 1) q) m (omega arith)
-        ∙ (ap (λ y. lineBytes (bucketBytes bytes y) m) place
+        ∙ (ap (λ y. lineBytes (bucketAt bytes y) m) place
         ∙ (ap (λ b. lineBytes b m) (bytes-are t fine bytes datas q in-d .0)
         ∙ printed-line (cycleBucket t x) from (linesOf t q) z m (data-at there refl) inside)) in
         let fit : fits (getD (linesOf t q) m z) ≡ true = every-at fits z (linesOf t q) m (data-good t fine bytes datas q in-d .0) inside in
         columns
         ∙ ap figures
         (sym
-        (sym (spelled-front 26 (drop (240 * firstPlace (planOf f []) (f .k + 1) q + (29 + 26 * m)) bytes) (omega arith))
+        (sym (spelled-front figuresWidth (drop (bucketLength * firstPlace (planOf f []) (f .k + 1) q + (linesStart + figuresWidth * m)) bytes) (omega arith))
         ∙ (ap spelled columns ∙ spelled-alone (getD (linesOf t q) m z) fit)))
 
     -- and the text is the list of those lines
@@ -165,8 +147,8 @@ module _ (f : Figures) (bytes : List ℕ) (w : Holding f bytes) where
     unfolding listText linesHeld printLine
     text-list =
         let h : ℕ → Line = λ i. spelled (drop (lineAt (planOf f []) InImage i) bytes) in
-        joined-same (λ i. ListN.take 26 (drop (lineAt (planOf f []) InImage i) bytes) ++ 10 ∷ []) (λ i. printLine (h i)) 0 (f .lines - 0)
-        (λ i low high. ap (λ s. s ++ 10 ∷ []) (line-text i (omega arith)))
+        joined-same (λ i. ListN.take figuresWidth (drop (lineAt (planOf f []) InImage i) bytes) ++ newline ∷ []) (λ i. printLine (h i)) 0 (f .lines - 0)
+        (λ i low high. ap (λ s. s ++ newline ∷ []) (line-text i (omega arith)))
         ∙ sym (joined-map printLine h (range 0 (f .lines)))
 
   -- ---- from one data bucket to the next
@@ -177,7 +159,7 @@ module _ (f : Figures) (bytes : List ℕ) (w : Holding f bytes) where
     pub first-is : firstTag (planIn f InImage bytes) (q + 1) ≡ tagAt f InImage bytes ((q + 1) * f .p)
     pub stands-at :
         tagAt f InImage bytes ((q + 1) * f .p)
-        ≡ value 0 (ListN.take 10 (drop (240 * firstPlace (planOf f []) (f .k + 1) (q + 1) + 29) bytes))
+        ≡ value 0 (ListN.take 10 (drop (bucketLength * firstPlace (planOf f []) (f .k + 1) (q + 1) + linesStart) bytes))
 
   pub seam : (q : ℕ) → q + 1 < f .d → Seam q
   unfolding tagAt planOf

@@ -1,8 +1,7 @@
 -- What stands in an index bucket of a segment's tree or path, as the code works it out: its entries and its control pairs.
 -- Assumes nothing.
-use mathlib.Core.Path.{_≡_, refl, sym, ap, ap₂, subst, _∙_}
-use Prim.Native.Nat.{ℕ, zero, suc, _+_, _-_, _*_, _^_, _≤_, _<_, min}
-use native.Mathlib.Nat.{pow-zero, mul-one}
+use mathlib.Core.Path.{_≡_, refl, sym, ap, ap₂, _∙_}
+use Prim.Native.Nat.{ℕ, zero, suc, _+_, _-_, _*_, _≤_, _<_, min}
 use native.Mathlib.Decide.{ℕ-discrete}
 use native.Mathlib.Numerals.{add-one}
 use native.Mathlib.Omega.{arith}
@@ -10,22 +9,19 @@ use mathlib.Core.Option.{Option}
 use mathlib.Core.List.{List, _∷_, _++_, map}
 use lib.ListN.{length, length-map}
 use borrow.Author.Tests.{eq-eqb, ne-eqb, le-leb, lt-leb}
-use Rattle.columns.specs.Lists.{joined, span, range}
+use Rattle.columns.specs.Lists.{span, range}
 use Rattle.buckets.specs.Bucket.{Pair}
 use Rattle.buckets.specs.Held.{tagOr0}
 use Rattle.cycle.specs.Tree.{Plan, width, children, above, largestTag}
-use Rattle.cycle.specs.Layouts.{Slot, slot, slots, subtree}
+use Rattle.cycle.specs.Layouts.{Slot, slot, slots}
 use Rattle.cycle.specs.Cycle.{toNext, hasPairs, firstPair, laterPair, pairs, entry, entries}
-use Rattle.cycle.specs.Held.{firstPlace, aheadOf, treeAt, childTags, farDistances, nearDistances, treePairs, pairReach, placeOver, pairTags, pairDistances}
-use Rattle.cycle.proofs.Sequence.{Sound, Keeps}
+use Rattle.cycle.specs.Held.{firstPlace, aheadOf, childTags, farDistances, treePairs, pairReach, placeOver, pairTags, pairDistances}
+use Rattle.cycle.proofs.Sequence.{Sound}
 use Rattle.cycle.proofs.Ranges.{length-range, range-empty}
-use Rattle.cycle.proofs.TreeLaws.{above-add, width-lt}
+use Rattle.cycle.proofs.TreeLaws.{above-add}
 use Rattle.cycle.proofs.Blocks.{blockLevel, blockCount}
 use Rattle.cycle.proofs.Tags.{map-map}
-use Rattle.cycle.proofs.Positions.{At}
 use Rattle.cycle.proofs.NextOccurrence.{toSend}
-use Rattle.cycle.proofs.DataOnce.{next-data}
-use Rattle.cycle.proofs.TreeEntries.{subtrees, next-child}
 use Rattle.cycle.proofs.Occurrences.{topOf, placeOn}
 use Rattle.cycle.proofs.PathPairs.{pathAt, next-path-child}
 use Rattle.cycle.proofs.PairReach.{pair-reaches}
@@ -62,41 +58,6 @@ module _ (t : Plan) (ahead : List Slot) (i j : ℕ) where
       map-map (λ x. x .distance) (entry t ahead (i + 1)) (children t i j)
       ∙ ap (λ l. map (λ c. toNext ahead l c) (children t i j)) (add-one i)
       ∙ map-same (λ c. toNext ahead (suc i) c) g a (w - a) (λ c u v. h c u (omega arith))
-
-module _ (t : Plan) (pos : 0 < t .n) where
-  -- data buckets
-  pub far-data :
-      (keeps : Keeps t) {x i j : ℕ} {xs : List Slot} (a : At t x i j xs) (e : ℕ) → e ≡ 1 → i ≡ t .k + 1 - e →
-      map (λ y. y .distance) (entries t (toSend a ++ slots t) (slot i j)) ≡ farDistances t (length (slots t)) x e j
-  unfolding farDistances
-  far-data keeps {x} {i} {j} a e one p =
-      let level : suc i ≡ t .k + 1 = omega arith in
-      let size : ℕ = length (slots t) in
-      let ahead : List Slot = toSend a ++ slots t in
-      entry-distances t ahead i j (λ c. aheadOf size x (firstPlace t (suc i) c))
-      (λ c u v.
-      let l : c * t .n ^ (t .k + 1 - suc i) < t .d = width-lt t pos (suc i) c (omega arith) in
-      let none : t .k + 1 - suc i ≡ 0 = omega arith in
-      let l′ : c < t .d = rw (none, pow-zero, mul-one) at l in
-      subst (λ z. toNext ahead z c ≡ aheadOf size x (firstPlace t z c)) (sym level) (next-data t keeps a c l′))
-      ∙ ap (λ l. map (λ c. aheadOf size x (firstPlace t (suc l) c)) (children t l j)) p
-
-  -- index buckets right behind
-  pub near-index :
-      {x i j : ℕ} (h : ℕ) (a : At t x i j (subtrees t h i (children t i j))) → i ≡ t .k + 1 - suc (suc h) → suc (suc h) ≤ t .k →
-      map (λ y. y .distance) (entries t (toSend a ++ slots t) (slot i j)) ≡ nearDistances t (suc (suc h)) j
-  unfolding nearDistances treeAt
-  near-index {x} {i} {j} h a p high =
-      let ahead : List Slot = toSend a ++ slots t in
-      let from : ℕ = j * t .n in
-      let below : suc h ≡ suc (suc h) - 1 = omega arith in
-      let level : suc i ≡ t .k + 1 - suc h = omega arith in
-      entry-distances t ahead i j (λ c. 1 + length (joined (λ y. subtree t (suc h) (t .k + 1 - suc h) y) (range from c)))
-      (λ c u v.
-      subst (λ z. toNext ahead z c ≡ 1 + length (subtrees t h i (range from c))) (add-one i) (next-child t h i a c u v)
-      ∙ ap (λ l. 1 + length (joined (λ y. subtree t (suc h) l y) (range from c))) level)
-      ∙ ap (λ l. map (λ c. 1 + length (joined (λ y. subtree t (suc h) (t .k + 1 - suc h) y) (range from c))) (children t l j)) p
-      ∙ ap (λ z. map (λ c. 1 + length (joined (λ y. subtree t z (t .k + 1 - z) y) (range from c))) (children t (t .k + 1 - suc (suc h)) j)) below
 
 -- ---- the control pairs of a tree's bucket
 

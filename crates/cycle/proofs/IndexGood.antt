@@ -13,6 +13,7 @@ use lib.ListN.{length, length-map}
 use borrow.Author.Tests.{leb-true, le-leb, eqb-true, eq-eqb, ne-eqb}
 use Rattle.columns.specs.Lists.{pick, every, span, range}
 use Rattle.buckets.specs.Bucket.{Pair, Entry, printedTag, pairFits, entryFits, rising}
+use Rattle.buckets.specs.Lengths.{pairsMost, entriesMost}
 use Rattle.buckets.proofs.Good.{Reaches, fits-entry, fits-pair, GoodIndex}
 use Rattle.cycle.specs.Tree.{Plan, above, width, children}
 use Rattle.cycle.specs.Layouts.{Slot, slots}
@@ -67,7 +68,7 @@ module _
 
     -- ---- entries
 
-    pub few-entries : length (entries t (rest ++ slots t) x) ≤ 8
+    pub few-entries : length (entries t (rest ++ slots t) x) ≤ entriesMost
     unfolding entries
     few-entries =
         rw (length-map (children t (x .level) (x .place)) (entry t (rest ++ slots t) (x .level + 1)), length-children t pos (x .level) (x .place))
@@ -100,7 +101,7 @@ module _
 
     -- ---- control pairs
 
-    pub pairs-level : hasPairs t x ≡ true → x .level ≤ 4
+    pub pairs-level : hasPairs t x ≡ true → x .level ≤ pairsMost
     unfolding hasPairs
     pairs-level h =
         elim (ℕ-discrete (t .layout) 1) [

@@ -10,10 +10,11 @@ use Rattle.columns.specs.Lists.{lastOr, range}
 use Rattle.cycle.specs.Tree.{Plan, under, dataUnder, lastTag, largestTag}
 use Rattle.cycle.specs.declared.Figures.{Figures}
 use Rattle.cycle.specs.declared.Source.{Source}
-use Rattle.cycle.specs.Held.{planOf, Shaped, InTree, tagAt, planIn}
+use Rattle.cycle.specs.Held.{planOf, Shaped, InTree, tagAt, planIn, Spans}
 use Rattle.cycle.proofs.Ranges.{last-range}
 use Rattle.cycle.proofs.TreeLaws.{up-lt, up-covers, min-covered, under-range}
 use Rattle.cycle.proofs.Tags.{last-tag}
+use Rattle.cycle.proofs.Readiness.{reached}
 
 module _ (f : Figures) (e j : ℕ) (s : Shaped f) (some : 1 ≤ f .d) (inside : InTree f e j) where
   pos : 0 < f .n
@@ -61,3 +62,21 @@ module _ (f : Figures) (e j : ℕ) (s : Shaped f) (some : 1 ≤ f .d) (inside : 
       ap (lastTag t) (last-under t refl refl refl)
       ∙ last-tag f source text q (s .p-low) lines-up
       ∙ ap (λ y. tagAt f source text (y - 1)) (ap (λ y. min (f .lines) (y * f .p)) whole ∙ min-covered (f .lines) (f .d) x (f .p) covers)
+
+-- bounds on a bucket of a level whose full buckets have `span` data buckets under them
+pub record SpanReached (f : Figures) (span j : ℕ) : Type 0 where
+  pub place : j ≤ 40000
+  pub some-data : 1 ≤ span
+  pub end : (j + 1) * span ≤ 360000
+  pub lines-some : 1 ≤ min (f .lines) ((j + 1) * span * f .p)
+
+pub span-reached : (f : Figures) (span j : ℕ) → Shaped f → 1 ≤ f .d → Spans f span j → SpanReached f span j
+span-reached f span j s some w =
+    let e : ℕ = w .height in
+    let known = reached f e j s (w .inside) in
+    record {
+      place = known .place;
+      some-data = rw (w .power) (one-le-pow e (f .n) (omega (arith, s .n-low)));
+      end = rw (w .power) (known .end);
+      lines-some = rw (w .power) (lines-some f e j s some (w .inside));
+    }

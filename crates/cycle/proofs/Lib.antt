@@ -11,12 +11,14 @@ pub mod BuiltImage
 pub mod ChildTrees
 pub mod Children
 pub mod Comparisons
+pub mod Conditions
 pub mod DataGood
 pub mod DataHeld
 pub mod DataOnce
 pub mod DataRows
 pub mod DataTags
 pub mod Deciding
+pub mod Demand2
 pub mod Distances
 pub mod Distributed
 pub mod Filled
@@ -81,6 +83,7 @@ pub mod Standing
 pub mod Stands
 pub mod Suffixes
 pub mod Tags
+pub mod Telling
 pub mod TreeBuckets
 pub mod TreeEntries
 pub mod TreeLaws

@@ -15,6 +15,7 @@ use borrow.Author.Tests.{ne-eqb, le-ltb}
 use Rattle.columns.specs.Lists.{pick, joined, parts, up}
 use Rattle.columns.proofs.Joined.{length-joined-if, parts-joined-if}
 use Rattle.buckets.specs.Bucket.{Bucket, printHead, printBucket, good, letter, itemCount}
+use Rattle.buckets.specs.Lengths.{letterData, letterColumn, itemDigitColumn, bucketLength, bucketsMost}
 use Rattle.buckets.proofs.Buckets.{length-printBucket}
 use Rattle.cycle.specs.Tree.{Plan, linesOf}
 use Rattle.cycle.specs.Layouts.{Slot, slots}
@@ -28,11 +29,11 @@ use Rattle.cycle.proofs.BuiltImage.{all-good}
 
 -- ---- the columns of a printed bucket that are looked at
 
-pub letter-printed : (b : Bucket) → getD (printBucket b) 24 0 ≡ letter (b .body)
+pub letter-printed : (b : Bucket) → getD (printBucket b) letterColumn 0 ≡ letter (b .body)
 unfolding printBucket printHead
 letter-printed b = refl
 
-pub digit-printed : (b : Bucket) → getD (printBucket b) 28 0 ≡ 48 + itemCount (b .body) % 10
+pub digit-printed : (b : Bucket) → getD (printBucket b) itemDigitColumn 0 ≡ 48 + itemCount (b .body) % 10
 unfolding printBucket printHead
 digit-printed b = refl
 
@@ -44,7 +45,7 @@ digitBehind t (suc q) = 48 + length (linesOf t q) % 10
 told-kind :
     (t : Plan) (p d last : ℕ) (position : ℕ) (sent : Option ℕ) (x : Slot) (rest all : List Slot) (ss : List (List ℕ)) →
     (c : Bool) → isData t x ≡ c →
-    pick (eqb (letter (bucketOf t position sent x rest all .body)) 68)
+    pick (eqb (letter (bucketOf t position sent x rest all .body)) letterData)
     (countedFrom p (d + 1) (48 + itemCount (bucketOf t position sent x rest all .body) % 10) ss) (countedFrom p d last ss) ≡
     pick (isData t x) (countedFrom p (d + 1) (48 + length (linesOf t (x .place)) % 10) ss) (countedFrom p d last ss)
 unfolding bucketOf bodyOf
@@ -119,14 +120,14 @@ counted-buckets : (t : Plan) → Accepted t → countedFrom (t .p) 0 48 (map pri
 unfolding buckets
 counted-buckets t a = counted-all t (laid t a .keeps) (t .p) 0 none [] (slots t) refl
 
-pub counted-lines : (t : Plan) → Accepted t → cycleSize t ≤ 99999 → counted (t .p) (image t) ≡ length (t .lines)
+pub counted-lines : (t : Plan) → Accepted t → cycleSize t ≤ bucketsMost → counted (t .p) (image t) ≡ length (t .lines)
 unfolding counted image
 counted-lines t a short =
-    let size : length (joined printBucket (buckets t)) / 240 ≡ length (buckets t) =
-    rw (length-joined-if printBucket good 240 length-printBucket (buckets t) (all-good t a short)) (mul-div-cancel (length (buckets t)) {n = 240} (lit< tt)) in
-    let cut : parts (length (buckets t)) 240 (joined printBucket (buckets t)) ≡ map printBucket (buckets t) =
-    ap (parts (length (buckets t)) 240) (sym (append-nil (joined printBucket (buckets t))))
-    ∙ parts-joined-if printBucket good 240 length-printBucket (buckets t) [] (all-good t a short) in
+    let size : length (joined printBucket (buckets t)) / bucketLength ≡ length (buckets t) =
+    rw (length-joined-if printBucket good bucketLength length-printBucket (buckets t) (all-good t a short)) (mul-div-cancel (length (buckets t)) {n = bucketLength} (lit< tt)) in
+    let cut : parts (length (buckets t)) bucketLength (joined printBucket (buckets t)) ≡ map printBucket (buckets t) =
+    ap (parts (length (buckets t)) bucketLength) (sym (append-nil (joined printBucket (buckets t))))
+    ∙ parts-joined-if printBucket good bucketLength length-printBucket (buckets t) [] (all-good t a short) in
     rw (size, cut) (counted-buckets t a ∙ lines-by t a (t .d) refl)
 
 -- ---- the same, bucket by bucket
@@ -134,17 +135,17 @@ counted-lines t a short =
 -- one bucket more of an image
 pub counted-bucket :
     (bytes : List ℕ) (p d last count x : ℕ) → x < count →
-    countedFrom p d last (parts (count - x) 240 (drop (240 * x) bytes)) ≡
-    pick (eqb (getD bytes (240 * x + 24) 0) 68)
-    (countedFrom p (d + 1) (getD bytes (240 * x + 28) 0) (parts (count - (x + 1)) 240 (drop (240 * (x + 1)) bytes)))
-    (countedFrom p d last (parts (count - (x + 1)) 240 (drop (240 * (x + 1)) bytes)))
+    countedFrom p d last (parts (count - x) bucketLength (drop (bucketLength * x) bytes)) ≡
+    pick (eqb (getD bytes (bucketLength * x + letterColumn) 0) letterData)
+    (countedFrom p (d + 1) (getD bytes (bucketLength * x + itemDigitColumn) 0) (parts (count - (x + 1)) bucketLength (drop (bucketLength * (x + 1)) bytes)))
+    (countedFrom p d last (parts (count - (x + 1)) bucketLength (drop (bucketLength * (x + 1)) bytes)))
 counted-bucket bytes p d last count x h =
     let left : count - x ≡ suc (count - (x + 1)) = omega arith in
-    let on : 240 * x + 240 ≡ 240 * (x + 1) = omega arith in
-    let letter-at : getD (ListN.take 240 (drop (240 * x) bytes)) 24 0 ≡ getD bytes (240 * x + 24) 0 =
-    getD-take 240 (drop (240 * x) bytes) 24 0 (omega arith) ∙ getD-drop (240 * x) bytes 24 0 in
-    let digit-at : getD (ListN.take 240 (drop (240 * x) bytes)) 28 0 ≡ getD bytes (240 * x + 28) 0 =
-    getD-take 240 (drop (240 * x) bytes) 28 0 (omega arith) ∙ getD-drop (240 * x) bytes 28 0 in
-    let behind : drop 240 (drop (240 * x) bytes) ≡ drop (240 * (x + 1)) bytes =
-    drop-drop 240 (240 * x) bytes ∙ ap (λ k. drop k bytes) on in
+    let on : bucketLength * x + bucketLength ≡ bucketLength * (x + 1) = omega arith in
+    let letter-at : getD (ListN.take bucketLength (drop (bucketLength * x) bytes)) letterColumn 0 ≡ getD bytes (bucketLength * x + letterColumn) 0 =
+    getD-take bucketLength (drop (bucketLength * x) bytes) letterColumn 0 (omega arith) ∙ getD-drop (bucketLength * x) bytes letterColumn 0 in
+    let digit-at : getD (ListN.take bucketLength (drop (bucketLength * x) bytes)) itemDigitColumn 0 ≡ getD bytes (bucketLength * x + itemDigitColumn) 0 =
+    getD-take bucketLength (drop (bucketLength * x) bytes) itemDigitColumn 0 (omega arith) ∙ getD-drop (bucketLength * x) bytes itemDigitColumn 0 in
+    let behind : drop bucketLength (drop (bucketLength * x) bytes) ≡ drop (bucketLength * (x + 1)) bytes =
+    drop-drop bucketLength (bucketLength * x) bytes ∙ ap (λ k. drop k bytes) on in
     rw (left, letter-at, digit-at, behind)

@@ -10,6 +10,7 @@ use Rattle.cycle.specs.declared.Source.the-variants.{List as InList, Ima
 use Rattle.cycle.specs.Held.{planOf, Shaped, Ready, lineAt, TextFits}
 use Rattle.cycle.proofs.TreeLaws.{lt-up}
 use Rattle.cycle.proofs.DataHeld.{data-ends}
+use Rattle.buckets.specs.Lengths.{tagWidth}
 
 -- the data bucket of line i
 pub line-bucket : (f : Figures) (i : ℕ) → Shaped f → i < f .lines → i / f .p < f .d
@@ -22,7 +23,7 @@ line-column f i s = let l = mod-lt i {m = f .p} (s .p-low) in omega (arith, s .p
 
 -- a line's tag lies within the text
 pub line-fits :
-    (f : Figures) (source : Source) (i c : ℕ) → Ready f → i < f .lines → TextFits f source c → lineAt (planOf f []) source i + 10 ≤ c
+    (f : Figures) (source : Source) (i c : ℕ) → Ready f → i < f .lines → TextFits f source c → lineAt (planOf f []) source i + tagWidth ≤ c
 unfolding planOf
 line-fits f InList i c ready h fits = omega arith
 line-fits f InImage i c ready h fits =

@@ -12,22 +12,15 @@ use lib.ListN
 use lib.Seq.{take-all, take-add, drop-drop}
 use Rattle.columns.specs.Lists.{pick, joined, span}
 use Rattle.buckets.specs.declared.Line.{Line}
-use Rattle.buckets.specs.Bucket.{Pair, Entry, Body, indexBody, dataBody, Bucket}
+use Rattle.buckets.specs.Bucket.{Pair, Entry, indexBody, dataBody}
+use Rattle.buckets.specs.BucketLines.{bodyLines}
 use Rattle.cycle.specs.Tree.{Plan, linesOf, lastTag}
 use Rattle.cycle.specs.Layouts.{Slot, slots}
-use Rattle.cycle.specs.Cycle.{isData, pairs, entries, followOnFrom, bodyOf, bucketOf, lastSent, bucketsFrom, buckets}
+use Rattle.cycle.specs.Cycle.{isData, pairs, entries, followOnFrom, bodyOf, bucketOf, lastSent, bucketsFrom, buckets, carried}
 use Rattle.cycle.proofs.Sequence.{dataCount, Keeps}
 use Rattle.cycle.proofs.Pieces.{count-append}
 
--- the lines that a bucket carries
-abbrev pub linesIn : Body → List Line
-linesIn (indexBody ps es) = []
-linesIn (dataBody f ls) = ls
-
-abbrev pub carried : Bucket → List Line
-carried b = linesIn (b .body)
-
--- the same of a bucket as sent
+-- the lines that a bucket carries, as sent
 abbrev pub carriedBy : Plan → Slot → List Line
 carriedBy t x = pick (isData t x) (linesOf t (x .place)) []
 
@@ -41,7 +34,7 @@ carried-of t position last x rest all =
   where
     by :
         (b : Bool) (f : ℕ) (ls : List Line) (ps : List Pair) (es : List Entry) →
-        linesIn (pick b (dataBody f ls) (indexBody ps es)) ≡ pick b ls []
+        bodyLines (pick b (dataBody f ls) (indexBody ps es)) ≡ pick b ls []
     by true f ls ps es = refl
     by false f ls ps es = refl
 

@@ -1,80 +1,26 @@
 -- Building answers with a cycle exactly if none of its conditions holds; then it writes the plan's image, and N is its size.
 -- Assumes nothing.
-use mathlib.Core.Path.{_≡_, refl, sym, ap, _∙_}
+use mathlib.Core.Path.{_≡_, refl, ap, subst}
 use Prim.Native.Nat.{ℕ, _*_, _≤_}
-use mathlib.Core.Bool.{Bool, true, false, not}
+use mathlib.Core.Bool.{true, not}
 use mathlib.Core.Option.{Option, none, some}
-use mathlib.Core.List.{List}
+use mathlib.Core.List.{List, [], _∷_}
 use native.Mathlib.Omega.{arith}
 use lib.Dec.{ltb}
 use lib.ListN.{length}
 use borrow.Author.Tests.{ltb-false, le-ltb, not-false}
-use Rattle.columns.specs.Lists.{pick, joined}
+use Rattle.columns.specs.Lists.{joined}
 use Rattle.buckets.specs.ListLine.{printLine, cutLines, listLines, wholeLines, misprintFrom, fallFrom}
 use Rattle.buckets.proofs.Lists.{print-of-list}
 use Rattle.cycle.specs.Tree.{Settings, Plan, plan}
 use Rattle.cycle.specs.Cycle.{cycleSize, image}
-use Rattle.cycle.specs.Building.{settingsFit, copiesFit, Outcome, refuse, refuseAt, buildPlan, build}
+use Rattle.cycle.specs.Refusals.{Refusal, Condition, firstRefusal}
+use Rattle.cycle.specs.Building.{settingsFit, copiesFit, settingsOut, listLengthOut, lineMisprinted, tagFalls, copiesOut, cycleTooLong, bufferTooShort, conditions, outcome, build}
 use Rattle.cycle.specs.declared.Built.the-variants.{Cycle}
 use Rattle.cycle.proofs.Accepted.{Accepted, accepted-plan, whole-lines}
+use Rattle.cycle.proofs.Conditions.{none-holds, test-fails}
 
--- ---- one condition
-
-refused-not : (number place n : ℕ) → refuse number place .answer ≡ Cycle n → ⊥
-unfolding refuse
-refused-not number place n h = let z : _≡_ {A = ℕ} 0 1 = cc in omega arith
-
--- what comes behind a condition that does not hold
-pub record Passed (b : Bool) (o next : Outcome) : Type 0 where
-  pub passed : b ≡ false
-  pub is : o ≡ next
-
-pub passed-test :
-    (b : Bool) (number place : ℕ) (next : Outcome) (n : ℕ) → pick b (refuse number place) next .answer ≡ Cycle n →
-    Passed b (pick b (refuse number place) next) next
-passed-test true number place next n h = absurd (refused-not number place n h)
-passed-test false number place next n h = record { passed = refl; is = refl }
-
-pub record PassedAt (found : Option ℕ) (o next : Outcome) : Type 0 where
-  pub passed : found ≡ none
-  pub is : o ≡ next
-
-pub passed-place :
-    (found : Option ℕ) (number : ℕ) (next : Outcome) (n : ℕ) → refuseAt number found next .answer ≡ Cycle n →
-    PassedAt found (refuseAt number found next) next
-passed-place none number next n h = record { passed = refl; is = refl }
-passed-place (some place) number next n h = absurd (refused-not number place n h)
-
--- ---- 5 to 7
-
-pub record PlanBuilt (t : Plan) (room n : ℕ) (o : Outcome) : Type 0 where
-  pub copies : copiesFit t ≡ true
-  pub short : cycleSize t ≤ 99999
-  pub roomy : 240 * cycleSize t ≤ room
-  pub size-is : n ≡ cycleSize t
-  pub output-is : o .output ≡ image t
-
-pub plan-built : (t : Plan) (room n : ℕ) → buildPlan t room .answer ≡ Cycle n → PlanBuilt t room n (buildPlan t room)
-unfolding buildPlan
-plan-built t room n h =
-    let last : Outcome = record { answer = Cycle (cycleSize t); output = image t } in
-    let seventh : Outcome = pick (ltb room (240 * cycleSize t)) (refuse 7 0) last in
-    let sixth : Outcome = pick (ltb 99999 (cycleSize t)) (refuse 6 0) seventh in
-    let five = passed-test (not (copiesFit t)) 5 0 sixth n h in
-    let six = passed-test (ltb 99999 (cycleSize t)) 6 0 seventh n (sym (ap (λ o. o .answer) (five .is)) ∙ h) in
-    let all : pick (not (copiesFit t)) (refuse 5 0) sixth ≡ seventh = five .is ∙ six .is in
-    let seven = passed-test (ltb room (240 * cycleSize t)) 7 0 last n (sym (ap (λ o. o .answer) all) ∙ h) in
-    let whole : pick (not (copiesFit t)) (refuse 5 0) sixth ≡ last = all ∙ seven .is in
-    let answer : Cycle (cycleSize t) ≡ Cycle n = sym (ap (λ o. o .answer) whole) ∙ h in
-    record {
-      copies = not-false (copiesFit t) (five .passed);
-      short = ltb-false 99999 (cycleSize t) (six .passed);
-      roomy = ltb-false room (240 * cycleSize t) (seven .passed);
-      size-is = cc;
-      output-is = ap (λ o. o .output) whole;
-    }
-
--- ---- 1 to 7
+-- ---- no condition holds
 
 pub record Answered (s : Settings) (list : List ℕ) (room n : ℕ) : Type 0 where
   pub settings : settingsFit s ≡ true
@@ -87,33 +33,48 @@ pub record Answered (s : Settings) (list : List ℕ) (room n : ℕ) : Type 0 whe
   pub size-is : n ≡ cycleSize (plan s (listLines list))
   pub output-is : build s list room .output ≡ image (plan s (listLines list))
 
+-- no condition holds
+pub none-refused :
+    (s : Settings) (list : List ℕ) (room : ℕ) → firstRefusal (conditions s list room) ≡ none →
+    Answered s list room (cycleSize (plan s (listLines list)))
+unfolding build conditions
+none-refused s list room h =
+    let t : Plan = plan s (listLines list) in
+    let last : List Condition = bufferTooShort room (240 * cycleSize t) ∷ [] in
+    let sixth : List Condition = cycleTooLong t ∷ last in
+    let fifth : List Condition = copiesOut t ∷ sixth in
+    let fourth : List Condition = tagFalls list ∷ fifth in
+    let third : List Condition = lineMisprinted list ∷ fourth in
+    let one = none-holds (settingsOut s) (listLengthOut list ∷ third) h in
+    let two = none-holds (listLengthOut list) third (one .others) in
+    let three = none-holds (lineMisprinted list) fourth (two .others) in
+    let four = none-holds (tagFalls list) fifth (three .others) in
+    let five = none-holds (copiesOut t) sixth (four .others) in
+    let six = none-holds (cycleTooLong t) last (five .others) in
+    let seven = none-holds (bufferTooShort room (240 * cycleSize t)) [] (six .others) in
+    record {
+      settings = not-false (settingsFit s) (test-fails 1 (not (settingsFit s)) (one .first));
+      whole = not-false (wholeLines (length list)) (test-fails 2 (not (wholeLines (length list))) (two .first));
+      read = three .first;
+      order = four .first;
+      copies = not-false (copiesFit t) (test-fails 5 (not (copiesFit t)) (five .first));
+      short = ltb-false 99999 (cycleSize t) (test-fails 6 (ltb 99999 (cycleSize t)) (six .first));
+      roomy = ltb-false room (240 * cycleSize t) (test-fails 7 (ltb room (240 * cycleSize t)) (seven .first));
+      size-is = refl;
+      output-is = ap (λ o. outcome o t .output) h;
+    }
+
+-- ---- building answers with a cycle
+
+cycle-passed : (o : Option Refusal) (t : Plan) (n : ℕ) → outcome o t .answer ≡ Cycle n → (o ≡ none) × (cycleSize t ≡ n)
+cycle-passed none t n h = (refl, cc)
+cycle-passed (some r) t n h = let z : _≡_ {A = ℕ} 0 1 = cc in absurd (omega arith)
+
 pub answered : (s : Settings) (list : List ℕ) (room n : ℕ) → build s list room .answer ≡ Cycle n → Answered s list room n
 unfolding build
 answered s list room n h =
-    let t : Plan = plan s (listLines list) in
-    let fourth : Outcome = refuseAt 4 (fallFrom 0 0 (listLines list)) (buildPlan t room) in
-    let third : Outcome = refuseAt 3 (misprintFrom 0 (cutLines list)) fourth in
-    let second : Outcome = pick (not (wholeLines (length list))) (refuse 2 0) third in
-    let first : Outcome = pick (not (settingsFit s)) (refuse 1 0) second in
-    let one = passed-test (not (settingsFit s)) 1 0 second n h in
-    let two = passed-test (not (wholeLines (length list))) 2 0 third n (sym (ap (λ o. o .answer) (one .is)) ∙ h) in
-    let by-two : first ≡ third = one .is ∙ two .is in
-    let three = passed-place (misprintFrom 0 (cutLines list)) 3 fourth n (sym (ap (λ o. o .answer) by-two) ∙ h) in
-    let by-three : first ≡ fourth = by-two ∙ three .is in
-    let four = passed-place (fallFrom 0 0 (listLines list)) 4 (buildPlan t room) n (sym (ap (λ o. o .answer) by-three) ∙ h) in
-    let by-four : first ≡ buildPlan t room = by-three ∙ four .is in
-    let rest = plan-built t room n (sym (ap (λ o. o .answer) by-four) ∙ h) in
-    record {
-      settings = not-false (settingsFit s) (one .passed);
-      whole = not-false (wholeLines (length list)) (two .passed);
-      read = three .passed;
-      order = four .passed;
-      copies = rest .copies;
-      short = rest .short;
-      roomy = rest .roomy;
-      size-is = rest .size-is;
-      output-is = ap (λ o. o .output) by-four ∙ rest .output-is;
-    }
+    let told = cycle-passed (firstRefusal (conditions s list room)) (plan s (listLines list)) n h in
+    subst (Answered s list room) (told .1) (none-refused s list room (told .0))
 
 -- the plan of a list that building answers with a cycle
 pub accepted : (s : Settings) (list : List ℕ) (room n : ℕ) → build s list room .answer ≡ Cycle n → Accepted (plan s (listLines list))
@@ -132,7 +93,7 @@ pub builds-cycle :
     cycleSize (plan s (listLines list)) ≤ 99999 → 240 * cycleSize (plan s (listLines list)) ≤ room →
     build s list room ≡
     record { answer = Cycle (cycleSize (plan s (listLines list))); output = image (plan s (listLines list)) }
-unfolding build buildPlan
+unfolding build conditions
 builds-cycle s list room one two three four five six seven =
     let size : ℕ = cycleSize (plan s (listLines list)) in
     rw (one, two, three, four, five, le-ltb 99999 size six, le-ltb room (240 * size) seven)

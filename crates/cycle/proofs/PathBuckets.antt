@@ -13,6 +13,7 @@ use Rattle.buckets.specs.declared.Index.{Index}
 use Rattle.buckets.specs.declared.Line.{Line}
 use Rattle.buckets.specs.Bucket.{Pair, Entry}
 use Rattle.buckets.specs.Held.{filled, tagOr0, firstBlank, heldIndex}
+use Rattle.buckets.specs.Lengths.{pairsMost, entriesMost}
 use Rattle.cycle.specs.Tree.{Plan, width, children}
 use Rattle.cycle.specs.Layouts.{Slot, slot, slots, pathTop, distributedSegment}
 use Rattle.cycle.specs.Cycle.{laterPair, pairs, entries}
@@ -192,11 +193,11 @@ module _ (f : Figures) (ready : Ready f) (source : Source) (text : List ℕ) (s 
 
     pub path-held :
         (count′ : ℕ) (tags distances child-tags child-distances : List ℕ) →
-        tags ≡ filled 4 (pairTags (planIn f source text) b i first) →
-        distances ≡ filled 4 (pairDistances (planOf f []) (f .size) x b i) →
+        tags ≡ filled pairsMost (pairTags (planIn f source text) b i first) →
+        distances ≡ filled pairsMost (pairDistances (planOf f []) (f .size) x b i) →
         count′ ≡ length (children (planOf f []) (f .k + 1 - e) j) →
-        child-tags ≡ filled 8 (childTags (planIn f source text) e j) →
-        child-distances ≡ filled 8 (farDistances (planOf f []) (f .size) x e j) →
+        child-tags ≡ filled entriesMost (childTags (planIn f source text) e j) →
+        child-distances ≡ filled entriesMost (farDistances (planOf f []) (f .size) x e j) →
         _≡_ {A = Index}
         (record {
           pairs = i;
@@ -225,10 +226,10 @@ module _ (f : Figures) (ready : Ready f) (source : Source) (text : List ℕ) (s 
         record {
           pairs = sym (path-pair-count t held single b i m from to count (lastOf t (s .first)) (f .size - x) path-low) k;
           blank = blank-is k;
-          «pair_tags» = (p ∙ ap (filled 4) (tags-are)) k;
-          «pair_distances» = (q ∙ ap (filled 4) (sym pair-distances-are)) k;
+          «pair_tags» = (p ∙ ap (filled pairsMost) (tags-are)) k;
+          «pair_distances» = (q ∙ ap (filled pairsMost) (sym pair-distances-are)) k;
           entries = (r ∙ sym count-is) k;
-          «entry_tags» = (u ∙ ap (filled 8) (sym child-tags-are)) k;
-          «entry_distances» = (v ∙ ap (filled 8) (sym child-distances-are)) k;
+          «entry_tags» = (u ∙ ap (filled entriesMost) (sym child-tags-are)) k;
+          «entry_distances» = (v ∙ ap (filled entriesMost) (sym child-distances-are)) k;
         } in
         whole ∙ sym path-index-is

@@ -9,7 +9,8 @@ use lib.ListN.{length}
 use lib.Pow.{pow-add}
 use Rattle.columns.specs.Lists.{up, joined, span}
 use Rattle.buckets.specs.declared.Line.{Line}
-use Rattle.cycle.specs.Tree.{Plan, width, above}
+use Rattle.buckets.specs.Lengths.{pairsMost}
+use Rattle.cycle.specs.Tree.{Plan, width, above, levelsMost}
 use Rattle.cycle.specs.Layouts.{pathTop, distributedSegment}
 use Rattle.cycle.specs.declared.Figures.{Figures}
 use Rattle.cycle.specs.Held.{planOf, Ready, InTree, placeOver, OnPath}
@@ -36,7 +37,7 @@ module _ (f : Figures) (ready : Ready f) (one : f .layout ≡ 1) where
   pub pos : 0 < f .n
   pos = omega (arith, ready .shaped .n-low)
 
-  pub few-copies : (f .copies ≤ 4) × (f .copies + 1 ≤ f .k) × (f .k ≤ 16)
+  pub few-copies : (f .copies ≤ pairsMost) × (f .copies + 1 ≤ f .k) × (f .k ≤ levelsMost)
   unfolding planOf
   few-copies =
       let h = path-facts (planOf f []) (ready .copies-fit) one in

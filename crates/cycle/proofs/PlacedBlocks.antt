@@ -12,6 +12,7 @@ use lib.ListN.{length}
 use borrow.Author.Tests.{eq-eqb}
 use Rattle.columns.specs.Lists.{pick, joined, range}
 use Rattle.buckets.specs.declared.Line.{Line}
+use Rattle.buckets.specs.Lengths.{bucketsMost}
 use Rattle.cycle.specs.Tree.{Plan}
 use Rattle.cycle.specs.Layouts.{Slot, path, pathTop, distributedSegment, wholeSegment}
 use Rattle.cycle.specs.declared.Figures.{Figures}
@@ -62,7 +63,7 @@ module _ (f : Figures) (b : ℕ) (ready : Ready f) (one : f .layout ≡ 1) (insi
   pub block-room :
       blockAt f b + (f .copies + 1 - pathTop (f .n) (f .copies) b) + length (treeAt (planOf f []) (f .k - f .copies) b)
       + (min (f .d) ((b + 1) * f .n ^ (f .k - f .copies)) - b * f .n ^ (f .k - f .copies))
-      ≤ 99999
+      ≤ bucketsMost
   unfolding planOf
   block-room =
       let t : Plan = planOf f [] in

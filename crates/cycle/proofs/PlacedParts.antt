@@ -12,6 +12,7 @@ use lib.ListN.{length}
 use borrow.Author.Tests.{ne-eqb}
 use Rattle.columns.specs.Lists.{pick, joined, range}
 use Rattle.buckets.specs.declared.Line.{Line}
+use Rattle.buckets.specs.Lengths.{bucketsMost}
 use Rattle.cycle.specs.Tree.{Plan}
 use Rattle.cycle.specs.Layouts.{Slot, distributedSegment, wholeSegment}
 use Rattle.cycle.specs.declared.Figures.{Figures}
@@ -77,7 +78,7 @@ module _ (f : Figures) (i : ℕ) (ready : Ready f) (other : f .layout ≡ 1 → 
       subst (λ x. Laid t x [] (treeAt t (f .k) 0) (partFrom f i) (partFrom f (suc i))) place
       (laid-whole t (sound f ls (ready .shaped) (ready .copies-fit)) other i inside)
 
-  pub whole-room : i * wholeTree f + partFrom f i + wholeTree f + (partFrom f (suc i) - partFrom f i) ≤ 99999
+  pub whole-room : i * wholeTree f + partFrom f i + wholeTree f + (partFrom f (suc i) - partFrom f i) ≤ bucketsMost
   unfolding planOf
   whole-room =
       let t : Plan = planOf f [] in

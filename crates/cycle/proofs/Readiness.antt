@@ -15,10 +15,11 @@ use borrow.Author.Tests.{leb-true, le-leb, lt-leb, lt-ltb, le-ltb, eq-eqb, ne-eq
 use Rattle.columns.specs.Lists.{up}
 use Rattle.columns.proofs.Strict.{both}
 use Rattle.buckets.specs.declared.Line.{Line}
-use Rattle.cycle.specs.Tree.{Plan}
+use Rattle.buckets.specs.Lengths.{linesMost, pairsMost}
+use Rattle.cycle.specs.Tree.{Plan, levelsMost}
 use Rattle.cycle.specs.Building.{copiesFit}
 use Rattle.cycle.specs.declared.Figures.{Figures}
-use Rattle.cycle.specs.Held.{planOf, fullSize, Shaped, InTree, treeAt, treeHeight, lastPlace, lastTree, sized, Trees}
+use Rattle.cycle.specs.Held.{planOf, fullSize, Shaped, InTree, treeAt, treeHeight, lastPlace, lastTree, sized, Trees, spanMost}
 use Rattle.cycle.proofs.Ranges.{le-or-lt}
 use Rattle.cycle.proofs.TreeLaws.{up-at-most}
 use Rattle.cycle.proofs.Levels.{Levels, levels-fit, levels-lone}
@@ -41,7 +42,7 @@ same-ltb-leb a b x y f g =
 -- ---- copies
 
 module _ (t : Plan) where
-  pub copies-distributed : t .layout ≡ 1 → copiesFit t ≡ leb (t .copies) (min 4 (t .k - 1))
+  pub copies-distributed : t .layout ≡ 1 → copiesFit t ≡ leb (t .copies) (min pairsMost (t .k - 1))
   unfolding copiesFit
   copies-distributed one = rw (eq-eqb (t .layout) 1 one)
 
@@ -49,9 +50,9 @@ module _ (t : Plan) where
   unfolding copiesFit
   copies-whole other = rw (ne-eqb (t .layout) 1 other)
 
-  pub path-facts : copiesFit t ≡ true → t .layout ≡ 1 → (t .copies ≤ 4) × (t .copies ≤ t .k - 1)
+  pub path-facts : copiesFit t ≡ true → t .layout ≡ 1 → (t .copies ≤ pairsMost) × (t .copies ≤ t .k - 1)
   path-facts fit one =
-      let h = leb-true (t .copies) (min 4 (t .k - 1)) (sym (copies-distributed one) ∙ fit) in (omega arith, omega arith)
+      let h = leb-true (t .copies) (min pairsMost (t .k - 1)) (sym (copies-distributed one) ∙ fit) in (omega arith, omega arith)
 
   pub parts-facts : copiesFit t ≡ true → (t .layout ≡ 1 → ⊥) → (1 ≤ t .copies) × (t .copies ≤ max 1 (t .d))
   parts-facts fit other =
@@ -60,10 +61,10 @@ module _ (t : Plan) where
 
 -- ---- figures
 
-pub few-data : (lines p : ℕ) → 1 ≤ p → lines ≤ 40000 → up lines p ≤ 40000
+pub few-data : (lines p : ℕ) → 1 ≤ p → lines ≤ linesMost → up lines p ≤ linesMost
 few-data lines p low h = omega (arith, up-at-most lines p low)
 
-pub data-high : (f : Figures) → Shaped f → f .d ≤ 40000
+pub data-high : (f : Figures) → Shaped f → f .d ≤ linesMost
 data-high f s = rw (s .d-is) (few-data (f .lines) (f .p) (s .p-low) (s .lines-high))
 
 pub levels-are : (f : Figures) → Shaped f → Levels (f .n) (f .d) (f .k)
@@ -144,21 +145,21 @@ last-starts d m some =
 
 -- bucket j of height e, and the powers of n up to it
 pub record Reached (f : Figures) (e j : ℕ) : Type 0 where
-  pub height : e ≤ 16
-  pub few : f .d ≤ 40000
-  pub place : j ≤ 40000
-  pub start : j * f .n ^ e ≤ 40000
-  pub end : (j + 1) * f .n ^ e ≤ 360000
+  pub height : e ≤ levelsMost
+  pub few : f .d ≤ linesMost
+  pub place : j ≤ linesMost
+  pub start : j * f .n ^ e ≤ linesMost
+  pub end : (j + 1) * f .n ^ e ≤ spanMost + linesMost
   pub some : (h : ℕ) → h ≤ e → 1 ≤ f .n ^ h
-  pub small : (h : ℕ) → h ≤ e → f .n ^ h ≤ 320000
-  pub full-small : (h : ℕ) → h ≤ e → fullSize (f .n) h ≤ 320000
+  pub small : (h : ℕ) → h ≤ e → f .n ^ h ≤ spanMost
+  pub full-small : (h : ℕ) → h ≤ e → fullSize (f .n) h ≤ spanMost
 
 pub reached : (f : Figures) (e j : ℕ) → Shaped f → InTree f e j → Reached f e j
 unfolding InTree
 reached f e j s inside =
     let l = levels-are f s in
     let few = data-high f s in
-    let small : (h : ℕ) → h ≤ e → f .n ^ h ≤ 320000 =
+    let small : (h : ℕ) → h ≤ e → f .n ^ h ≤ spanMost =
     λ h u. let p = power-below (f .n) h (f .k) (s .n-low) (omega (arith, inside .0)) in omega (arith, l .small) in
     record {
       height = omega (arith, l .high, inside .0);
@@ -182,13 +183,13 @@ one-level f s none = s .k-is ∙ levels-lone (f .n) (f .d) none
 -- what figures of layout 1 say of the height of B
 pub record Block (f : Figures) : Type 0 where
   pub pos : 0 < f .n
-  pub few : f .copies ≤ 4
+  pub few : f .copies ≤ pairsMost
   pub fits : f .copies + 1 ≤ f .k
-  pub high : f .k ≤ 16
-  pub some : f .d ≤ 40000
+  pub high : f .k ≤ levelsMost
+  pub some : f .d ≤ linesMost
   pub power-low : 1 ≤ f .n ^ (f .k - f .copies)
-  pub power-high : f .n ^ (f .k - f .copies) ≤ 320000
-  pub full-high : fullSize (f .n) (f .k - f .copies) ≤ 320000
+  pub power-high : f .n ^ (f .k - f .copies) ≤ spanMost
+  pub full-high : fullSize (f .n) (f .k - f .copies) ≤ spanMost
 
 pub block : (f : Figures) → Shaped f → f .layout ≡ 1 → copiesFit (planOf f []) ≡ true → Block f
 unfolding planOf
@@ -237,9 +238,9 @@ pub record Parts (f : Figures) : Type 0 where
   pub pos : 0 < f .n
   pub low : 1 ≤ f .k
   pub parted : 1 ≤ f .copies
-  pub few : f .copies ≤ 40000
-  pub some : f .d ≤ 40000
-  pub tree : length (treeAt (planOf f []) (f .k) 0) ≤ 320000
+  pub few : f .copies ≤ linesMost
+  pub some : f .d ≤ linesMost
+  pub tree : length (treeAt (planOf f []) (f .k) 0) ≤ spanMost
 
 pub parts : (f : Figures) → Shaped f → (f .layout ≡ 1 → ⊥) → copiesFit (planOf f []) ≡ true → Parts f
 unfolding planOf

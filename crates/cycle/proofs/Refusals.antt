@@ -16,30 +16,31 @@ use Rattle.columns.specs.Lists.{pick}
 use Rattle.columns.specs.PrintedNumbers.{value}
 use Rattle.buckets.specs.declared.Line.{Line}
 use Rattle.buckets.specs.ListLine.{readLine, spelled, cutLines, listLines, taken, misprintFrom, fallFrom}
+use Rattle.buckets.specs.Lengths.{tagWidth, lineLength}
 use Rattle.buckets.proofs.Lists.{length-cutLines, length-listLines, cut-at, line-at}
 use Rattle.cycle.specs.Held.{placeOr}
 use Rattle.cycle.proofs.ImageLines.{spelled-front}
 
-pub count-lines : (list : List ℕ) (lines : ℕ) → length list ≡ 27 * lines → length list / 27 ≡ lines
-count-lines list lines e = rw (e, mul-comm 27 lines) (mul-div-cancel lines (lit< tt))
+pub count-lines : (list : List ℕ) (lines : ℕ) → length list ≡ lineLength * lines → length list / lineLength ≡ lines
+count-lines list lines e = rw (e, mul-comm lineLength lines) (mul-div-cancel lines (lit< tt))
 
-module _ (list : List ℕ) (lines : ℕ) (whole : length list ≡ 27 * lines) (i : ℕ) where
+module _ (list : List ℕ) (lines : ℕ) (whole : length list ≡ lineLength * lines) (i : ℕ) where
   -- ---- 3
 
   module _ (so : misprintFrom 0 (cutLines list) ≡ misprintFrom i (drop i (cutLines list))) where
-    cut-here : i < lines → drop i (cutLines list) ≡ take 27 (drop (27 * i) list) ∷ drop (i + 1) (cutLines list)
+    cut-here : i < lines → drop i (cutLines list) ≡ take lineLength (drop (lineLength * i) list) ∷ drop (i + 1) (cutLines list)
     cut-here h =
-        let there : i < length list / 27 = omega (arith, count-lines list lines whole) in
+        let there : i < length list / lineLength = omega (arith, count-lines list lines whole) in
         drop-cons (cutLines list) i [] (omega (arith, length-cutLines list))
-        ∙ rw (cut-at list [] i there, mul-comm i 27, add-one i)
+        ∙ rw (cut-at list [] i there, mul-comm i lineLength, add-one i)
 
     pub line-read :
-        i < lines → taken (readLine (take 27 (drop (27 * i) list))) ≡ true →
+        i < lines → taken (readLine (take lineLength (drop (lineLength * i) list))) ≡ true →
         misprintFrom 0 (cutLines list) ≡ misprintFrom (i + 1) (drop (i + 1) (cutLines list))
     line-read h e = so ∙ rw (cut-here h, e, ← add-one i)
 
     pub line-misprinted :
-        i < lines → readLine (take 27 (drop (27 * i) list)) ≡ none → i ≡ placeOr lines (misprintFrom 0 (cutLines list))
+        i < lines → readLine (take lineLength (drop (lineLength * i) list)) ≡ none → i ≡ placeOr lines (misprintFrom 0 (cutLines list))
     line-misprinted h e = let found : misprintFrom 0 (cutLines list) ≡ some i = so ∙ rw (cut-here h, e) in sym (ap (placeOr lines) found)
 
     pub lines-read : lines ≤ i → lines ≡ placeOr lines (misprintFrom 0 (cutLines list))
@@ -52,26 +53,26 @@ module _ (list : List ℕ) (lines : ℕ) (whole : length list ≡ 27 * lines) (i
 
   module _ (m : ℕ) (so : fallFrom 0 0 (listLines list) ≡ fallFrom i m (drop i (listLines list))) where
     line-here :
-        i < lines → drop i (listLines list) ≡ spelled (drop (27 * i) list) ∷ drop (i + 1) (listLines list)
+        i < lines → drop i (listLines list) ≡ spelled (drop (lineLength * i) list) ∷ drop (i + 1) (listLines list)
     line-here h =
         let none-there : Line = spelled [] in
-        let there : i < length list / 27 = omega (arith, count-lines list lines whole) in
+        let there : i < length list / lineLength = omega (arith, count-lines list lines whole) in
         drop-cons (listLines list) i none-there (omega (arith, length-listLines list))
-        ∙ rw (line-at list none-there i there, spelled-front 27 (drop (i * 27) list) (omega arith), mul-comm i 27, add-one i)
+        ∙ rw (line-at list none-there i there, spelled-front lineLength (drop (i * lineLength) list) (omega arith), mul-comm i lineLength, add-one i)
 
     pub tag-rises :
-        i < lines → (x : ℕ) → x ≡ value 0 (take 10 (drop (27 * i) list)) → m ≤ x →
+        i < lines → (x : ℕ) → x ≡ value 0 (take tagWidth (drop (lineLength * i) list)) → m ≤ x →
         fallFrom 0 0 (listLines list) ≡ fallFrom (i + 1) x (drop (i + 1) (listLines list))
     unfolding spelled
     tag-rises h x e l =
-        let up : leb m (value 0 (take 10 (drop (27 * i) list))) ≡ true = le-leb m (value 0 (take 10 (drop (27 * i) list))) (omega arith) in
+        let up : leb m (value 0 (take tagWidth (drop (lineLength * i) list))) ≡ true = le-leb m (value 0 (take tagWidth (drop (lineLength * i) list))) (omega arith) in
         so ∙ rw (line-here h, up, e, ← add-one i)
 
     pub tag-falls :
-        i < lines → (x : ℕ) → x ≡ value 0 (take 10 (drop (27 * i) list)) → x < m → i ≡ placeOr lines (fallFrom 0 0 (listLines list))
+        i < lines → (x : ℕ) → x ≡ value 0 (take tagWidth (drop (lineLength * i) list)) → x < m → i ≡ placeOr lines (fallFrom 0 0 (listLines list))
     unfolding spelled
     tag-falls h x e l =
-        let down : leb m (value 0 (take 10 (drop (27 * i) list))) ≡ false = lt-leb m (value 0 (take 10 (drop (27 * i) list))) (omega arith) in
+        let down : leb m (value 0 (take tagWidth (drop (lineLength * i) list))) ≡ false = lt-leb m (value 0 (take tagWidth (drop (lineLength * i) list))) (omega arith) in
         let found : fallFrom 0 0 (listLines list) ≡ some i = so ∙ rw (line-here h, down) in
         sym (ap (placeOr lines) found)
 

@@ -17,18 +17,19 @@ use Rattle.columns.proofs.Joined.{length-parts, parts-at, joined-parts, map-at,
 use Rattle.buckets.specs.declared.Line.{Line}
 use Rattle.buckets.specs.ListLine.{fits, printLine, listLines, wholeLines, fallFrom}
 use Rattle.buckets.specs.Bucket.{Bucket, printBucket, good}
+use Rattle.buckets.specs.Lengths.{lineLength, linesMost, bucketLength}
 use Rattle.buckets.proofs.Good.{GoodData, bucket-good}
 use Rattle.buckets.proofs.Buckets.{print-of-read-bucket}
 use Rattle.buckets.proofs.Lists.{length-printed, lines-of-printed, none-misprinted-of-printed, rising-none-falls}
 use Rattle.cycle.specs.Tree.{Settings, Plan, plan, linesOf, lastTag, firstTag}
-use Rattle.cycle.specs.Cycle.{followOnFrom, buckets, cycleSize, image}
+use Rattle.cycle.specs.Cycle.{followOnFrom, buckets, cycleSize, image, bucketAt}
 use Rattle.cycle.specs.Building.{copiesFit, settingsFit}
 use Rattle.cycle.specs.ReadingBack.{Builds}
 use Rattle.cycle.specs.declared.Built.the-variants.{Cycle}
 use Rattle.cycle.specs.declared.Figures.{Figures}
 use Rattle.cycle.specs.declared.Source.the-variants.{Image as InImage}
 use Rattle.cycle.specs.Held.{planOf, Ready, firstPlace, linesHeld, planIn, cycleBucket, noBucket}
-use Rattle.cycle.specs.Comparing.{bucketBytes, RisesAt, Matches, DataMatches}
+use Rattle.cycle.specs.Comparing.{RisesAt, Matches, DataMatches}
 use Rattle.cycle.proofs.TreeLaws.{up-covers, up-lt}
 use Rattle.cycle.proofs.Sequence.{Sound}
 use Rattle.cycle.proofs.Rising.{Rising, lastFrom, rising-tags, tags-rising}
@@ -72,21 +73,21 @@ module _ (t : Plan) (sound : Sound t) (image-is : List ℕ) where
       }
 
   -- the image is that of the plan
-  pub image-same : Matches t image-is 0 (cycleSize t) → length image-is ≡ 240 * cycleSize t → image t ≡ image-is
-  unfolding image bucketBytes cycleBucket
+  pub image-same : Matches t image-is 0 (cycleSize t) → length image-is ≡ bucketLength * cycleSize t → image t ≡ image-is
+  unfolding image bucketAt cycleBucket
   image-same whole long =
       let n : ℕ = cycleSize t in
-      let all : ListN.take (n * 240) image-is ≡ image-is = take-all (n * 240) image-is (omega (arith, long, mul-comm n 240)) in
-      let cut : parts n 240 image-is ≡ map printBucket (buckets t) =
-      ext-getD [] (parts n 240 image-is) (map printBucket (buckets t))
-      (length-parts n 240 image-is ∙ sym (length-map (buckets t) printBucket ∙ length-buckets t))
+      let all : ListN.take (n * bucketLength) image-is ≡ image-is = take-all (n * bucketLength) image-is (omega (arith, long, mul-comm n bucketLength)) in
+      let cut : parts n bucketLength image-is ≡ map printBucket (buckets t) =
+      ext-getD [] (parts n bucketLength image-is) (map printBucket (buckets t))
+      (length-parts n bucketLength image-is ∙ sym (length-map (buckets t) printBucket ∙ length-buckets t))
       (λ x h.
-      let below : x < n = omega (arith, length-parts n 240 image-is) in
-      parts-at n 240 image-is [] x below
-      ∙ ap (λ k. ListN.take 240 (drop k image-is)) (mul-comm x 240)
-      ∙ print-of-read-bucket (bucketBytes image-is x) (whole .each x (omega arith) below .reads) .0
+      let below : x < n = omega (arith, length-parts n bucketLength image-is) in
+      parts-at n bucketLength image-is [] x below
+      ∙ ap (λ k. ListN.take bucketLength (drop k image-is)) (mul-comm x bucketLength)
+      ∙ print-of-read-bucket (bucketAt image-is x) (whole .each x (omega arith) below .reads) .0
       ∙ sym (map-at printBucket (buckets t) x noBucket [] (omega (arith, length-buckets t)))) in
-      sym (joined-map (buckets t)) ∙ (ap (joined (λ p. p)) (sym cut) ∙ (joined-parts n 240 image-is ∙ all))
+      sym (joined-map (buckets t)) ∙ (ap (joined (λ p. p)) (sym cut) ∙ (joined-parts n bucketLength image-is ∙ all))
     where
       joined-map : (bs : List Bucket) → joined (λ p. p) (map printBucket bs) ≡ joined printBucket bs
       joined-map [] = refl
@@ -95,10 +96,10 @@ module _ (t : Plan) (sound : Sound t) (image-is : List ℕ) where
 module _ (t : Plan) (sound : Sound t) (image-is : List ℕ) (datas : DataMatches t image-is 0 (t .d)) where
   pub bytes-are :
       (q : ℕ) → q < t .d →
-      (bucketBytes image-is (firstPlace t (t .k + 1) q) ≡ printBucket (cycleBucket t (firstPlace t (t .k + 1) q)))
+      (bucketAt image-is (firstPlace t (t .k + 1) q) ≡ printBucket (cycleBucket t (firstPlace t (t .k + 1) q)))
       × (good (cycleBucket t (firstPlace t (t .k + 1) q)) ≡ true)
   bytes-are q h =
-      let told = print-of-read-bucket (bucketBytes image-is (firstPlace t (t .k + 1) q)) (datas .each q (omega arith) h .reads) in
+      let told = print-of-read-bucket (bucketAt image-is (firstPlace t (t .k + 1) q)) (datas .each q (omega arith) h .reads) in
       (told .0, told .1)
 
   -- the lines of a data bucket keep its rules
@@ -176,7 +177,7 @@ module _ (f : Figures) (bytes : List ℕ) (ready : Ready f) where
 -- ---- the list that builds the image
 
 module _ (s : Settings) (f : Figures) (bytes : List ℕ) (fit : settingsFit s ≡ true) (g : Figured s f) (ready : Ready f)
-    (long : length bytes ≡ 240 * f .size) (whole : Matches (planIn f InImage bytes) bytes 0 (f .size)) where
+    (long : length bytes ≡ bucketLength * f .size) (whole : Matches (planIn f InImage bytes) bytes 0 (f .size)) where
   pub restored-builds : Builds s (joined printLine (linesHeld f InImage bytes)) bytes
   unfolding planIn planOf wholeLines
   restored-builds =
@@ -190,18 +191,18 @@ module _ (s : Settings) (f : Figures) (bytes : List ℕ) (fit : settingsFit s �
       let size : cycleSize t ≡ f .size = size-shape f ls [] ∙ sym (ready .size-is) in
       let same : Matches t bytes 0 (cycleSize t) = matches-to (sym size) whole in
       let lines-back : listLines list ≡ ls = lines-of-printed ls (fine .lines-fit) in
-      let size-bytes : length list ≡ length ls * 27 = length-printed ls in
-      let lines-count : length list / 27 ≡ length ls = rw size-bytes (mul-div-cancel (length ls) {n = 27} (lit< tt)) in
-      let lines-left : length list % 27 ≡ 0 = rw size-bytes (mul-mod-left (length ls) 27) in
-      let few : length list / 27 ≤ 40000 = omega (arith, lines-count, count, shaped .lines-high) in
-      let wholes : eqb (length list % 27) 0 && leb (length list / 27) 40000 ≡ true = rw (eq-eqb (length list % 27) 0 lines-left, le-leb (length list / 27) 40000 few) in
+      let size-bytes : length list ≡ length ls * lineLength = length-printed ls in
+      let lines-count : length list / lineLength ≡ length ls = rw size-bytes (mul-div-cancel (length ls) {n = lineLength} (lit< tt)) in
+      let lines-left : length list % lineLength ≡ 0 = rw size-bytes (mul-mod-left (length ls) lineLength) in
+      let few : length list / lineLength ≤ linesMost = omega (arith, lines-count, count, shaped .lines-high) in
+      let wholes : eqb (length list % lineLength) 0 && leb (length list / lineLength) linesMost ≡ true = rw (eq-eqb (length list % lineLength) 0 lines-left, le-leb (length list / lineLength) linesMost few) in
       let falls : fallFrom 0 0 (listLines list) ≡ none = rw lines-back (rising-none-falls 0 0 ls (fine .tags-rise)) in
       let plans : plan s (listLines list) ≡ t = ap (plan s) lines-back ∙ sym (plan-same s f ls g count) in
       let n-is : cycleSize (plan s (listLines list)) ≡ f .size = ap cycleSize plans ∙ size in
       let built = builds-cycle s list (length bytes) fit wholes (none-misprinted-of-printed ls (fine .lines-fit)) falls
       (ap copiesFit plans ∙ copies) (omega (arith, n-is, ready .size-high)) (omega (arith, n-is, long)) in
-      let back : length bytes / 240 ≡ f .size = rw (long, mul-comm 240 (f .size)) (mul-div-cancel (f .size) {n = 240} (lit< tt)) in
+      let back : length bytes / bucketLength ≡ f .size = rw (long, mul-comm bucketLength (f .size)) (mul-div-cancel (f .size) {n = bucketLength} (lit< tt)) in
       record {
         answers = ap (λ o. o .answer) built ∙ ap Cycle (n-is ∙ sym back);
-        writes = ap (λ o. o .output) built ∙ (ap image plans ∙ image-same t (fine .sound) bytes same (long ∙ ap (λ c. 240 * c) (sym size)));
+        writes = ap (λ o. o .output) built ∙ (ap image plans ∙ image-same t (fine .sound) bytes same (long ∙ ap (λ c. bucketLength * c) (sym size)));
       }

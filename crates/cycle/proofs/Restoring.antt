@@ -16,8 +16,7 @@ use Rattle.buckets.proofs.Lists.{length-printed}
 use Rattle.cycle.specs.Tree.{Settings, settings}
 use Rattle.cycle.specs.Cycle.{cycleSize}
 use Rattle.cycle.specs.Building.{copiesFit, settingsFit}
-use Rattle.cycle.specs.ReadingBack.{wholeBuckets, Builds, ReadBack, noRoom, restored, ReadsBack}
-use Rattle.cycle.specs.declared.Restored.{Restored}
+use Rattle.cycle.specs.ReadingBack.{wholeBuckets, Outcome, handed, refused, readBack, Builds}
 use Rattle.cycle.specs.declared.Restored.the-variants.{Lines, Refused}
 use Rattle.cycle.specs.declared.Figures.{Figures}
 use Rattle.cycle.specs.declared.Source.the-variants.{Image as InImage}
@@ -30,6 +29,7 @@ use Rattle.cycle.proofs.ImageLines.{length-held}
 use Rattle.cycle.proofs.ImageText.{text-list}
 use Rattle.cycle.proofs.HeldImage.{Figured, BuiltFrom, built-lines, few-lines, built-from}
 use Rattle.cycle.proofs.Restorable.{held-datas, restored-builds}
+use Rattle.cycle.proofs.Demand2.{every-read-back}
 
 -- ---- conditions 1 and 11
 
@@ -62,12 +62,14 @@ module _ (c : ℕ) where
   unfolding wholeBuckets
   image-long h = rw (lt-leb (c / 240) 99999 h, and-false (eqb (c % 240) 0)) (and-false (leb 1 c))
 
--- ---- a refusal leaves the buffer as it is
+-- ---- an answer, and the buffer behind it
 
-pub refused :
-    (s : Settings) (bytes d : List ℕ) {r : Restored} → ReadBack s bytes (length d) r [] → ReadsBack s bytes d d r
+-- a refusal writes nothing
+pub refuses :
+    (number place : ℕ) (o : Outcome) (d : List ℕ) → o ≡ refused number place →
+    (Refused number place ≡ o .answer) × (d ≡ onto (o .output) d)
 unfolding onto
-refused s bytes d o = record { list = []; outcome = o; written = refl }
+refuses number place o d e = (sym (ap (λ r. r .answer) e), sym (ap (λ r. onto (r .output) d) e))
 
 -- ---- condition 13
 
@@ -91,8 +93,8 @@ many-refused s bytes h list b = omega (arith, built-lines s bytes list b, few-li
 
 -- ---- condition 7, and the list
 
-module _ (s : Settings) (f : Figures) (bytes : List ℕ) (fit : settingsFit s ≡ true) (whole : wholeBuckets (length bytes) ≡ true)
-    (g : Figured s f) (w : Holding f bytes) (same : Matches (planIn f InImage bytes) bytes 0 (f .size)) where
+module _ (s : Settings) (f : Figures) (bytes : List ℕ) (fit : settingsFit s ≡ true) (g : Figured s f) (w : Holding f bytes)
+    (same : Matches (planIn f InImage bytes) bytes 0 (f .size)) where
   pub built : Builds s (joined printLine (linesHeld f InImage bytes)) bytes
   built = restored-builds s f bytes fit g (w .ready) (w .long) same
 
@@ -101,22 +103,26 @@ module _ (s : Settings) (f : Figures) (bytes : List ℕ) (fit : settingsFit s �
       let held = length-held f bytes in
       length-printed (linesHeld f InImage bytes) ∙ omega (arith, held)
 
-  pub room-refused : (room : ℕ) → room < 27 * f .lines → ReadBack s bytes room (Refused 7 0) []
-  room-refused room h = noRoom fit whole (joined printLine (linesHeld f InImage bytes)) built (omega (arith, length-list))
+  pub room-refused : (room : ℕ) → room < 27 * f .lines → readBack s bytes room ≡ refused 7 0
+  room-refused room h =
+      every-read-back s bytes room .refuses-7 (joined printLine (linesHeld f InImage bytes)) built (omega (arith, length-list))
 
   pub list-written :
-      (d out : List ℕ) → 27 * f .lines ≤ length d → out ≡ put d 0 (listText f bytes 0 (f .lines)) → ReadsBack s bytes d out (Lines (f .lines))
+      (d out : List ℕ) → 27 * f .lines ≤ length d → out ≡ put d 0 (listText f bytes 0 (f .lines)) →
+      (Lines (f .lines) ≡ readBack s bytes (length d) .answer) × (out ≡ onto (readBack s bytes (length d) .output) d)
   unfolding put onto
   list-written d out h e =
       let list : List ℕ = joined printLine (linesHeld f InImage bytes) in
       let held = length-held f bytes in
       let count : length list / 27 ≡ f .lines =
       ap (λ c. c / 27) (length-printed (linesHeld f InImage bytes)) ∙ (mul-div-cancel (length (linesHeld f InImage bytes)) {n = 27} (lit< tt) ∙ held) in
-      record {
-        list = list;
-        outcome = subst (λ c. ReadBack s bytes (length d) (Lines c) list) count (restored fit whole list built (omega (arith, length-list)));
-        written = e ∙ (ap (put d 0) (text-list f bytes w (held-datas f bytes (w .ready) same)) ∙ ap (λ k. list ++ drop k d) (zero-add (length list)));
-      }
+      let all : readBack s bytes (length d) ≡ handed list =
+      every-read-back s bytes (length d) .accepts list built (omega (arith, length-list)) in (
+        ap Lines (sym count) ∙ sym (ap (λ o. o .answer) all),
+        e
+            ∙ (ap (put d 0) (text-list f bytes w (held-datas f bytes (w .ready) same))
+            ∙ (ap (λ k. list ++ drop k d) (zero-add (length list)) ∙ sym (ap (λ o. onto (o .output) d) all))),
+      )
 
 -- ---- figures with their size
 

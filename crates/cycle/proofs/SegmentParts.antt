@@ -12,6 +12,7 @@ use borrow.Author.Tests.{eqb-true, eqb-false, eq-eqb}
 use Rattle.columns.specs.Lists.{joined, range}
 use Rattle.columns.proofs.Joined.{joined-append}
 use Rattle.buckets.specs.declared.Line.{Line}
+use Rattle.buckets.specs.Lengths.{pairsMost, bucketsMost}
 use Rattle.cycle.specs.Tree.{Plan, above}
 use Rattle.cycle.specs.Layouts.{Slot, slot, sent, path, pathTop, slots}
 use Rattle.cycle.specs.Cycle.{cycleSize}
@@ -89,7 +90,7 @@ pub record Seated (f : Figures) (s : Segment) : Type 0 where
   pub tree-low : s .«tree_at» ≤ s .«data_at»
   pub data-low : s .«data_at» ≤ s .end
   pub within : s .end ≤ f .size
-  pub short : f .size ≤ 99999
+  pub short : f .size ≤ bucketsMost
 
 module _ (f : Figures) (s : Segment) (ready : Ready f) (placed : (ls : List Line) → Placed (planOf f ls) s) where
   pub seated : Seated f s
@@ -164,6 +165,6 @@ module _ (f : Figures) (s : Segment) (ready : Ready f) (placed : (ls : List Line
   unfolding planOf
   path-high one = omega (arith, copies-fit (planOf f []) (ready .copies-fit) .paths-fit one)
 
-  pub path-few : f .layout ≡ 1 → f .copies ≤ 4
+  pub path-few : f .layout ≡ 1 → f .copies ≤ pairsMost
   unfolding planOf
   path-few one = copies-fit (planOf f []) (ready .copies-fit) .few-paths one

@@ -9,6 +9,7 @@ use lib.Dec.{lit<}
 use lib.ListN.{length}
 use Rattle.buckets.specs.declared.Line.{Line}
 use Rattle.buckets.specs.ListLine.{listLines}
+use Rattle.buckets.specs.Lengths.{lineLength}
 use Rattle.buckets.proofs.Lists.{length-listLines, print-of-list, none-falls}
 use Rattle.cycle.specs.Building.{copiesFit}
 use Rattle.cycle.specs.declared.Figures.{Figures}
@@ -38,12 +39,12 @@ shaped-ranged f ls h e =
 module _ (f : Figures) (list : List ℕ) (s : Sending f list) where
   pub sending-lines : length (listLines list) ≡ f .lines
   sending-lines =
-      length-listLines list ∙ rw (s .whole, mul-comm 27 (f .lines)) (mul-div-cancel (f .lines) (lit< tt))
+      length-listLines list ∙ rw (s .whole, mul-comm lineLength (f .lines)) (mul-div-cancel (f .lines) (lit< tt))
 
   pub sending-accepted : Accepted (planOf f (listLines list))
   unfolding planOf
   sending-accepted =
-      let whole : length list % 27 ≡ 0 = rw (s .whole, mul-comm 27 (f .lines)) (mul-mod-left (f .lines) 27) in
+      let whole : length list % lineLength ≡ 0 = rw (s .whole, mul-comm lineLength (f .lines)) (mul-mod-left (f .lines) lineLength) in
       ranged-accepted (planOf f (listLines list)) (shaped-ranged f (listLines list) (s .ready .shaped) sending-lines)
       (copies-shape f (listLines list) [] ∙ s .ready .copies-fit)
       (print-of-list list whole (s .printed) .1)

@@ -16,6 +16,7 @@ use Rattle.buckets.specs.ListLine.{fits, printLine, spelled, listLines}
 use Rattle.buckets.specs.Bucket.{good, printBucket}
 use Rattle.buckets.specs.declared.Head.{Head}
 use Rattle.buckets.specs.Held.{headOf}
+use Rattle.buckets.specs.Lengths.{lineLength, bucketLength, bucketsMost}
 use Rattle.buckets.proofs.ListLines.{length-printLine}
 use Rattle.buckets.proofs.Lists.{line-at, print-of-list}
 use Rattle.cycle.specs.Layouts.{Slot, slots}
@@ -51,27 +52,27 @@ head-shape f ls ms x h =
     head-at (at-position (planOf f ls) x h .1) ∙ ap shown same ∙ sym (head-at (at-position (planOf f ms) x there .1))
 
 module _ (f : Figures) (list : List ℕ) (s : Sending f list) where
-  count : length list / 27 ≡ f .lines
-  count = rw (s .whole, mul-comm 27 (f .lines)) (mul-div-cancel (f .lines) (lit< tt))
+  count : length list / lineLength ≡ f .lines
+  count = rw (s .whole, mul-comm lineLength (f .lines)) (mul-div-cancel (f .lines) (lit< tt))
 
-  pub whole-lines : length list % 27 ≡ 0
-  whole-lines = rw (s .whole, mul-comm 27 (f .lines)) (mul-mod-left (f .lines) 27)
+  pub whole-lines : length list % lineLength ≡ 0
+  whole-lines = rw (s .whole, mul-comm lineLength (f .lines)) (mul-mod-left (f .lines) lineLength)
 
   pub lines-in : linesHeld f InList list ≡ listLines list
   unfolding linesHeld
   lines-in =
       let none-there : Line = spelled [] in
-      let text : ℕ → Line = λ i. spelled (drop (27 * i) list) in
+      let text : ℕ → Line = λ i. spelled (drop (lineLength * i) list) in
       let long : length (range 0 (f .lines)) ≡ f .lines = length-range 0 (f .lines) ∙ omega arith in
       ext-getD none-there (map text (range 0 (f .lines))) (listLines list) (length-map (range 0 (f .lines)) text ∙ long ∙ sym (sending-lines f list s))
       (λ i h.
       let below : i < f .lines = omega (arith, length-map (range 0 (f .lines)) text, long) in
-      let there : i < length list / 27 = omega (arith, count) in
-      let e : i * 27 ≡ 27 * i = mul-comm i 27 in
+      let there : i < length list / lineLength = omega (arith, count) in
+      let e : i * lineLength ≡ lineLength * i = mul-comm i lineLength in
       map-at text (range 0 (f .lines)) i 0 none-there (omega (arith, long))
       ∙ ap text (getD-range 0 0 (f .lines) i (omega arith))
-      ∙ ap (λ k. spelled (drop (27 * k) list)) (zero-plus i)
-      ∙ sym (line-at list none-there i there ∙ spelled-front 27 (drop (i * 27) list) (omega arith) ∙ ap (λ k. spelled (drop k list)) e))
+      ∙ ap (λ k. spelled (drop (lineLength * k) list)) (zero-plus i)
+      ∙ sym (line-at list none-there i there ∙ spelled-front lineLength (drop (i * lineLength) list) (omega arith) ∙ ap (λ k. spelled (drop k list)) e))
     where
       zero-plus : (i : ℕ) → 0 + i ≡ i
       zero-plus i = omega arith
@@ -87,11 +88,11 @@ module _ (f : Figures) (list : List ℕ) (s : Sending f list) where
   unfolding planIn
   size-in = size-shape f (linesHeld f InList list) [] ∙ sym (s .ready .size-is)
 
-  short-in : cycleSize (planIn f InList list) ≤ 99999
+  short-in : cycleSize (planIn f InList list) ≤ bucketsMost
   short-in = omega (arith, size-in, s .ready .size-high)
 
-  pub long-in : length (image (planIn f InList list)) ≡ 240 * f .size
-  long-in = length-image (planIn f InList list) accepted-in short-in ∙ ap (λ c. 240 * c) size-in
+  pub long-in : length (image (planIn f InList list)) ≡ bucketLength * f .size
+  long-in = length-image (planIn f InList list) accepted-in short-in ∙ ap (λ c. bucketLength * c) size-in
 
   module _ (x : ℕ) (h : x < f .size) where
     pub good-in : good (cycleBucket (planIn f InList list) x) ≡ true
@@ -109,14 +110,14 @@ module _ (f : Figures) (list : List ℕ) (s : Sending f list) where
   pub lines-fit : every fits (listLines list) ≡ true
   lines-fit = print-of-list list whole-lines (s .printed) .1
 
-  pub lines-text : (a c : ℕ) → a + c ≤ f .lines → take (27 * c) (drop (27 * a) list) ≡ joined printLine (take c (drop a (listLines list)))
+  pub lines-text : (a c : ℕ) → a + c ≤ f .lines → take (lineLength * c) (drop (lineLength * a) list) ≡ joined printLine (take c (drop a (listLines list)))
   lines-text a c h =
       let ls : List Line = listLines list in
       let long : length ls ≡ f .lines = sending-lines f list s in
-      let wide : (l : Line) → length (printLine l) ≡ 27 = length-printLine in
+      let wide : (l : Line) → length (printLine l) ≡ lineLength = length-printLine in
       let behind : length (drop a ls) ≡ length ls - a = length-drop a ls in
-      ap (λ t. take (27 * c) (drop (27 * a) t)) (print-of-list list whole-lines (s .printed) .0)
-      ∙ ap (λ k. take (27 * c) (drop k (joined printLine ls))) (mul-comm 27 a)
-      ∙ ap (take (27 * c)) (drop-joined printLine 27 wide ls a (omega arith))
-      ∙ ap (λ k. take k (joined printLine (drop a ls))) (mul-comm 27 c)
-      ∙ take-joined printLine 27 wide (drop a ls) c (omega arith)
+      ap (λ t. take (lineLength * c) (drop (lineLength * a) t)) (print-of-list list whole-lines (s .printed) .0)
+      ∙ ap (λ k. take (lineLength * c) (drop k (joined printLine ls))) (mul-comm lineLength a)
+      ∙ ap (take (lineLength * c)) (drop-joined printLine lineLength wide ls a (omega arith))
+      ∙ ap (λ k. take k (joined printLine (drop a ls))) (mul-comm lineLength c)
+      ∙ take-joined printLine lineLength wide (drop a ls) c (omega arith)

@@ -4,12 +4,11 @@ use mathlib.Core.Path.{_≡_, refl, ap, ap₂}
 use Prim.Native.Nat.{ℕ, zero, suc, _+_, _-_, _*_, _/_, _%_, max}
 use mathlib.Core.List.{List, _∷_, _++_, map}
 use lib.Dec.{eqb, ltb}
-use lib.ListN.{length}
 use Rattle.columns.specs.Lists.{pick, joined, range}
 use Rattle.buckets.specs.declared.Line.{Line}
 use Rattle.cycle.specs.Tree.{width, children, above, under, dataUnder}
 use Rattle.cycle.specs.Layouts.{Slot, slot, segment, subtree, treeBelow, sent, path, distributedSegment, distributed, wholeSegment, oneM, slots}
-use Rattle.cycle.specs.Held.{planOf, treeAt, firstPlace, aheadOf, Stand, farDistances, nearDistances, placeOver, pairReach, pairDistances}
+use Rattle.cycle.specs.Held.{planOf, treeAt, firstPlace, aheadOf, Stand, farDistances, placeOver, pairReach, pairDistances}
 use Rattle.cycle.specs.Cycle.{occurs, distanceTo}
 use Rattle.cycle.specs.declared.Figures.{Figures}
 
@@ -17,6 +16,10 @@ module _ (f : Figures) (ls ms : List Line) where
   pub children-shape : (i j : ℕ) → children (planOf f ls) i j ≡ children (planOf f ms) i j
   unfolding children width planOf
   children-shape i j = refl
+
+  pub width-shape : (i : ℕ) → width (planOf f ls) i ≡ width (planOf f ms) i
+  unfolding width planOf
+  width-shape i = refl
 
   pub subtree-shape : (h i j : ℕ) → subtree (planOf f ls) h i j ≡ subtree (planOf f ms) h i j
   subtree-shape zero i j = refl
@@ -71,12 +74,6 @@ module _ (f : Figures) (ls ms : List Line) where
   unfolding farDistances planOf
   farDistances-shape size x e j =
       ap₂ {A = ℕ → ℕ} (λ g cs. map (λ c. aheadOf size x (g c)) cs) (λ k c. firstPlace-shape (suc (f .k + 1 - e)) c k)
-      (children-shape (f .k + 1 - e) j)
-
-  pub nearDistances-shape : (e j : ℕ) → nearDistances (planOf f ls) e j ≡ nearDistances (planOf f ms) e j
-  unfolding nearDistances planOf
-  nearDistances-shape e j =
-      ap₂ {A = ℕ → List Slot} (λ g cs. map (λ c. 1 + length (joined g (range (j * f .n) c))) cs) (λ k c. treeAt-shape (e - 1) c k)
       (children-shape (f .k + 1 - e) j)
 
   pub pairDistances-shape : (size x b i : ℕ) → pairDistances (planOf f ls) size x b i ≡ pairDistances (planOf f ms) size x b i

@@ -2,19 +2,20 @@
 -- Assumes nothing.
 use mathlib.Core.Path.{_≡_, sym, ap, _∙_, subst}
 use Prim.Native.Nat.{ℕ, suc, _+_, _-_, _*_, _^_, _≤_, _<_}
-use native.Mathlib.Nat.{mul-le-mul, mul-le-mul-right, mul-assoc, suc-mul, pow-succ'}
+use native.Mathlib.Nat.{mul-le-mul-right, mul-assoc, suc-mul, pow-succ'}
 use native.Mathlib.Numerals.{add-one}
 use native.Mathlib.Omega.{arith}
 use mathlib.Core.List.{List, [], _∷_, _++_}
 use lib.ListN.{length, drop}
 use Rattle.columns.specs.Lists.{joined}
 use Rattle.buckets.specs.declared.Line.{Line}
+use Rattle.buckets.specs.Lengths.{linesMost}
 use Rattle.cycle.specs.Tree.{children}
 use Rattle.cycle.specs.Layouts.{Slot, slot, slots}
 use Rattle.cycle.specs.Cycle.{toNextSegment}
 use Rattle.cycle.specs.declared.Figures.{Figures}
 use Rattle.cycle.specs.declared.Segment.{Segment}
-use Rattle.cycle.specs.Held.{planOf, Ready, InTree, Stand, Placed, treeAt, Under, TreePlace}
+use Rattle.cycle.specs.Held.{planOf, Ready, InTree, Stand, Placed, treeAt, Under, TreePlace, spanMost}
 use Rattle.cycle.proofs.Readiness
 use Rattle.cycle.proofs.Children
 use Rattle.cycle.proofs.Inside.{Inside, slot-inside}
@@ -47,7 +48,7 @@ child-under f s e j i low h u =
     record { from = λ one. omega (arith, u .from one, first, up); to = λ one. omega (arith, u .to one, last, down) }
 
 module _ (f : Figures) (s : Segment) (ready : Ready f) (placed : (ls : List Line) → Placed (planOf f ls) s) where
-  pub d-high : f .d ≤ 40000
+  pub d-high : f .d ≤ linesMost
   d-high = Readiness.data-high f (ready .shaped)
 
   pub head-asked :
@@ -81,10 +82,10 @@ module _ (f : Figures) (s : Segment) (ready : Ready f) (placed : (ls : List Line
     unfolding InTree
     tree-high = p .inside .0
 
-    pub place-small : j ≤ 40000
+    pub place-small : j ≤ linesMost
     place-small = Readiness.reached f e j (ready .shaped) (p .inside) .place
 
-    pub first-small : j * f .n ≤ 320000
+    pub first-small : j * f .n ≤ spanMost
     first-small = Children.first-small f ready e j (p .low) (p .inside)
 
     -- its own bucket stands at x, its children's subtrees behind it

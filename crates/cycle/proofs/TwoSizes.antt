@@ -5,7 +5,6 @@
 use mathlib.Core.Path.{_≡_, refl}
 use Prim.Native.Nat.{ℕ}
 use mathlib.Core.List.{List, [], _∷_}
-use lib.Dec.{lit≤}
 use Rattle.columns.specs.Lists
 use Rattle.columns.specs.PrintedNumbers
 use Rattle.buckets.specs.ListLine
@@ -20,12 +19,12 @@ use Rattle.buckets.specs.ListLine.{printLine}
 use Rattle.cycle.specs.Tree.{Settings, Plan, levels}
 use Rattle.cycle.specs.Cycle.{cycleSize}
 use Rattle.cycle.specs.Building.{build}
-use Rattle.cycle.specs.ReadingBack.{ReadBack, restored}
+use Rattle.cycle.specs.ReadingBack.{readBack}
 use Rattle.cycle.specs.declared.Restored.the-variants.{Lines}
 
 -- every definition that these computations open
 unfoldable pub opened : Unit {0}
-unfolding Lists.up Lists.strict Lists.padded Lists.put PrintedNumbers.blanks PrintedNumbers.readNumber ListLine.tagFits ListLine.fits ListLine.figures ListLine.printLine ListLine.spelled ListLine.readLine ListLine.cutLines ListLine.listLines ListLine.wholeLines Bucket.cycleLength Bucket.printHead Bucket.printPair Bucket.printEntry Bucket.printBucket Bucket.reaches Bucket.pairFits Bucket.entryFits Bucket.good Bucket.columns Bucket.field Bucket.spelledPair Bucket.spelledEntry Bucket.spelledBody Bucket.spelledBucket Bucket.readBucket Tree.dataBuckets Tree.levels Tree.plan Tree.width Tree.children Tree.dataUnder Tree.linesOf Tree.tagsOf Tree.firstTag Tree.lastTag Tree.largestTag Layouts.slot Layouts.treeBelow Layouts.sent Layouts.path Layouts.distributedSegment Layouts.distributed Layouts.wholeSegment Layouts.oneM Layouts.slots Cycle.occurs Cycle.toNext Cycle.toNextSegment Cycle.isData Cycle.hasPairs Cycle.firstPair Cycle.laterPair Cycle.pairs Cycle.entry Cycle.entries Cycle.bodyOf Cycle.bucketOf Cycle.lastSent Cycle.buckets Cycle.cycleSize Cycle.image Building.settingsFit Building.copiesFit Building.refuse Building.buildPlan Building.build ReadingBack.wholeBuckets
+unfolding Lists.up Lists.strict Lists.padded Lists.put PrintedNumbers.blanks PrintedNumbers.readNumber ListLine.tagFits ListLine.fits ListLine.figures ListLine.printLine ListLine.spelled ListLine.readLine ListLine.cutLines ListLine.listLines ListLine.wholeLines Bucket.cycleLength Bucket.printHead Bucket.printPair Bucket.printEntry Bucket.printBucket Bucket.reaches Bucket.pairFits Bucket.entryFits Bucket.good Bucket.columns Bucket.field Bucket.spelledPair Bucket.spelledEntry Bucket.spelledBody Bucket.spelledBucket Bucket.readBucket Tree.dataBuckets Tree.levels Tree.plan Tree.width Tree.children Tree.dataUnder Tree.linesOf Tree.tagsOf Tree.firstTag Tree.lastTag Tree.largestTag Layouts.slot Layouts.treeBelow Layouts.sent Layouts.path Layouts.distributedSegment Layouts.distributed Layouts.wholeSegment Layouts.oneM Layouts.slots Cycle.occurs Cycle.toNext Cycle.toNextSegment Cycle.isData Cycle.hasPairs Cycle.firstPair Cycle.laterPair Cycle.pairs Cycle.entry Cycle.entries Cycle.bodyOf Cycle.bucketOf Cycle.lastSent Cycle.buckets Cycle.cycleSize Cycle.image Building.settingsFit Building.copiesFit Building.conditions Building.build ReadingBack.sentLines ReadingBack.sentList ReadingBack.builds ReadingBack.wholeBuckets ReadingBack.conditions ReadingBack.readBack
 opened = tt
 
 -- a plan of d data buckets; N does not look at their lines
@@ -44,12 +43,13 @@ listOf tags = joined (λ t. printLine (record { tag = t; tare = 0; code = 0; wei
 unfoldable pub plain : Settings
 plain = record { n = 2; p = 1; layout = 1; copies = 0 }
 
+-- the number of lines is the list's own, whatever N
 pub two-lines-restored :
-    ReadBack plain (build plain (listOf (3 ∷ 5 ∷ [])) 720 .output) 54 (Lines 2) (listOf (3 ∷ 5 ∷ []))
+    readBack plain (build plain (listOf (3 ∷ 5 ∷ [])) 720 .output) 54 .answer ≡ Lines 2
 unfolding plain listOf opened
-two-lines-restored = restored refl refl (listOf (3 ∷ 5 ∷ [])) (record { answers = refl; writes = refl }) (lit≤ tt)
+two-lines-restored = refl
 
 pub three-lines-restored :
-    ReadBack plain (build plain (listOf (3 ∷ 5 ∷ 5 ∷ [])) 1440 .output) 81 (Lines 3) (listOf (3 ∷ 5 ∷ 5 ∷ []))
+    readBack plain (build plain (listOf (3 ∷ 5 ∷ 5 ∷ [])) 1440 .output) 81 .answer ≡ Lines 3
 unfolding plain listOf opened
-three-lines-restored = restored refl refl (listOf (3 ∷ 5 ∷ 5 ∷ [])) (record { answers = refl; writes = refl }) (lit≤ tt)
+three-lines-restored = refl

@@ -7,14 +7,15 @@ use mathlib.Core.List.{List}
 use lib.ListN.{length}
 use Rattle.buckets.specs.Bucket.{Pair, Entry, indexBody, Bucket, good}
 use Rattle.buckets.specs.Held.{indexOf, heldIndex, bucketWith, headOf}
+use Rattle.buckets.specs.Lengths.{pairsMost, entriesMost}
 use Rattle.buckets.proofs.Good.{GoodIndex, bucket-good}
 use Rattle.buckets.proofs.Holding.{index-held, bucket-whole}
 use Rattle.cycle.specs.Held.{asIndex}
 
 -- what is held of a good index bucket
 pub record IndexHeld (b : Bucket) (ps : List Pair) (es : List Entry) : Type 0 where
-  pub few-pairs : asIndex (b .body) .pairs ≤ 4
-  pub few-entries : asIndex (b .body) .entries ≤ 8
+  pub few-pairs : asIndex (b .body) .pairs ≤ pairsMost
+  pub few-entries : asIndex (b .body) .entries ≤ entriesMost
   pub entries-are : asIndex (b .body) .entries ≡ length es
   pub whole : bucketWith (headOf b) (indexOf (asIndex (b .body))) ≡ b
 

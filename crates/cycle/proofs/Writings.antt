@@ -14,26 +14,27 @@ use Rattle.cycle.specs.Cycle.{toNextSegment}
 use Rattle.cycle.specs.declared.Figures.{Figures}
 use Rattle.cycle.specs.declared.Segment.{Segment}
 use Rattle.cycle.specs.declared.Source.the-variants.{List as InList}
-use Rattle.cycle.specs.Held.{planOf, Ready, Placed, treeAt, Sending, linesHeld, planIn, written, Writing, TreePlace}
+use Rattle.cycle.specs.Held.{planOf, Ready, Placed, treeAt, Sending, linesHeld, planIn, written, Writing, TreePlace, spanMost}
 use Rattle.cycle.proofs.TreePlaces
 use Rattle.cycle.proofs.Children
 use Rattle.cycle.proofs.SegmentParts.{Seated, seated, path-there, path-layout, path-high}
 use Rattle.cycle.proofs.ChildTrees.{earlier, earlier-more, earlier-all}
 use Rattle.cycle.proofs.Sending.{long-in}
-use Rattle.cycle.proofs.BucketsWritten.{HeldAt, index-held-at, tree-held-at}
+use Rattle.cycle.proofs.BucketsWritten.{HeldAt, index-held-at}
 use Rattle.cycle.proofs.Written.{written-none, written-on, length-written}
+use Rattle.buckets.specs.Lengths.{linesMost, entriesMost, bucketLength}
 
 -- ---- a child's number
 
-pub first-fits : (a b : ℕ) → a ≤ 40000 → b ≤ 8 → Fits w64 (a * b)
-first-fits a b h g = let most : a * b ≤ 320000 = mul-le-mul {n₂ = 40000} {m₂ = 8} h g in omega arith
+pub first-fits : (a b : ℕ) → a ≤ linesMost → b ≤ entriesMost → Fits w64 (a * b)
+first-fits a b h g = let most : a * b ≤ spanMost = mul-le-mul {n₂ = linesMost} {m₂ = entriesMost} h g in omega arith
 
-pub child-fits : (a b i : ℕ) → a ≤ 40000 → b ≤ 8 → i < 8 → Fits w64 (a * b + i)
-child-fits a b i h g l = let most : a * b ≤ 320000 = mul-le-mul {n₂ = 40000} {m₂ = 8} h g in omega arith
+pub child-fits : (a b i : ℕ) → a ≤ linesMost → b ≤ entriesMost → i < entriesMost → Fits w64 (a * b + i)
+child-fits a b i h g l = let most : a * b ≤ spanMost = mul-le-mul {n₂ = linesMost} {m₂ = entriesMost} h g in omega arith
 
 -- ---- a run of buckets, written from a on over d
 
-module _ (f : Figures) (list : List ℕ) (sending : Sending f list) (d : List ℕ) (room : 240 * f .size ≤ length d) (a : ℕ) where
+module _ (f : Figures) (list : List ℕ) (sending : Sending f list) (d : List ℕ) (room : bucketLength * f .size ≤ length d) (a : ℕ) where
   pub begun : d ≡ written (planIn f InList list) d a a
   begun = sym (written-none (planIn f InList list) (f .size) (long-in f list sending) d room a)
 
@@ -89,19 +90,16 @@ module _ (f : Figures) (list : List ℕ) (s : Segment) (r : ℕ) (w : Writing f 
     pub tree-high : e ≤ f .k
     tree-high = TreePlaces.tree-high f s (w .sending .ready) (w .placed) e j x p
 
-    pub place-small : j ≤ 40000
+    pub place-small : j ≤ linesMost
     place-small = TreePlaces.place-small f s (w .sending .ready) (w .placed) e j x p
 
     pub tree-before : x < s .«data_at»
     tree-before = TreePlaces.tree-before f s (w .sending .ready) (w .placed) e j x p
 
-    pub tree-held : HeldAt (planIn f InList list) x (length (children (planOf f []) (f .k + 1 - e) j))
-    tree-held = tree-held-at f list (w .sending) x e j (p .low) tree-high (p .stands)
-
     pub tree-alone : e ≡ 1 → length (treeAt (planOf f []) e j) ≡ 1
     tree-alone one = TreePlaces.tree-alone f s (w .sending .ready) (w .placed) e j x p one
 
-    pub child-few : (i : ℕ) → i < length (children (planOf f []) (f .k + 1 - e) j) → i < 8
+    pub child-few : (i : ℕ) → i < length (children (planOf f []) (f .k + 1 - e) j) → i < entriesMost
     child-few i h = Children.few f (w .sending .ready) e j (p .low) (p .inside) i h
 
     pub child-place :
@@ -112,7 +110,7 @@ module _ (f : Figures) (list : List ℕ) (s : Segment) (r : ℕ) (w : Writing f 
     -- ---- the loop over the children: d is the image where it begins
 
     module _ (d : List ℕ) (room : length d ≡ r) where
-      enough : 240 * f .size ≤ length d
+      enough : bucketLength * f .size ≤ length d
       enough = omega (arith, w .roomy)
 
       pub next-child :

@@ -2,16 +2,19 @@
 -- when a part of it is that part of a plan's cycle.
 -- Assumes nothing.
 use mathlib.Core.Path.{_≡_}
-use Prim.Native.Nat.{ℕ, _+_, _-_, _*_, _/_, _^_, _≤_, _<_, min}
+use Prim.Native.Nat.{ℕ, _+_, _-_, _*_, _/_, _≤_, _<_}
 use mathlib.Core.Bool.{Bool, true, false}
 use mathlib.Core.Option.{some}
-use mathlib.Core.List.{List, [], _∷_, _++_}
+use mathlib.Core.List.{List, [], _∷_}
 use lib.Dec.{eqb, ltb}
-use lib.ListN.{length, take, drop, getD}
+use lib.ListN.{length, drop, getD}
 use Rattle.columns.specs.Lists.{pick, parts, joined, range}
 use Rattle.buckets.specs.Bucket.{readBucket, followOn}
 use Rattle.buckets.specs.declared.Line.{Line}
+use Rattle.buckets.specs.ListLine.{endedLine}
+use Rattle.buckets.specs.Lengths.{letterData, letterColumn, itemDigitColumn, bucketLength}
 use Rattle.cycle.specs.Tree.{Plan, firstTag, lastTag}
+use Rattle.cycle.specs.Cycle.{bucketAt}
 use Rattle.cycle.specs.declared.Figures.{Figures}
 use Rattle.cycle.specs.declared.Segment.{Segment}
 use Rattle.cycle.specs.declared.Source.the-variants.{Image as InImage}
@@ -33,19 +36,18 @@ pub record Finds (P : Type 0) (y answer : ℕ) : Type 0 where
 unfoldable pub linesBy : ℕ → ℕ → ℕ → ℕ
 linesBy p d last = pick (eqb d 0) 0 (pick (ltb last 48) 0 ((d - 1) * p + (last - 48)))
 
--- the same, with the data buckets among these still to be counted: column 24 has their letter, 28 the last digit of their count
+-- the same, with the data buckets among these still to be counted: each has its letter, and the last digit of its count
 abbrev pub countedFrom : ℕ → ℕ → ℕ → List (List ℕ) → ℕ
 countedFrom p d last [] = linesBy p d last
-countedFrom p d last (s ∷ ss) = pick (eqb (getD s 24 0) 68) (countedFrom p (d + 1) (getD s 28 0) ss) (countedFrom p d last ss)
+countedFrom p d last (s ∷ ss) =
+    pick (eqb (getD s letterColumn 0) letterData)
+    (countedFrom p (d + 1) (getD s itemDigitColumn 0) ss)
+    (countedFrom p d last ss)
 
 unfoldable pub counted : ℕ → List ℕ → ℕ
-counted p image = countedFrom p 0 48 (parts (length image / 240) 240 image)
+counted p image = countedFrom p 0 48 (parts (length image / bucketLength) bucketLength image)
 
 -- ---- a part of the image
-
--- bucket x of an image
-unfoldable pub bucketBytes : List ℕ → ℕ → List ℕ
-bucketBytes image x = take 240 (drop (240 * x) image)
 
 -- no tag falls from data bucket q to the next
 abbrev pub RisesAt : Plan → ℕ → Type 0
@@ -53,7 +55,7 @@ RisesAt t q = q + 1 < t .d → lastTag t q ≤ firstTag t (q + 1)
 
 -- bucket x of the image is bucket x of the cycle, and no tag falls from a data bucket there to the next
 pub record MatchesAt (t : Plan) (image : List ℕ) (x : ℕ) : Type 0 where
-  pub reads : readBucket (bucketBytes image x) ≡ some (cycleBucket t x)
+  pub reads : readBucket (bucketAt image x) ≡ some (cycleBucket t x)
   pub rises : (q : ℕ) → firstPlace t (t .k + 1) q ≡ x → RisesAt t q
 
 -- the same of those from x up to but without y
@@ -69,22 +71,15 @@ pub record Followed (t : Plan) (q x follow : ℕ) : Type 0 where
   pub follow-is : follow ≡ followOn (cycleBucket t x .body)
   pub in-order : RisesAt t q
 
--- where the image has the last line under bucket j of height e
-unfoldable pub imagePlace : Figures → ℕ → ℕ → ℕ
-imagePlace f e j = lineAt (planOf f []) InImage (min (f .lines) ((j + 1) * f .n ^ e * f .p) - 1)
-
--- lines that stand side by side, from a place of the image on, as list lines
-unfoldable pub linesText : List ℕ → ℕ → ℕ → List ℕ
-linesText image from c = joined (λ i. take 26 (drop (from + 26 * i) image) ++ 10 ∷ []) (range 0 c)
-
 -- the lines of the image from a up to but without b as list lines
 unfoldable pub listText : Figures → List ℕ → ℕ → ℕ → List ℕ
-listText f image a b = joined (λ i. take 26 (drop (lineAt (planOf f []) InImage i) image) ++ 10 ∷ []) (range a b)
+listText f image a b =
+    joined (λ i. endedLine (drop (lineAt (planOf f []) InImage i) image)) (range a b)
 
 -- figures for which an image has the right length
 pub record Holding (f : Figures) (image : List ℕ) : Type 0 where
   pub ready : Ready f
-  pub long : length image ≡ 240 * f .size
+  pub long : length image ≡ bucketLength * f .size
 
 -- one of the segments of its cycle
 pub record Comparing (f : Figures) (image : List ℕ) (s : Segment) : Type 0 where

@@ -1,13 +1,16 @@
 -- Document 01, "The tree": the control pairs, and each bucket of the cycle with its distances; the cycle as bytes.
 -- Assumes nothing.
-use Prim.Native.Nat.{ℕ, zero, suc, _+_, _-_, _*_}
-use mathlib.Core.Bool.{Bool, true, false, _&&_}
+use Prim.Native.Nat.{ℕ, suc, _+_, _-_, _*_}
+use mathlib.Core.Bool.{Bool, _&&_}
 use mathlib.Core.Option.{Option, none, some}
 use mathlib.Core.List.{List, [], _∷_, _++_, map}
 use lib.Dec.{leb, eqb}
-use lib.ListN.{length}
+use lib.ListN.{length, take, drop}
 use Rattle.columns.specs.Lists.{pick, joined, range}
+use Rattle.buckets.specs.declared.Line.{Line}
+use Rattle.buckets.specs.Lengths.{bucketLength}
 use Rattle.buckets.specs.Bucket.{Pair, Entry, Body, indexBody, dataBody, Bucket, printBucket}
+use Rattle.buckets.specs.BucketLines.{bodyLines}
 use Rattle.cycle.specs.Tree.{Plan, children, above, linesOf, firstTag, lastTag, largestTag}
 use Rattle.cycle.specs.Layouts.{Slot, slots}
 
@@ -105,3 +108,11 @@ cycleSize t = length (slots t)
 -- the cycle as bytes
 unfoldable pub image : Plan → List ℕ
 image t = joined printBucket (buckets t)
+
+-- bucket x of an image
+unfoldable pub bucketAt : List ℕ → ℕ → List ℕ
+bucketAt image x = take bucketLength (drop (bucketLength * x) image)
+
+-- the lines that a bucket carries: those of a data bucket
+abbrev pub carried : Bucket → List Line
+carried b = bodyLines (b .body)

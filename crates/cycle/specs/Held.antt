@@ -4,18 +4,20 @@
 -- Assumes nothing.
 use mathlib.Core.Path.{_≡_}
 use Prim.Native.Nat.{ℕ, zero, suc, _+_, _-_, _*_, _/_, _%_, _^_, _≤_, _<_, min, max}
-use mathlib.Core.Bool.{Bool, true, false}
+use mathlib.Core.Bool.{true}
 use mathlib.Core.Option.{Option, none, some}
 use mathlib.Core.List.{List, [], _∷_, _++_, map}
 use lib.Dec.{eqb, ltb}
 use lib.ListN.{length, take, drop, getD}
 use Rattle.columns.specs.Lists.{pick, joined, range, up, put}
-use Rattle.columns.specs.PrintedNumbers.{value}
+use Rattle.columns.specs.PrintedNumbers.{value, print}
 use Rattle.buckets.specs.declared.Line.{Line}
 use Rattle.buckets.specs.declared.Index.{Index}
 use Rattle.buckets.specs.ListLine.{spelled, cutLines, listLines, misprintFrom, fallFrom}
 use Rattle.buckets.specs.Bucket.{Pair, Body, indexBody, dataBody, Bucket}
 use Rattle.buckets.specs.Held.{heldIndex}
+use Rattle.buckets.specs.Lengths.{tagWidth, figuresWidth, lineLength, linesMost, entriesMost, bucketLinesMost, bucketLength}
+use Rattle.buckets.specs.Lengths.{linesStart, bucketsMost}
 use Rattle.cycle.specs.Tree.{Plan, levels, width, children, above, lastTag, largestTag}
 use Rattle.cycle.specs.Layouts.{Slot, slot, subtree, sent, path, pathTop, distributedSegment, wholeSegment, slots}
 use Rattle.cycle.specs.Cycle.{occurs, distanceTo, toNextSegment, firstPair, lastSent, buckets, cycleSize, image}
@@ -38,15 +40,19 @@ abbrev pub fullSize : ℕ → ℕ → ℕ
 fullSize n zero = 0
 fullSize n (suc h) = fullSize n h * n + 1
 
+-- no full tree has more data buckets under it: a tree with one level less has fewer than the list
+abbrev pub spanMost : ℕ
+spanMost = linesMost * entriesMost
+
 -- figures that settings within their ranges give
 pub record Shaped (f : Figures) : Type 0 where
   pub n-low : 2 ≤ f .n
-  pub n-high : f .n ≤ 8
+  pub n-high : f .n ≤ entriesMost
   pub p-low : 1 ≤ f .p
-  pub p-high : f .p ≤ 8
+  pub p-high : f .p ≤ bucketLinesMost
   pub layout-low : 1 ≤ f .layout
   pub layout-high : f .layout ≤ 2
-  pub lines-high : f .lines ≤ 40000
+  pub lines-high : f .lines ≤ linesMost
   pub d-is : f .d ≡ up (f .lines) (f .p)
   pub k-is : f .k ≡ levels (f .n) (f .d)
 
@@ -103,7 +109,7 @@ pub record Ready (f : Figures) : Type 0 where
   pub trees : Trees f
   pub copies-fit : copiesFit (planOf f []) ≡ true
   pub size-is : f .size ≡ cycleSize (planOf f [])
-  pub size-high : f .size ≤ 99999
+  pub size-high : f .size ≤ bucketsMost
 
 -- ---- places
 
@@ -181,8 +187,8 @@ pub record Placed (t : Plan) (s : Segment) : Type 0 where
 
 -- the place of line i's first byte in the text
 abbrev pub lineAt : Plan → Source → ℕ → ℕ
-lineAt t InList i = 27 * i
-lineAt t InImage i = 240 * firstPlace t (t .k + 1) (i / t .p) + (29 + 26 * (i % t .p))
+lineAt t InList i = lineLength * i
+lineAt t InImage i = bucketLength * firstPlace t (t .k + 1) (i / t .p) + (linesStart + figuresWidth * (i % t .p))
 
 -- the lines that stand in a text
 unfoldable pub linesHeld : Figures → Source → List ℕ → List Line
@@ -190,7 +196,7 @@ linesHeld f source text = map (λ i. spelled (drop (lineAt (planOf f []) source 
 
 -- the tag of line i
 unfoldable pub tagAt : Figures → Source → List ℕ → ℕ → ℕ
-tagAt f source text i = value 0 (take 10 (drop (lineAt (planOf f []) source i) text))
+tagAt f source text i = value 0 (take tagWidth (drop (lineAt (planOf f []) source i) text))
 
 -- the plan over those lines
 unfoldable pub planIn : Figures → Source → List ℕ → Plan
@@ -199,7 +205,7 @@ planIn f source text = planOf f (linesHeld f source text)
 -- a list that can be sent, under figures of its length
 pub record Sending (f : Figures) (list : List ℕ) : Type 0 where
   pub ready : Ready f
-  pub whole : length list ≡ 27 * f .lines
+  pub whole : length list ≡ lineLength * f .lines
   pub printed : misprintFrom 0 (cutLines list) ≡ none
   pub rising : fallFrom 0 0 (listLines list) ≡ none
 
@@ -210,8 +216,8 @@ placeOr lines (some i) = i
 
 -- the text is long enough to hold them
 abbrev pub TextFits : Figures → Source → ℕ → Type 0
-TextFits f InList c = c ≡ 27 * f .lines
-TextFits f InImage c = c ≡ 240 * f .size
+TextFits f InList c = c ≡ lineLength * f .lines
+TextFits f InImage c = c ≡ bucketLength * f .size
 
 -- ---- buckets
 
@@ -228,7 +234,7 @@ asIndex (dataBody f ls) = heldIndex [] []
 
 -- the image's bytes from bucket x on, c buckets
 unfoldable pub imagePart : Plan → ℕ → ℕ → List ℕ
-imagePart t x c = take (240 * c) (drop (240 * x) (image t))
+imagePart t x c = take (bucketLength * c) (drop (bucketLength * x) (image t))
 
 -- ---- what stands in an index bucket, as the code works it out
 
@@ -241,18 +247,15 @@ unfoldable pub farDistances : Plan → ℕ → ℕ → ℕ → ℕ → List ℕ
 farDistances t size x e j =
     map (λ c. aheadOf size x (firstPlace t (suc (t .k + 1 - e)) c)) (children t (t .k + 1 - e) j)
 
--- the distances to its children where their subtrees follow it
-unfoldable pub nearDistances : Plan → ℕ → ℕ → List ℕ
-nearDistances t e j =
-    map (λ c. 1 + length (joined (treeAt t (e - 1)) (range (j * t .n) c))) (children t (t .k + 1 - e) j)
+-- the distance from bucket j of height e in a segment's tree, at x, to its child c: a data bucket may stand anywhere, a subtree
+-- follows those of the earlier children
+unfoldable pub treeDistance : Plan → ℕ → ℕ → ℕ → ℕ → ℕ → ℕ
+treeDistance t size x e j c =
+    pick (eqb e 1) (aheadOf size x (firstPlace t (t .k + 1) c)) (1 + length (joined (treeAt t (e - 1)) (range (j * t .n) c)))
 
--- the distances of a bucket of height e in a segment's tree, at x: data buckets may stand anywhere, subtrees follow it
-unfoldable pub treeDistances : Plan → ℕ → ℕ → ℕ → ℕ → List ℕ
-treeDistances t size x e j = pick (eqb e 1) (farDistances t size x e j) (nearDistances t e j)
-
--- where a list has the last line under bucket j of height e
-unfoldable pub tagPlace : Figures → ℕ → ℕ → ℕ
-tagPlace f e j = 27 * (min (f .lines) ((j + 1) * f .n ^ e * f .p) - 1)
+-- where a text has the last line under bucket j of a level whose full buckets have `span` data buckets under them
+unfoldable pub tagPlace : Figures → Source → ℕ → ℕ → ℕ
+tagPlace f source span j = lineAt (planOf f []) source (min (f .lines) ((j + 1) * span * f .p) - 1)
 
 -- the control pairs of a bucket of height e in a segment's tree: the root of layout 2 has one
 unfoldable pub treePairs : Plan → ℕ → Option ℕ → ℕ → List Pair
@@ -287,14 +290,14 @@ pub record OnPath (t : Plan) (b i x : ℕ) : Type 0 where
 
 -- the bytes d with the cycle's buckets from x up to but without y written over them, each at its place
 unfoldable pub written : Plan → List ℕ → ℕ → ℕ → List ℕ
-written t d x y = put d (240 * x) (imagePart t x (y - x))
+written t d x y = put d (bucketLength * x) (imagePart t x (y - x))
 
 -- ---- what the functions that write a segment are given
 
 -- a list that can be sent, a buffer of `room` bytes that holds its image, and one of its segments
 pub record Writing (f : Figures) (list : List ℕ) (s : Segment) (room : ℕ) : Type 0 where
   pub sending : Sending f list
-  pub roomy : 240 * f .size ≤ room
+  pub roomy : bucketLength * f .size ≤ room
   pub placed : (ls : List Line) → Placed (planOf f ls) s
 
 -- in layout 1, bucket j of height e has no data buckets under it but the segment's
@@ -310,3 +313,28 @@ pub record TreePlace (f : Figures) (s : Segment) (e j x : ℕ) : Type 0 where
   pub before-data : x + length (treeAt (planOf f []) e j) ≤ s .«data_at»
   pub stands : Stand (planOf f []) x (treeAt (planOf f []) e j)
   pub under : Under f s e j
+
+-- bucket j is one of a level whose full buckets have `span` data buckets under them
+pub record Spans (f : Figures) (span j : ℕ) : Type 0 where
+  pub height : ℕ
+  pub power : span ≡ f .n ^ height
+  pub inside : InTree f height j
+
+-- the same, in the tree of a segment
+pub record SpansIn (f : Figures) (s : Segment) (span j : ℕ) : Type 0 where
+  pub spans : Spans f span j
+  pub under : Under f s (spans .height) j
+
+-- the largest tag under each bucket stands printed at the place of its line
+pub record TagsStand (f : Figures) (source : Source) (text : List ℕ) : Type 0 where
+  pub within : (e j : ℕ) → 1 ≤ f .d → InTree f e j → tagPlace f source (f .n ^ e) j + tagWidth ≤ length text
+  pub printed :
+      (e j : ℕ) → 1 ≤ f .d → InTree f e j →
+      take tagWidth (drop (tagPlace f source (f .n ^ e) j) text) ≡ print tagWidth (largestTag (planIn f source text) (f .k + 1 - e) j)
+
+-- what the buckets of a segment's tree are printed from
+pub record Printing (f : Figures) (source : Source) (text : List ℕ) (s : Segment) : Type 0 where
+  pub ready : Ready f
+  pub fits : TextFits f source (length text)
+  pub placed : (ls : List Line) → Placed (planOf f ls) s
+  pub tags : TagsStand f source text

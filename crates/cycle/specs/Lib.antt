@@ -2,7 +2,9 @@
 pub mod Tree
 pub mod Layouts
 pub mod Cycle
+pub mod Refusals
 pub mod Building
 pub mod ReadingBack
 pub mod Held
+pub mod Judging
 pub mod Comparing

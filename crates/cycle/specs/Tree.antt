@@ -31,9 +31,13 @@ pub record Plan : Type 0 where
 unfoldable pub dataBuckets : ℕ → ℕ → ℕ
 dataBuckets c p = up c p
 
--- "Levels k: the least k of at least 1 with n^k at least D." D is at most 40,000, and 2^16 is more.
+-- no tree has more levels: D is at most 40,000, and 2^16 is more
+abbrev pub levelsMost : ℕ
+levelsMost = 16
+
+-- "Levels k: the least k of at least 1 with n^k at least D."
 unfoldable pub levels : ℕ → ℕ → ℕ
-levels n d = least 16 1 (λ k. leb d (n ^ k))
+levels n d = least levelsMost 1 (λ k. leb d (n ^ k))
 
 unfoldable pub plan : Settings → List Line → Plan
 plan s ls =

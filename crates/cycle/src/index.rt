@@ -1,53 +1,47 @@
 // What stands in each bucket of a cycle: heads, control pairs, entries and follow-ons.
 use super::Figures;
+use super::LINE;
 use super::Segment;
 use super::Source;
 use super::places::data_place;
 use super::places::first_place;
 use super::places::largest_tag;
-use super::places::last_line;
 use super::places::tag_of;
+use super::places::tag_place;
 use super::sizes::full_size;
 use super::sizes::power;
 use super::sizes::up;
+use buckets::Bucket;
 use buckets::Head;
 use buckets::Index;
+use buckets::writer::put_entry;
+use buckets::writer::start_index;
 ghost use mathlib.Core.Path.{_≡_};
-ghost use mathlib.Core.List.{List, [], _∷_, _++_, map};
+ghost use mathlib.Core.List.{List, [], _++_};
 ghost use Prim.Native.Nat.{suc, _+_, _-_, _*_, _%_, _≤_, _<_, max};
 ghost use lib.ListN.{length, drop};
-ghost use Rattle.buckets.specs.Held.{filled, tagOr0, heldIndex, headOf};
+ghost use lib.Dec.{eqb};
+ghost use Rattle.columns.specs.Lists.{pick};
+ghost use Rattle.buckets.specs.Lengths.{pairsMost, entriesMost, bucketsMost, bucketLength};
+ghost use Rattle.buckets.specs.Bucket.{printBucket};
+ghost use Rattle.buckets.specs.Held.{filled, tagOr0, headOf};
 ghost use Rattle.cycle.specs.Tree.{width, children};
 ghost use Rattle.cycle.specs.Layouts.{slots};
-ghost use Rattle.cycle.specs.Cycle.{toNextSegment, firstPair};
+ghost use Rattle.cycle.specs.Cycle.{toNextSegment};
 ghost use Rattle.buckets.specs.declared.Line.{Line};
-ghost use Rattle.cycle.specs.Held.{planOf, Ready, InTree, Placed, Under, TextFits, planIn, cycleBucket, asIndex};
-ghost use Rattle.cycle.specs.Held.{firstPlace, aheadOf, lastOf, childTags, farDistances, nearDistances};
-ghost use Rattle.cycle.specs.Held.{treePairs, pairReach, placeOver, pairTags, pairDistances, OnPath, treeDistances, tagPlace};
+ghost use Rattle.cycle.specs.Held.{planOf, Ready, InTree, Placed, TextFits, planIn, cycleBucket, asIndex, fullSize};
+ghost use Rattle.cycle.specs.Held.{firstPlace, aheadOf, lastOf, childTags, farDistances, treeDistance};
+ghost use Rattle.cycle.specs.Held.{pairReach, placeOver, pairTags, pairDistances, OnPath, TreePlace, Printing};
 
 // A distance from position x to a place of the cycle: of this one if it is ahead, else of the coming one.
 fn ahead(f: Figures, x: u64, place: u64) -> u64
-    requires { ⌜ (x < f .size) × (place ≤ f .size) × (f .size ≤ 99999) ⌝ }
+    requires { ⌜ (x < f .size) × (place ≤ f .size) × (f .size ≤ bucketsMost) ⌝ }
     ensures { λ r. ⌜ r ≡ aheadOf (f .size) x place ⌝ }
 {
     if x < place {
         return place - x;
     }
     f.size + place - x
-}
-
-fn no_index() -> Index
-    ensures { λ r. ⌜ r ≡ heldIndex [] [] ⌝ }
-{
-    Index {
-        pairs: 0,
-        blank: false,
-        pair_tags: [0; 4],
-        pair_distances: [0; 4],
-        entries: 0,
-        entry_tags: [0; 8],
-        entry_distances: [0; 8],
-    }
 }
 
 // The tag of the last line of the first `sent` data buckets, 0 where there is none.
@@ -59,23 +53,6 @@ fn last_sent_tag(text: &[u8], f: Figures, source: Source, sent: u64) -> u64
         return 0;
     }
     tag_of(text, f, source, sent * f.p - 1)
-}
-
-// An index bucket at x behind `sent` data buckets, with the first control pair alone.
-fn first_pair(text: &[u8], f: Figures, source: Source, sent: u64, x: u64) -> Index
-    requires { ⌜ Ready f × TextFits f source (length (now text)) × (sent < max 1 (f .d)) × (x < f .size) ⌝ }
-    ensures { λ r. ⌜ r ≡ heldIndex (firstPair (lastOf (planIn f source (now (text .entry))) sent) (f .size - x) ∷ []) [] ⌝ }
-{
-    let tag = last_sent_tag(text, f, source, sent);
-    Index {
-        pairs: 1,
-        blank: sent == 0,
-        pair_tags: [tag, 0, 0, 0],
-        pair_distances: [f.size - x, 0, 0, 0],
-        entries: 0,
-        entry_tags: [0; 8],
-        entry_distances: [0; 8],
-    }
 }
 
 // How many children bucket j of height e has.
@@ -97,13 +74,21 @@ pub fn child_count(f: Figures, e: usize, j: u64) -> usize
 }
 
 // The largest tags below the children of bucket j of height e.
-fn child_tags(text: &[u8], f: Figures, source: Source, e: usize, j: u64, count: usize) -> [u64; 8]
-    requires { ⌜ Ready f × TextFits f source (length (now text)) × (1 ≤ f .d) × (1 ≤ e) × InTree f e j × (count ≡ length (children (planOf f []) (f .k + 1 - e) j)) ⌝ }
-    ensures { λ r. ⌜ r ≡ filled 8 (childTags (planIn f source (now (text .entry))) e j) ⌝ }
+fn child_tags(
+    text: &[u8],
+    f: Figures,
+    source: Source,
+    e: usize,
+    j: u64,
+    count: usize,
+) -> [u64; Bucket::ENTRIES_MOST]
+    requires { ⌜ Ready f × TextFits f source (length (now text)) × (1 ≤ f .d) × (1 ≤ e) × InTree f e j
+        × (count ≡ length (children (planOf f []) (f .k + 1 - e) j)) ⌝ }
+    ensures { λ r. ⌜ r ≡ filled entriesMost (childTags (planIn f source (now (text .entry))) e j) ⌝ }
 {
     let below = e - 1;
     let from = j * f.n;
-    let mut tags = [0u64; 8];
+    let mut tags = [0u64; Bucket::ENTRIES_MOST];
     let mut i = 0;
     while i < count {
         tags[i] = largest_tag(text, f, source, below, from + i as u64);
@@ -112,125 +97,86 @@ fn child_tags(text: &[u8], f: Figures, source: Source, e: usize, j: u64, count: 
     tags
 }
 
-// Where a list has the last line under bucket j of height e.
-fn tag_place(f: Figures, e: usize, j: u64) -> usize
-    requires { ⌜ Ready f × (1 ≤ f .d) × InTree f e j ⌝ }
-    ensures { λ r. ⌜ r ≡ tagPlace f e j ⌝ }
-{
-    (27 * last_line(f, e, j)) as usize
-}
-
-// Where a list has the largest tags below the children of bucket j of height e.
-pub fn tag_places(f: Figures, e: usize, j: u64, count: usize) -> [usize; 8]
-    requires { ⌜ Ready f × (1 ≤ e) × InTree f e j × (count ≡ length (children (planOf f []) (f .k + 1 - e) j)) ⌝ }
-    ensures { λ r. ⌜ r ≡ filled 8 (map (tagPlace f (e - 1)) (children (planOf f []) (f .k + 1 - e) j)) ⌝ }
-{
-    let below = e - 1;
-    let from = j * f.n;
-    let mut places = [0usize; 8];
-    let mut i = 0;
-    while i < count {
-        places[i] = tag_place(f, below, from + i as u64);
-        i += 1;
-    }
-    places
-}
-
-// The distances from bucket j of height e to its children, whose subtrees follow it.
-fn near_distances(f: Figures, e: usize, j: u64, count: usize) -> [u64; 8]
-    requires { ⌜ Ready f × (2 ≤ e) × InTree f e j × (count ≡ length (children (planOf f []) (f .k + 1 - e) j)) ⌝ }
-    ensures { λ r. ⌜ r ≡ filled 8 (nearDistances (planOf f []) e j) ⌝ }
-{
-    let below = e - 1;
-    let full = full_size(f.n, below);
-    let mut distances = [0u64; 8];
-    let mut d = 1;
-    let mut i = 0;
-    while i < count {
-        distances[i] = d;
-        d += full;
-        i += 1;
-    }
-    distances
-}
-
-// The first position of a child, bucket c, of a bucket of height e: a data bucket, or on or under a path of layout 1.
-fn child_place(f: Figures, e: usize, c: u64) -> u64
-    requires { ⌜ Ready f × (1 ≤ f .d) × (1 ≤ e) × (e ≤ f .k) × InTree f (e - 1) c × ((2 ≤ e → (f .layout ≡ 1) × (f .k + 1 - e ≤ f .copies))) ⌝ }
-    ensures { λ r. ⌜ r ≡ firstPlace (planOf f []) (suc (f .k + 1 - e)) c ⌝ }
-{
-    if e == 1 {
-        return data_place(f, c);
-    }
-    first_place(f, f.k + 2 - e as u64, c)
-}
-
-// The distances from bucket j of height e at x to its children, wherever they stand.
-fn far_distances(f: Figures, e: usize, j: u64, count: usize, x: u64) -> [u64; 8]
-    requires { ⌜ Ready f × (1 ≤ f .d) × (1 ≤ e) × InTree f e j × ((2 ≤ e → (f .layout ≡ 1) × (f .k + 1 - e ≤ f .copies))) × (count ≡ length (children (planOf f []) (f .k + 1 - e) j)) × (x < f .size) ⌝ }
-    ensures { λ r. ⌜ r ≡ filled 8 (farDistances (planOf f []) (f .size) x e j) ⌝ }
+// The distances from bucket j of height e, a path bucket at x, to its children, on or under a path.
+fn far_distances(f: Figures, e: usize, j: u64, count: usize, x: u64) -> [u64; Bucket::ENTRIES_MOST]
+    requires { ⌜ Ready f ⌝ }
+    requires { ⌜ f .layout ≡ 1 ⌝ }
+    requires { ⌜ f .k + 1 - e ≤ f .copies ⌝ }
+    requires { ⌜ 1 ≤ e ⌝ }
+    requires { ⌜ InTree f e j ⌝ }
+    requires { ⌜ count ≡ length (children (planOf f []) (f .k + 1 - e) j) ⌝ }
+    requires { ⌜ x < f .size ⌝ }
+    ensures { λ r. ⌜ r ≡ filled entriesMost (farDistances (planOf f []) (f .size) x e j) ⌝ }
 {
     let from = j * f.n;
-    let mut distances = [0u64; 8];
+    let level = f.k + 2 - e as u64;
+    let mut distances = [0u64; Bucket::ENTRIES_MOST];
     let mut i = 0;
     while i < count {
-        distances[i] = ahead(f, x, child_place(f, e, from + i as u64));
+        distances[i] = ahead(f, x, first_place(f, level, from + i as u64));
         i += 1;
     }
     distances
 }
 
-// The distances from bucket j of height 1 of a segment's tree, at x, to its children in layout 1: the segment has them, side by
-// side.
-fn row_distances(f: Figures, s: Segment, j: u64, count: usize, x: u64) -> [u64; 8]
-    requires { ⌜ Ready f × (1 ≤ f .d) × (f .layout ≡ 1) × InTree f 1 j × (count ≡ length (children (planOf f []) (f .k + 1 - 1) j)) × (x < f .size) × ((ls : List Line) → Placed (planOf f ls) s) × Under f s 1 j ⌝ }
-    ensures { λ r. ⌜ r ≡ filled 8 (farDistances (planOf f []) (f .size) x 1 j) ⌝ }
+// The distance from bucket j of height e in a segment's tree, at x, to its child i. A full subtree of the children's height has
+// `full` index buckets, and those of the earlier children are full.
+fn tree_distance(f: Figures, s: Segment, e: usize, j: u64, x: u64, full: u64, i: u64) -> u64
+    requires { ⌜ Ready f ⌝ }
+    requires { ⌜ ((ls : List Line) → Placed (planOf f ls) s) ⌝ }
+    requires { ⌜ TreePlace f s e j x ⌝ }
+    requires { ⌜ full ≡ fullSize (f .n) (e - 1) ⌝ }
+    requires { ⌜ i < length (children (planOf f []) (f .k + 1 - e) j) ⌝ }
+    ensures { λ r. ⌜ r ≡ treeDistance (planOf f []) (f .size) x e j (j * f .n + i) ⌝ }
 {
-    let first = s.data_at + (j * f.n - s.first);
-    let mut distances = [0u64; 8];
-    let mut i = 0;
-    while i < count {
-        distances[i] = ahead(f, x, first + i as u64);
-        i += 1;
-    }
-    distances
-}
-
-// The distances from bucket j of height e in a segment's tree, at x, to its children.
-pub fn tree_distances(f: Figures, s: Segment, e: usize, j: u64, count: usize, x: u64) -> [u64; 8]
-    requires { ⌜ Ready f × (1 ≤ e) × InTree f e j × (count ≡ length (children (planOf f []) (f .k + 1 - e) j)) × (x < f .size) × ((ls : List Line) → Placed (planOf f ls) s) × Under f s e j ⌝ }
-    ensures { λ r. ⌜ r ≡ filled 8 (treeDistances (planOf f []) (f .size) x e j) ⌝ }
-{
-    if f.d == 0 {
-        return [0; 8];
-    }
     if e != 1 {
-        return near_distances(f, e, j, count);
+        return 1 + i * full;
     }
+    let c = j * f.n + i;
     if f.layout == 1 {
-        return row_distances(f, s, j, count, x);
+        return s.data_at + (c - s.first) - x;
     }
-    far_distances(f, e, j, count, x)
+    ahead(f, x, data_place(f, c))
 }
 
-// The control pairs of a bucket of height e in a segment's tree, at x behind `sent` data buckets.
-pub fn tree_pairs(text: &[u8], f: Figures, source: Source, sent: u64, e: usize, x: u64) -> Index
-    requires { ⌜ Ready f × TextFits f source (length (now text)) × (sent < max 1 (f .d)) × (x < f .size) ⌝ }
-    ensures { λ r. ⌜ r ≡ heldIndex (treePairs (planOf f []) e (lastOf (planIn f source (now (text .entry))) sent) (f .size - x)) [] ⌝ }
+// How many control pairs a bucket of height e in a segment's tree has: the root of layout 2 has one.
+fn tree_pairs(f: Figures, e: usize) -> usize
+    ensures { λ r. ⌜ r ≡ pick (eqb (f .layout) 2) (pick (eqb e (f .k)) 1 0) 0 ⌝ }
 {
-    if f.layout == 2 {
-        if e as u64 == f.k {
-            return first_pair(text, f, source, sent, x);
-        }
-        return no_index();
+    if f.layout != 2 {
+        return 0;
     }
-    no_index()
+    if e as u64 != f.k {
+        return 0;
+    }
+    1
+}
+
+// The tag of that pair, if there is one, behind `sent` data buckets.
+fn first_tag(text: &[u8], f: Figures, source: Source, sent: u64, pairs: usize) -> u64
+    requires { ⌜ Ready f ⌝ }
+    requires { ⌜ TextFits f source (length (now text)) ⌝ }
+    requires { ⌜ sent < max 1 (f .d) ⌝ }
+    ensures { λ r. ⌜ ((pairs ≡ 0 → ⊥) → r ≡ tagOr0 (lastOf (planIn f source (now (text .entry))) sent)) ⌝ }
+{
+    if pairs == 0 {
+        return 0;
+    }
+    last_sent_tag(text, f, source, sent)
 }
 
 // The tags of the pairs of the path bucket of level i before bucket b of level r + 1, the first one's given.
-fn pair_tags(text: &[u8], f: Figures, source: Source, b: u64, i: u64, first: u64) -> [u64; 4]
-    requires { ⌜ Ready f × TextFits f source (length (now text)) × (1 ≤ f .d) × (f .layout ≡ 1) × (1 ≤ i) × (i ≤ f .copies) × InTree f (f .k - f .copies) b ⌝ }
-    ensures { λ r. ⌜ r ≡ filled 4 (pairTags (planIn f source (now (text .entry))) b i first) ⌝ }
+fn pair_tags(
+    text: &[u8],
+    f: Figures,
+    source: Source,
+    b: u64,
+    i: u64,
+    first: u64,
+) -> [u64; Bucket::PAIRS_MOST]
+    requires { ⌜ Ready f × TextFits f source (length (now text)) × (1 ≤ f .d) × (f .layout ≡ 1) × (1 ≤ i) × (i ≤ f .copies)
+        × InTree f (f .k - f .copies) b ⌝ }
+    ensures { λ r. ⌜ r ≡ filled pairsMost (pairTags (planIn f source (now (text .entry))) b i first) ⌝ }
 {
     let mut tags = [first, 0, 0, 0];
     let mut level = 2;
@@ -246,7 +192,10 @@ fn pair_tags(text: &[u8], f: Figures, source: Source, b: u64, i: u64, first: u64
 
 // The distance of pair number level of a path bucket at x, over bucket `place` of that level.
 fn pair_distance(f: Figures, level: u64, place: u64, x: u64) -> u64
-    requires { ⌜ Ready f × (1 ≤ f .d) × (f .layout ≡ 1) × (2 ≤ level) × (level ≤ f .copies) × InTree f (f .k + 1 - level) place × (x < f .size) × ((place + 1 < width (planOf f []) level → ((place + 1) % f .n ≡ 0 → ⊥) → x < firstPlace (planOf f []) level (place + 1))) ⌝ }
+    requires { ⌜ Ready f × (1 ≤ f .d) × (f .layout ≡ 1) × (2 ≤ level) × (level ≤ f .copies) × InTree f (f .k + 1 - level) place
+        × (x < f .size)
+        × ((place + 1 < width (planOf f []) level → ((place + 1) % f .n ≡ 0 → ⊥) →
+        x < firstPlace (planOf f []) level (place + 1))) ⌝ }
     ensures { λ r. ⌜ r ≡ pairReach (planOf f []) (f .size) x level place ⌝ }
 {
     let e = (f.k + 1 - level) as usize;
@@ -261,9 +210,9 @@ fn pair_distance(f: Figures, level: u64, place: u64, x: u64) -> u64
 }
 
 // The distances of the pairs of the path bucket of level i before bucket b of level r + 1, at x.
-fn pair_distances(f: Figures, b: u64, i: u64, x: u64) -> [u64; 4]
+fn pair_distances(f: Figures, b: u64, i: u64, x: u64) -> [u64; Bucket::PAIRS_MOST]
     requires { ⌜ Ready f × (1 ≤ f .d) × (x < f .size) × OnPath (planOf f []) b i x ⌝ }
-    ensures { λ r. ⌜ r ≡ filled 4 (pairDistances (planOf f []) (f .size) x b i) ⌝ }
+    ensures { λ r. ⌜ r ≡ filled pairsMost (pairDistances (planOf f []) (f .size) x b i) ⌝ }
 {
     let mut distances = [f.size - x, 0, 0, 0];
     let mut level = 2;
@@ -278,7 +227,8 @@ fn pair_distances(f: Figures, b: u64, i: u64, x: u64) -> [u64; 4]
 
 // The path bucket of level i of a segment.
 pub fn path_index(text: &[u8], f: Figures, source: Source, s: Segment, i: u64, x: u64) -> Index
-    requires { ⌜ Ready f × TextFits f source (length (now text)) × Placed (planIn f source (now text)) s × (f .layout ≡ 1) × (s .top ≤ i) × (i ≤ f .copies) × (x ≡ s .start + (i - s .top)) ⌝ }
+    requires { ⌜ Ready f × TextFits f source (length (now text)) × Placed (planIn f source (now text)) s × (f .layout ≡ 1)
+        × (s .top ≤ i) × (i ≤ f .copies) × (x ≡ s .start + (i - s .top)) ⌝ }
     ensures { λ r. ⌜ r ≡ asIndex (cycleBucket (planIn f source (now (text .entry))) x .body) ⌝ }
 {
     let b = s.number;
@@ -300,12 +250,56 @@ pub fn path_index(text: &[u8], f: Figures, source: Source, s: Segment, i: u64, x
 
 // The head of the bucket at x of a segment.
 pub fn head_at(f: Figures, s: Segment, x: u64) -> Head
-    requires { ⌜ Ready f × (x < s .end) × (s .end ≤ f .size) × (toNextSegment (drop (suc x) (slots (planOf f [])) ++ slots (planOf f [])) ≡ s .end - x) ⌝ }
+    requires { ⌜ Ready f × (x < s .end) × (s .end ≤ f .size)
+        × (toNextSegment (drop (suc x) (slots (planOf f [])) ++ slots (planOf f [])) ≡ s .end - x) ⌝ }
     ensures { λ r. ⌜ r ≡ headOf (cycleBucket (planOf f []) x) ⌝ }
 {
     Head {
         position: x,
         to_cycle: f.size - x,
         to_segment: s.end - x,
+    }
+}
+
+// Bucket j of height e of a segment's tree, at x, with `count` entries, which are put one after the other.
+pub fn print_tree_bucket(
+    part: &mut [u8],
+    text: &[u8],
+    f: Figures,
+    source: Source,
+    s: Segment,
+    e: usize,
+    j: u64,
+    x: u64,
+    count: usize,
+)
+    requires { ⌜ length (now part) ≡ bucketLength ⌝ }
+    requires { ⌜ Printing f source (now text) s ⌝ }
+    requires { ⌜ TreePlace f s e j x ⌝ }
+    requires { ⌜ count ≡ length (children (planOf f []) (f .k + 1 - e) j) ⌝ }
+    ensures { λ _. ⌜ now (part .exit) ≡ printBucket (cycleBucket (planIn f source (now (text .entry))) x) ⌝ }
+{
+    let pairs = tree_pairs(f, e);
+    let tags = [first_tag(text, f, source, s.first, pairs)];
+    let distances = [f.size - x];
+    start_index(
+        part,
+        head_at(f, s, x),
+        s.first == 0,
+        pairs,
+        &tags,
+        &distances,
+        count,
+    );
+    let below = e - 1;
+    let span = power(f.n, below);
+    let full = full_size(f.n, below);
+    let first = j * f.n;
+    let mut i = 0;
+    while i < count {
+        let from = tag_place(f, source, s, span, first + i as u64);
+        let distance = tree_distance(f, s, e, j, x, full, i as u64);
+        put_entry(part, i, text, from, distance);
+        i += 1;
     }
 }

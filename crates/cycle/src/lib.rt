@@ -1,10 +1,25 @@
-// Tree, layouts and cycle: document 01, "The tree"; building and reading back.
+// Tree, layouts and cycle: document 01, "The tree"; judging, building and reading back.
 pub mod build;
 mod index;
+pub mod judge;
 mod places;
 pub mod restore;
 mod segments;
 mod sizes;
+
+use buckets::Bucket;
+use buckets::Line;
+
+// The bytes of a list line and of a bucket, counted as the figures are.
+const LINE: u64 = Line::LENGTH as u64;
+
+const BUCKET: u64 = Bucket::LENGTH as u64;
+
+// What judging answers: the figures of the cycle, or a refusal's number and place.
+pub enum Judged {
+    Cycle(Figures),
+    Refused(u64, u64),
+}
 
 // What building answers: the cycle's number of buckets, or a refusal's number and place.
 pub enum Built {

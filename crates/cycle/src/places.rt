@@ -1,5 +1,8 @@
 // Where buckets and lines stand in a cycle.
+use super::BUCKET;
 use super::Figures;
+use super::LINE;
+use super::Segment;
 use super::Source;
 use super::segments::distributed_start;
 use super::segments::path_top;
@@ -7,13 +10,18 @@ use super::segments::segment_tree;
 use super::sizes::lesser;
 use super::sizes::paths_before;
 use super::sizes::power;
+use buckets::Bucket;
+use buckets::Line;
+use buckets::lines::spelled_tag;
 ghost use mathlib.Core.Path.{_≡_};
-ghost use mathlib.Core.List.{[]};
-ghost use Prim.Native.Nat.{_+_, _-_, _*_, _^_, _≤_, _<_, min};
-ghost use lib.ListN.{length, take, drop};
-ghost use Rattle.columns.specs.PrintedNumbers.{value};
+ghost use mathlib.Core.List.{List, []};
+ghost use Prim.Native.Nat.{_+_, _-_, _*_, _≤_, _<_, min};
+ghost use lib.ListN.{length};
 ghost use Rattle.cycle.specs.Tree.{largestTag};
-ghost use Rattle.cycle.specs.Held.{planOf, Ready, InTree, firstPlace, lineAt, TextFits, tagAt, planIn};
+ghost use Rattle.buckets.specs.declared.Line.{Line};
+ghost use Rattle.cycle.specs.Held.{planOf, Ready, InTree, Placed, firstPlace, lineAt, TextFits, tagAt, planIn};
+ghost use Rattle.cycle.specs.Held.{Spans, SpansIn, tagPlace};
+ghost use Rattle.cycle.specs.declared.Source.the-variants as Source;
 
 // The first position in layout 1 of bucket j of a level up to r + 1.
 pub fn first_place(f: Figures, level: u64, j: u64) -> u64
@@ -61,18 +69,12 @@ pub fn line_place(f: Figures, source: Source, i: u64) -> usize
     ensures { λ r. ⌜ r ≡ lineAt (planOf f []) source i ⌝ }
 {
     match source {
-        Source::List => (27 * i) as usize,
+        Source::List => (LINE * i) as usize,
         Source::Image => {
             let at = data_place(f, i / f.p);
-            (240 * at + (29 + 26 * (i % f.p))) as usize
+            (BUCKET * at + (Bucket::LINES as u64 + Line::FIGURES as u64 * (i % f.p))) as usize
         }
     }
-}
-
-fn wide(c: u8) -> u64
-    ensures { λ r. ⌜ r ≡ c ⌝ }
-{
-    c as u64
 }
 
 // The tag of line i.
@@ -84,12 +86,14 @@ pub fn tag_of(text: &[u8], f: Figures, source: Source, i: u64) -> u64
     spelled_tag(text, at)
 }
 
-// The last line under bucket j of height e.
-pub fn last_line(f: Figures, e: usize, j: u64) -> u64
-    requires { ⌜ Ready f × (1 ≤ f .d) × InTree f e j ⌝ }
-    ensures { λ r. ⌜ (r < f .lines) × (r ≡ min (f .lines) ((j + 1) * f .n ^ e * f .p) - 1) ⌝ }
+// The last line under bucket j of a level whose full buckets have `span` data buckets under them.
+fn last_line(f: Figures, span: u64, j: u64) -> u64
+    requires { ⌜ Ready f ⌝ }
+    requires { ⌜ 1 ≤ f .d ⌝ }
+    requires { ⌜ Spans f span j ⌝ }
+    ensures { λ r. ⌜ (r < f .lines) × (r ≡ min (f .lines) ((j + 1) * span * f .p) - 1) ⌝ }
 {
-    lesser(f.lines, (j + 1) * power(f.n, e) * f.p) - 1
+    lesser(f.lines, (j + 1) * span * f.p) - 1
 }
 
 // The largest tag under bucket j of height e.
@@ -97,23 +101,49 @@ pub fn largest_tag(text: &[u8], f: Figures, source: Source, e: usize, j: u64) ->
     requires { ⌜ Ready f × (1 ≤ f .d) × InTree f e j × TextFits f source (length (now text)) ⌝ }
     ensures { λ r. ⌜ r ≡ largestTag (planIn f source (now (text .entry))) (f .k + 1 - e) j ⌝ }
 {
-    tag_of(text, f, source, last_line(f, e, j))
+    tag_of(text, f, source, last_line(f, power(f.n, e), j))
 }
 
-// The number that 10 columns spell, a blank counting as 0.
-pub fn spelled_tag(text: &[u8], at: usize) -> u64
-    requires { ⌜ at + 10 ≤ length (now text) ⌝ }
-    ensures { λ r. ⌜ r ≡ value 0 (take 10 (drop at (now (text .entry)))) ⌝ }
+// Where the image has that line, if the data buckets under the bucket are those of a segment of layout 1.
+fn segment_place(f: Figures, s: Segment, span: u64, j: u64) -> usize
+    requires { ⌜ Ready f ⌝ }
+    requires { ⌜ ((ls : List Line) → Placed (planOf f ls) s) ⌝ }
+    requires { ⌜ f .layout ≡ 1 ⌝ }
+    requires { ⌜ 1 ≤ f .d ⌝ }
+    requires { ⌜ SpansIn f s span j ⌝ }
+    ensures { λ r. ⌜ r ≡ tagPlace f Source.Image span j ⌝ }
 {
-    let mut x = 0;
-    let mut i = 0;
-    while i < 10 {
-        let c = text[at + i];
-        x = x * 10;
-        if 48 < c {
-            x += wide(c - 48);
-        }
-        i += 1;
+    let q = lesser(f.d, (j + 1) * span) - 1;
+    let lines = lesser(f.p, f.lines - q * f.p);
+    let x = s.data_at + (q - s.first);
+    (Bucket::LENGTH as u64 * x
+        + (Bucket::LINES as u64 + Line::FIGURES as u64 * (lines - 1))) as usize
+}
+
+// The same in either layout, the bucket in a segment's tree.
+fn image_place(f: Figures, s: Segment, span: u64, j: u64) -> usize
+    requires { ⌜ Ready f ⌝ }
+    requires { ⌜ ((ls : List Line) → Placed (planOf f ls) s) ⌝ }
+    requires { ⌜ 1 ≤ f .d ⌝ }
+    requires { ⌜ SpansIn f s span j ⌝ }
+    ensures { λ r. ⌜ r ≡ tagPlace f Source.Image span j ⌝ }
+{
+    if f.layout == 1 {
+        return segment_place(f, s, span, j);
     }
-    x
+    line_place(f, Source::Image, last_line(f, span, j))
+}
+
+// Where a text has it.
+pub fn tag_place(f: Figures, source: Source, s: Segment, span: u64, j: u64) -> usize
+    requires { ⌜ Ready f ⌝ }
+    requires { ⌜ ((ls : List Line) → Placed (planOf f ls) s) ⌝ }
+    requires { ⌜ 1 ≤ f .d ⌝ }
+    requires { ⌜ SpansIn f s span j ⌝ }
+    ensures { λ r. ⌜ r ≡ tagPlace f source span j ⌝ }
+{
+    match source {
+        Source::List => line_place(f, Source::List, last_line(f, span, j)),
+        Source::Image => image_place(f, s, span, j),
+    }
 }

@@ -1,45 +1,51 @@
 // Reading back: whether an image is the cycle of some list under given settings, and of which.
+use super::BUCKET;
 use super::Figures;
+use super::LINE;
 use super::Restored;
 use super::Segment;
 use super::Source;
-use super::build::settings_fit;
 use super::index::child_count;
 use super::index::head_at;
 use super::index::path_index;
-use super::index::tree_distances;
-use super::index::tree_pairs;
+use super::index::print_tree_bucket;
 use super::places::data_place;
-use super::places::last_line;
-use super::places::line_place;
-use super::places::spelled_tag;
 use super::segments::segment_count;
 use super::segments::segment_of;
 use super::sizes::copies_fit;
 use super::sizes::figures_of;
 use super::sizes::lesser;
-use super::sizes::power;
+use super::sizes::settings_fit;
 use super::sizes::with_size;
+use buckets::Bucket;
 use buckets::Head;
 use buckets::Kind;
+use buckets::Line;
+use buckets::lines::copy_lines;
+use buckets::lines::spelled_tag;
 use buckets::reader::read_bucket;
-use buckets::writer::copy_index;
 use buckets::writer::write_index;
-use columns::copy_columns;
 ghost use mathlib.Core.Path.{_≡_};
 ghost use mathlib.Core.Bool.{_&&_};
-ghost use mathlib.Core.List.{List, [], _∷_, _++_, map};
+ghost use mathlib.Core.List.{[]};
 ghost use lib.Dec.{eqb};
 ghost use Prim.Native.Nat.{_+_, _-_, _*_, _/_, _%_, _≤_, _<_, min};
-ghost use lib.ListN.{length, take, drop};
-ghost use Rattle.columns.specs.Lists.{put};
-ghost use Rattle.buckets.specs.declared.Line.{Line};
-ghost use Rattle.buckets.specs.Held.{filled};
+ghost use lib.ListN.{length};
+ghost use Rattle.columns.specs.Lists.{put, onto};
+ghost use Rattle.buckets.specs.Lengths.{lineLength, bucketLength, bucketsMost};
 ghost use Rattle.cycle.specs.Tree.{settings, children, lastTag};
-ghost use Rattle.cycle.specs.ReadingBack.{ReadsBack};
-ghost use Rattle.cycle.specs.Held.{planOf, Shaped, Ready, InTree, Placed, Under, firstPlace, treeAt, planIn, TreePlace};
-ghost use Rattle.cycle.specs.Comparing.{Decides, Finds, counted, bucketBytes, MatchesAt, Matches, DataMatches, Followed, imagePlace, linesText, listText, Holding, Comparing, Checking};
+ghost use Rattle.cycle.specs.ReadingBack;
+ghost use Rattle.cycle.specs.ReadingBack.{readBack};
+ghost use Rattle.cycle.specs.Held.{planOf, Shaped, Ready, Placed, firstPlace, treeAt, planIn, TreePlace};
+ghost use Rattle.cycle.specs.Cycle.{bucketAt};
+ghost use Rattle.cycle.specs.Comparing.{Decides, Finds, counted, MatchesAt, Matches, DataMatches, Followed, listText, Holding, Comparing, Checking};
 ghost use Rattle.cycle.specs.declared.Source.the-variants as Source;
+
+// The columns of a bucket before its lines.
+const LINES: u64 = Bucket::LINES as u64;
+
+// The most buckets of an image.
+const BUCKETS_MOST: usize = Bucket::BUCKETS_MOST as usize;
 
 fn same_head(a: Head, b: Head) -> bool
     ensures { λ r. ⌜ Decides (a ≡ b) r ⌝ }
@@ -65,12 +71,12 @@ fn still_same(before: bool, a: u8, b: u8) -> bool
 
 // Whether two buckets are the same. It looks at each column, so that many are tested at once.
 fn same_bucket(a: &[u8], b: &[u8]) -> bool
-    requires { ⌜ (length (now a) ≡ 240) × (length (now b) ≡ 240) ⌝ }
+    requires { ⌜ (length (now a) ≡ bucketLength) × (length (now b) ≡ bucketLength) ⌝ }
     ensures { λ r. ⌜ Decides (now (a .entry) ≡ now (b .entry)) r ⌝ }
 {
     let mut same = true;
     let mut i = 0;
-    while i < 240 {
+    while i < Bucket::LENGTH {
         same = still_same(same, a[i], b[i]);
         i += 1;
     }
@@ -79,50 +85,14 @@ fn same_bucket(a: &[u8], b: &[u8]) -> bool
 
 // Whether these columns are the bucket at x.
 fn is_at(image: &[u8], x: u64, wanted: &[u8]) -> bool
-    requires { ⌜ (240 * x + 240 ≤ length (now image)) × (x ≤ 99999) × (length (now wanted) ≡ 240) ⌝ }
-    ensures { λ r. ⌜ Decides (bucketBytes (now (image .entry)) x ≡ now (wanted .entry)) r ⌝ }
+    requires { ⌜ (bucketLength * x + bucketLength ≤ length (now image)) ×
+        (x ≤ bucketsMost) ×
+        (length (now wanted) ≡ bucketLength) ⌝ }
+    ensures { λ r. ⌜ Decides (bucketAt (now (image .entry)) x ≡ now (wanted .entry)) r ⌝ }
 {
-    let at = (240 * x) as usize;
-    let to = at + 240;
+    let at = (BUCKET * x) as usize;
+    let to = at + Bucket::LENGTH;
     same_bucket(&image[at..to], wanted)
-}
-
-// Where the image has the last line under bucket j of height e, whose data buckets a segment of layout 1 has.
-fn segment_place(f: Figures, s: Segment, e: usize, j: u64) -> usize
-    requires { ⌜ Ready f × ((ls : List Line) → Placed (planOf f ls) s) × (f .layout ≡ 1) × (1 ≤ f .d) × InTree f e j × Under f s e j ⌝ }
-    ensures { λ r. ⌜ r ≡ imagePlace f e j ⌝ }
-{
-    let q = lesser(f.d, (j + 1) * power(f.n, e)) - 1;
-    let lines = lesser(f.p, f.lines - q * f.p);
-    let x = s.data_at + (q - s.first);
-    (240 * x + 26 * lines + 3) as usize
-}
-
-// Where the image has the last line under bucket j of height e in a segment's tree.
-fn image_place(f: Figures, s: Segment, e: usize, j: u64) -> usize
-    requires { ⌜ Ready f × ((ls : List Line) → Placed (planOf f ls) s) × (1 ≤ f .d) × InTree f e j × Under f s e j ⌝ }
-    ensures { λ r. ⌜ r ≡ imagePlace f e j ⌝ }
-{
-    if f.layout == 1 {
-        return segment_place(f, s, e, j);
-    }
-    line_place(f, Source::Image, last_line(f, e, j))
-}
-
-// Where the image has the largest tags below the children of bucket j of height e in a segment's tree.
-fn image_places(f: Figures, s: Segment, e: usize, j: u64, count: usize) -> [usize; 8]
-    requires { ⌜ Ready f × ((ls : List Line) → Placed (planOf f ls) s) × (1 ≤ e) × InTree f e j × Under f s e j × (count ≡ length (children (planOf f []) (f .k + 1 - e) j)) ⌝ }
-    ensures { λ r. ⌜ r ≡ filled 8 (map (imagePlace f (e - 1)) (children (planOf f []) (f .k + 1 - e) j)) ⌝ }
-{
-    let below = e - 1;
-    let from = j * f.n;
-    let mut places = [0usize; 8];
-    let mut i = 0;
-    while i < count {
-        places[i] = image_place(f, s, below, from + i as u64);
-        i += 1;
-    }
-    places
 }
 
 // Whether bucket j of height e of a segment's tree, with `count` entries, stands at x.
@@ -138,26 +108,18 @@ fn is_tree_bucket(
     requires { ⌜ Checking f (now image) s × TreePlace f s e j x × (count ≡ length (children (planOf f []) (f .k + 1 - e) j)) ⌝ }
     ensures { λ r. ⌜ Decides (MatchesAt (planIn f Source.Image (now (image .entry))) (now (image .entry)) x) r ⌝ }
 {
-    let index = tree_pairs(image, f, Source::Image, s.first, e, x);
-    let places = image_places(f, s, e, j, count);
-    let distances = tree_distances(f, s, e, j, count, x);
-    let mut wanted = [0u8; 240];
-    copy_index(
-        &mut wanted,
-        head_at(f, s, x),
-        index,
-        count,
-        image,
-        &places,
-        &distances,
-    );
+    let mut wanted = [0u8; Bucket::LENGTH];
+    print_tree_bucket(&mut wanted, image, f, Source::Image, s, e, j, x, count);
     is_at(image, x, &wanted)
 }
 
 // The position behind the subtree of bucket j of height e, if it stands from x on; else 0.
 fn behind_subtree(image: &[u8], f: Figures, s: Segment, e: usize, j: u64, x: u64) -> u64
     requires { ⌜ Checking f (now image) s × TreePlace f s e j x ⌝ }
-    ensures { λ r. ⌜ Finds (Matches (planIn f Source.Image (now (image .entry))) (now (image .entry)) x (x + length (treeAt (planOf f []) e j))) (x + length (treeAt (planOf f []) e j)) r ⌝ }
+    ensures { λ r.
+        ⌜ Finds
+        (Matches (planIn f Source.Image (now (image .entry))) (now (image .entry)) x (x + length (treeAt (planOf f []) e j)))
+        (x + length (treeAt (planOf f []) e j)) r ⌝ }
 {
     let count = child_count(f, e, j);
     if !is_tree_bucket(image, f, s, e, j, x, count) {
@@ -186,7 +148,7 @@ fn is_path_bucket(image: &[u8], f: Figures, s: Segment, i: u64, x: u64) -> bool
     ensures { λ r. ⌜ Decides (MatchesAt (planIn f Source.Image (now (image .entry))) (now (image .entry)) x) r ⌝ }
 {
     let index = path_index(image, f, Source::Image, s, i, x);
-    let mut wanted = [0u8; 240];
+    let mut wanted = [0u8; Bucket::LENGTH];
     write_index(&mut wanted, head_at(f, s, x), index);
     is_at(image, x, &wanted)
 }
@@ -194,7 +156,8 @@ fn is_path_bucket(image: &[u8], f: Figures, s: Segment, i: u64, x: u64) -> bool
 // Whether the path of a segment stands in its place.
 fn is_path(image: &[u8], f: Figures, s: Segment) -> bool
     requires { ⌜ Checking f (now image) s ⌝ }
-    ensures { λ r. ⌜ Decides (Matches (planIn f Source.Image (now (image .entry))) (now (image .entry)) (s .start) (s .«tree_at»)) r ⌝ }
+    ensures { λ r.
+        ⌜ Decides (Matches (planIn f Source.Image (now (image .entry))) (now (image .entry)) (s .start) (s .«tree_at»)) r ⌝ }
 {
     let mut x = s.start;
     let mut i = s.top;
@@ -210,7 +173,12 @@ fn is_path(image: &[u8], f: Figures, s: Segment) -> bool
 
 // The position of the data bucket behind data bucket q, which stands at x in its segment.
 fn next_data(f: Figures, s: Segment, q: u64, x: u64) -> u64
-    requires { ⌜ Ready f × Placed (planOf f []) s × (s .first ≤ q) × (q < s .last) × (x ≡ s .«data_at» + (q - s .first)) × (q + 1 < f .d) ⌝ }
+    requires { ⌜ Ready f ×
+        Placed (planOf f []) s ×
+        (s .first ≤ q) ×
+        (q < s .last) ×
+        (x ≡ s .«data_at» + (q - s .first)) ×
+        (q + 1 < f .d) ⌝ }
     ensures { λ r. ⌜ r ≡ firstPlace (planOf f []) (f .k + 1) (q + 1) ⌝ }
 {
     let next = q + 1;
@@ -230,7 +198,11 @@ fn is_followed(
     last: u64,
     follow_on: u64,
 ) -> bool
-    requires { ⌜ Comparing f (now image) s × (s .first ≤ q) × (q < s .last) × (x ≡ s .«data_at» + (q - s .first)) × (last ≡ lastTag (planIn f Source.Image (now image)) q) ⌝ }
+    requires { ⌜ Comparing f (now image) s ×
+        (s .first ≤ q) ×
+        (q < s .last) ×
+        (x ≡ s .«data_at» + (q - s .first)) ×
+        (last ≡ lastTag (planIn f Source.Image (now image)) q) ⌝ }
     ensures { λ r. ⌜ Decides (Followed (planIn f Source.Image (now (image .entry))) q x «follow_on») r ⌝ }
 {
     let next = q + 1;
@@ -238,7 +210,7 @@ fn is_followed(
         return follow_on == 0;
     }
     let place = next_data(f, s, q, x);
-    let at = (240 * place + 29) as usize;
+    let at = (BUCKET * place + LINES) as usize;
     let first = spelled_tag(image, at);
     if first < last {
         return false;
@@ -255,8 +227,8 @@ fn is_data(image: &[u8], f: Figures, s: Segment, q: u64, x: u64) -> bool
     requires { ⌜ Comparing f (now image) s × (s .first ≤ q) × (q < s .last) × (x ≡ s .«data_at» + (q - s .first)) ⌝ }
     ensures { λ r. ⌜ Decides (MatchesAt (planIn f Source.Image (now (image .entry))) (now (image .entry)) x) r ⌝ }
 {
-    let at = (240 * x) as usize;
-    let to = at + 240;
+    let at = (BUCKET * x) as usize;
+    let to = at + Bucket::LENGTH;
     let r = read_bucket(&image[at..to]);
     let kind = r.kind;
     match kind {
@@ -280,7 +252,8 @@ fn is_data(image: &[u8], f: Figures, s: Segment, q: u64, x: u64) -> bool
 // Whether the data buckets of a segment stand in their places.
 fn are_datas(image: &[u8], f: Figures, s: Segment) -> bool
     requires { ⌜ Comparing f (now image) s ⌝ }
-    ensures { λ r. ⌜ Decides (Matches (planIn f Source.Image (now (image .entry))) (now (image .entry)) (s .«data_at») (s .end)) r ⌝ }
+    ensures { λ r.
+        ⌜ Decides (Matches (planIn f Source.Image (now (image .entry))) (now (image .entry)) (s .«data_at») (s .end)) r ⌝ }
 {
     let mut x = s.data_at;
     let mut q = s.first;
@@ -351,65 +324,45 @@ fn is_cycle(image: &[u8], f: Figures) -> bool
 
 // How many lines the image has: p for each data bucket but the last, and what the last one's count says.
 fn line_count(image: &[u8], p: u64) -> u64
-    requires { ⌜ (length (now image) ≤ 240 * 99999) × (p ≤ 8) ⌝ }
+    requires { ⌜ (length (now image) ≤ bucketLength * bucketsMost) × (p ≤ 8) ⌝ }
     ensures { λ r. ⌜ r ≡ counted p (now (image .entry)) ⌝ }
 {
-    let count = image.len() / 240;
+    let count = image.len() / Bucket::LENGTH;
     let mut x = 0;
     let mut d: u64 = 0;
-    let mut last: u8 = 48;
+    let mut last: u8 = b'0';
     while x < count {
-        let at = 240 * x;
-        if image[at + 24] == 68 {
+        let at = Bucket::LENGTH * x;
+        if image[at + Bucket::LETTER] == Bucket::DATA {
             d += 1;
-            last = image[at + 28];
+            last = image[at + Bucket::ITEM_DIGIT];
         }
         x += 1;
     }
     if d == 0 {
         return 0;
     }
-    if last < 48 {
+    if last < b'0' {
         return 0;
     }
-    (d - 1) * p + (last - 48) as u64
-}
-
-// A line of the image as a list line.
-fn copy_line(out: &mut [u8], to: usize, image: &[u8], from: usize)
-    requires { ⌜ (to + 27 ≤ length (now out)) × (from + 26 ≤ length (now image)) ⌝ }
-    ensures { λ _. ⌜ now (out .exit) ≡ put (now (out .entry)) to (take 26 (drop from (now (image .entry))) ++ 10 ∷ []) ⌝ }
-{
-    let end = to + 26;
-    let behind = from + 26;
-    copy_columns(&mut out[to..end], &image[from..behind]);
-    out[end] = 10;
-}
-
-// Lines of a data bucket, which stand side by side from `from` on, as list lines.
-fn copy_lines(out: &mut [u8], to: usize, image: &[u8], from: usize, count: usize)
-    requires { ⌜ (to + 27 * count ≤ length (now out)) × (from + 26 * count ≤ length (now image)) ⌝ }
-    ensures { λ _. ⌜ now (out .exit) ≡ put (now (out .entry)) to (linesText (now (image .entry)) from count) ⌝ }
-{
-    let mut i = 0;
-    while i < count {
-        copy_line(out, to + 27 * i, image, from + 26 * i);
-        i += 1;
-    }
+    (d - 1) * p + (last - b'0') as u64
 }
 
 // The lines of a segment's data buckets, each at its place in the list.
 fn write_lines(out: &mut [u8], image: &[u8], f: Figures, s: Segment)
-    requires { ⌜ Comparing f (now image) s × (27 * f .lines ≤ length (now out)) ⌝ }
-    ensures { λ _. ⌜ now (out .exit) ≡ put (now (out .entry)) (27 * (s .first * f .p)) (listText f (now (image .entry)) (s .first * f .p) (min (f .lines) (s .last * f .p))) ⌝ }
+    requires { ⌜ Comparing f (now image) s × (lineLength * f .lines ≤ length (now out)) ⌝ }
+    ensures { λ _.
+        ⌜ now (out .exit) ≡
+        put (now (out .entry)) (lineLength * (s .first * f .p))
+        (listText f (now (image .entry)) (s .first * f .p) (min (f .lines) (s .last * f .p))) ⌝ }
 {
     let mut x = s.data_at;
     let mut q = s.first;
     while q < s.last {
         let line = q * f.p;
         let count = lesser(f.p, f.lines - line) as usize;
-        let to = (27 * line) as usize;
-        let from = (240 * x + 29) as usize;
+        let to = (LINE * line) as usize;
+        let from = (BUCKET * x + LINES) as usize;
         copy_lines(out, to, image, from, count);
         x += 1;
         q += 1;
@@ -418,7 +371,7 @@ fn write_lines(out: &mut [u8], image: &[u8], f: Figures, s: Segment)
 
 // The lines of the image as a list, at the front of the buffer.
 fn write_list(out: &mut [u8], image: &[u8], f: Figures)
-    requires { ⌜ Holding f (now image) × (27 * f .lines ≤ length (now out)) ⌝ }
+    requires { ⌜ Holding f (now image) × (lineLength * f .lines ≤ length (now out)) ⌝ }
     ensures { λ _. ⌜ now (out .exit) ≡ put (now (out .entry)) 0 (listText f (now (image .entry)) 0 (f .lines)) ⌝ }
 {
     let count = segment_count(f);
@@ -431,14 +384,23 @@ fn write_list(out: &mut [u8], image: &[u8], f: Figures)
 
 // Conditions 13 and 7, and then the list.
 fn restore_figures(image: &[u8], f: Figures, out: &mut [u8]) -> Restored
-    requires { ⌜ Shaped f × (1 ≤ length (now image)) × (length (now image) % 240 ≡ 0) × (length (now image) / 240 ≤ 99999) × (f .lines ≡ counted (f .p) (now image)) ⌝ }
-    ensures { λ r. ⌜ ReadsBack (settings (f .n) (f .p) (f .layout) (f .copies)) (now (image .entry)) (now (out .entry)) (now (out .exit)) r ⌝ }
+    requires { ⌜ Shaped f ×
+        (1 ≤ length (now image)) ×
+        (length (now image) % bucketLength ≡ 0) ×
+        (length (now image) / bucketLength ≤ bucketsMost) ×
+        (f .lines ≡ counted (f .p) (now image)) ⌝ }
+    ensures { λ r.
+        ⌜ (r ≡
+        readBack (settings (f .n) (f .p) (f .layout) (f .copies)) (now (image .entry)) (length (now (out .entry))) .answer) ×
+        (now (out .exit) ≡
+        onto (readBack (settings (f .n) (f .p) (f .layout) (f .copies)) (now (image .entry)) (length (now (out .entry))) .output)
+        (now (out .entry))) ⌝ }
 {
     if !copies_fit(f) {
         return Restored::Refused(13, 0);
     }
     let sized = with_size(f);
-    let count = (image.len() / 240) as u64;
+    let count = (image.len() / Bucket::LENGTH) as u64;
     if sized.size != count {
         return Restored::Refused(13, 0);
     }
@@ -446,7 +408,7 @@ fn restore_figures(image: &[u8], f: Figures, out: &mut [u8]) -> Restored
         return Restored::Refused(13, 0);
     }
     let room = out.len() as u64;
-    if room < 27 * sized.lines {
+    if room < LINE * sized.lines {
         return Restored::Refused(7, 0);
     }
     write_list(out, image, sized);
@@ -456,7 +418,12 @@ fn restore_figures(image: &[u8], f: Figures, out: &mut [u8]) -> Restored
 // Writes the list that an image was built from into the front of a lent buffer: its number of lines, or a refusal, on which no
 // byte is written.
 pub fn read_back(image: &[u8], n: u64, p: u64, layout: u64, copies: u64, out: &mut [u8]) -> Restored
-    ensures { λ r. ⌜ ReadsBack (settings n p layout copies) (now (image .entry)) (now (out .entry)) (now (out .exit)) r ⌝ }
+    ensures { λ r.
+        ⌜ (ReadingBack.numbers r ≡
+        ReadingBack.numbers (readBack (settings n p layout copies) (now (image .entry)) (length (now (out .entry))) .answer)) ×
+        (now (out .exit) ≡
+        onto (readBack (settings n p layout copies) (now (image .entry)) (length (now (out .entry))) .output)
+        (now (out .entry))) ⌝ }
 {
     if !settings_fit(n, p, layout) {
         return Restored::Refused(1, 0);
@@ -465,14 +432,14 @@ pub fn read_back(image: &[u8], n: u64, p: u64, layout: u64, copies: u64, out: &m
     if length == 0 {
         return Restored::Refused(11, 0);
     }
-    if length % 240 != 0 {
+    if length % Bucket::LENGTH != 0 {
         return Restored::Refused(11, 0);
     }
-    if 99999 < length / 240 {
+    if BUCKETS_MOST < length / Bucket::LENGTH {
         return Restored::Refused(11, 0);
     }
     let lines = line_count(image, p);
-    if 40000 < lines {
+    if Line::LINES_MOST < lines {
         return Restored::Refused(13, 0);
     }
     restore_figures(image, figures_of(n, p, layout, copies, lines), out)

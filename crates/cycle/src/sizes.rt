@@ -1,5 +1,6 @@
 // The figures of a tree and of its cycle: data buckets, levels, subtrees, paths and N.
 use super::Figures;
+use buckets::Bucket;
 ghost use mathlib.Core.Path.{_≡_};
 ghost use mathlib.Core.Bool.{true};
 ghost use mathlib.Core.List.{[]};
@@ -7,11 +8,12 @@ ghost use Prim.Native.Nat.{_+_, _*_, _^_, _≤_, _<_, min};
 ghost use lib.ListN.{length};
 ghost use Rattle.columns.specs.Lists;
 ghost use Rattle.columns.specs.Lists.{joined, range};
-ghost use Rattle.cycle.specs.Tree.{levels};
+ghost use Rattle.buckets.specs.Lengths.{linesMost, entriesMost, bucketLinesMost};
+ghost use Rattle.cycle.specs.Tree.{settings, levelsMost, levels};
 ghost use Rattle.cycle.specs.Layouts.{path};
 ghost use Rattle.cycle.specs.Cycle.{cycleSize};
-ghost use Rattle.cycle.specs.Building.{copiesFit};
-ghost use Rattle.cycle.specs.Held.{planOf, fullSize, Shaped, InTree, treeAt, treeHeight, lastPlace, Trees, sized};
+ghost use Rattle.cycle.specs.Building.{settingsFit, copiesFit};
+ghost use Rattle.cycle.specs.Held.{planOf, fullSize, spanMost, Shaped, InTree, treeAt, treeHeight, lastPlace, Trees, sized};
 
 // a divided by b, rounded up
 pub fn up(a: u64, b: u64) -> u64
@@ -33,7 +35,7 @@ pub fn lesser(a: u64, b: u64) -> u64
 
 // The least k of at least 1 with n^k at least d.
 fn levels_of(n: u64, d: u64) -> u64
-    requires { ⌜ (2 ≤ n) × (n ≤ 8) × (d ≤ 40000) ⌝ }
+    requires { ⌜ (2 ≤ n) × (n ≤ entriesMost) × (d ≤ linesMost) ⌝ }
     ensures { λ r. ⌜ r ≡ levels n d ⌝ }
 {
     let mut k = 1;
@@ -47,7 +49,7 @@ fn levels_of(n: u64, d: u64) -> u64
 
 // n to the power h: the data buckets under a full bucket of height h.
 pub fn power(n: u64, h: usize) -> u64
-    requires { ⌜ (2 ≤ n) × (n ≤ 8) × (h ≤ 16) ⌝ }
+    requires { ⌜ (2 ≤ n) × (n ≤ entriesMost) × (h ≤ levelsMost) ⌝ }
     ensures { λ r. ⌜ r ≡ n ^ h ⌝ }
 {
     let mut x = 1;
@@ -61,7 +63,7 @@ pub fn power(n: u64, h: usize) -> u64
 
 // The index buckets of a full subtree of height h.
 pub fn full_size(n: u64, h: usize) -> u64
-    requires { ⌜ (2 ≤ n) × (n ≤ 8) × (h ≤ 16) ⌝ }
+    requires { ⌜ (2 ≤ n) × (n ≤ entriesMost) × (h ≤ levelsMost) ⌝ }
     ensures { λ r. ⌜ r ≡ fullSize n h ⌝ }
 {
     let mut x = 0;
@@ -73,9 +75,32 @@ pub fn full_size(n: u64, h: usize) -> u64
     x
 }
 
+// Whether n, p and layout are within their ranges.
+pub fn settings_fit(n: u64, p: u64, layout: u64) -> bool
+    ensures { λ r. ⌜ r ≡ settingsFit (settings n p layout 0) ⌝ }
+{
+    if n < 2 {
+        return false;
+    }
+    if 8 < n {
+        return false;
+    }
+    if p < 1 {
+        return false;
+    }
+    if 8 < p {
+        return false;
+    }
+    if layout < 1 {
+        return false;
+    }
+    layout <= 2
+}
+
 // The figures of settings within their ranges and of a number of lines, N left 0.
 pub fn figures_of(n: u64, p: u64, layout: u64, copies: u64, lines: u64) -> Figures
-    requires { ⌜ (2 ≤ n) × (n ≤ 8) × (1 ≤ p) × (p ≤ 8) × (1 ≤ layout) × (layout ≤ 2) × (lines ≤ 40000) ⌝ }
+    requires { ⌜ (2 ≤ n) × (n ≤ entriesMost) × (1 ≤ p) × (p ≤ bucketLinesMost) × (1 ≤ layout) × (layout ≤ 2)
+        × (lines ≤ linesMost) ⌝ }
     ensures { λ r. ⌜ Shaped r × (r .n ≡ n) × (r .p ≡ p) × (r .layout ≡ layout) × (r .copies ≡ copies) × (r .lines ≡ lines) ⌝ }
 {
     let d = up(lines, p);
@@ -100,7 +125,7 @@ pub fn copies_fit(f: Figures) -> bool
     ensures { λ r. ⌜ r ≡ copiesFit (planOf f []) ⌝ }
 {
     if f.layout == 1 {
-        if 4 < f.copies {
+        if (Bucket::PAIRS_MOST as u64) < f.copies {
             return false;
         }
         return f.copies < f.k;
@@ -145,7 +170,7 @@ fn tree_size(f: Figures, e: usize, j: u64) -> u64
 
 // The path buckets that layout 1 sends before segment b.
 pub fn paths_before(f: Figures, b: u64) -> u64
-    requires { ⌜ Shaped f × (f .layout ≡ 1) × (copiesFit (planOf f []) ≡ true) × (b ≤ 40000) ⌝ }
+    requires { ⌜ Shaped f × (f .layout ≡ 1) × (copiesFit (planOf f []) ≡ true) × (b ≤ linesMost) ⌝ }
     ensures { λ r. ⌜ r ≡ length (joined (path (planOf f [])) (range 0 b)) ⌝ }
 {
     if f.copies == 0 {
@@ -175,7 +200,7 @@ fn tree_height(f: Figures) -> usize
 
 // The place of the last segment's tree, `span` data buckets under each full one.
 fn last_root(f: Figures, span: u64) -> u64
-    requires { ⌜ Shaped f × (1 ≤ span) × (span ≤ 320000) ⌝ }
+    requires { ⌜ Shaped f × (1 ≤ span) × (span ≤ spanMost) ⌝ }
     ensures { λ r. ⌜ r ≡ lastPlace (f .d) span ⌝ }
 {
     if f.d == 0 {

@@ -1,7 +1,7 @@
 -- At the target: the lines of the tag, or none, and as many data buckets heard as hold it, but at least one.
 -- Assumes nothing.
 use mathlib.Core.Path.{_≡_, refl, sym, _∙_, ap, subst}
-use Prim.Native.Nat.{ℕ, suc, _-_, _≤_, _<_, max}
+use Prim.Native.Nat.{ℕ, suc, _+_, _-_, _≤_, _<_, max}
 use mathlib.Core.Bool.{Bool, true, false, true≢false}
 use mathlib.Core.List.{List, [], _∷_, _++_}
 use native.Mathlib.Omega.{arith}
@@ -12,12 +12,13 @@ use Rattle.cycle.proofs.DataTags.{Laid}
 use Rattle.listener.specs.Listener.{matching}
 use Rattle.listener.specs.Hearing.{found, runsWith}
 use Rattle.listener.specs.Demand3.{endWanted}
+use Rattle.listener.specs.EndPlace.{target, lastHeard, position}
 use Rattle.listener.specs.declared.Phase.{Phase}
-use Rattle.listener.proofs.Target.{target, target-le, at-target}
+use Rattle.listener.proofs.Target.{target-le, at-target}
 use Rattle.listener.proofs.DataLines.{linesFrom, runsFrom, lines-next, runs-hold, lines-skip, runs-skip, lines-to, runs-to, lines-end, all-lines, all-runs, holds-last, Stops, stops-over}
 use Rattle.listener.proofs.Walk.{awake, misses-here}
 use Rattle.listener.proofs.Ways.{Spot, here, sentTo, here-below, WalkOn, walk-as}
-use Rattle.listener.proofs.DataRun.{TakesData, all-sent, data-heard, data-choice, data-misses, data-run}
+use Rattle.listener.proofs.DataRun.{TakesData, all-sent, data-position, data-heard, data-choice, data-misses, data-run}
 use Rattle.listener.proofs.TagRuns.{holds, matching-some}
 
 -- the list's lines of the tag
@@ -28,9 +29,13 @@ wanted t tag = matching tag (t .lines)
 unfoldable pub runs : Plan → ℕ → ℕ
 runs t tag = runsWith (t .p) tag (t .lines)
 
--- a walk that ends as it should, in h steps
+-- a walk that ends as it should, in h steps, at place z
+abbrev pub EndsAt : Plan → ℕ → ℕ → ℕ → Phase → ℕ → ℕ → Type 0
+EndsAt t tag b x ph h z = WalkOn t tag b x ph h (endWanted (wanted t tag)) z (wanted t tag)
+
+-- the same, at the last data bucket heard
 abbrev pub Leads : Plan → ℕ → ℕ → ℕ → Phase → ℕ → Type 0
-Leads t tag b x ph h = WalkOn t tag b x ph h (endWanted (wanted t tag)) (wanted t tag)
+Leads t tag b x ph h = EndsAt t tag b x ph h (b + position t (lastHeard t tag))
 
 module _ (t : Plan) (a : Laid t) (tag : ℕ) where
   pub wanted-from : wanted t tag ≡ linesFrom t tag (target t tag)
@@ -40,6 +45,10 @@ module _ (t : Plan) (a : Laid t) (tag : ℕ) where
   pub runs-from : runs t tag ≡ runsFrom t tag (target t tag)
   unfolding runs
   runs-from = sym (all-runs t a tag) ∙ runs-to t a tag (target t tag) (omega arith) (target-le t tag)
+
+  pub heard-last : lastHeard t tag ≡ target t tag + max 1 (runs t tag) - 1
+  unfolding lastHeard runs
+  heard-last = refl
 
   -- a tag above the whole list has no line
   pub wanted-over : target t tag ≡ t .d → wanted t tag ≡ []
@@ -90,13 +99,15 @@ module _ (t : Plan) (a : Laid t) (tag : ℕ) where
           let q : ℕ = sentTo s in
           let some-runs : max 1 (runs t tag) ≡ runsFrom t tag q =
           ap (max 1) (runs-from ∙ ap (runsFrom t tag) (sym e)) ∙ omega (arith, runs-hold t tag q below h) in
-          subst (λ z. WalkOn t tag b (here s) ph (max 1 (runs t tag)) z (wanted t tag))
+          let same-end : q + runsFrom t tag q - 1 ≡ lastHeard t tag = omega (arith, e, some-runs, heard-last) in
+          subst (λ z. WalkOn t tag b (here s) ph (max 1 (runs t tag)) z (b + position t (lastHeard t tag)) (wanted t tag))
           (sym (holds-some (rw e at h)))
-          (walk-as (sym some-runs) (ap (linesFrom t tag) e ∙ sym wanted-from)
+          (walk-as (sym some-runs) (ap (λ z. b + position t z) same-end) (ap (linesFrom t tag) e ∙ sym wanted-from)
           (data-run t a tag b hb (t .d - suc q) s d (omega (arith, below)) ph w takes h))
       by false h =
           let l : Lacks = lacks (rw e at below) (rw e at h) in
-          rw (l .no-lines, l .no-runs)
+          let same-end : lastHeard t tag ≡ sentTo s = omega (arith, e, l .no-runs, heard-last) in
+          rw (l .no-lines, l .no-runs, same-end, data-position t a s d)
           (misses-here hb (here-below s) (data-heard t a s d ph takes)
           (data-choice t a s d ph tag w ∙
           data-misses tag (followOnFrom t (lastTag t (sentTo s)) 1 (s .rest)) (linesOf t (sentTo s)) h))

@@ -10,6 +10,7 @@ use lib.ListN.{drop}
 use borrow.Author.Tests.{leb-true, ne-eqb}
 use Rattle.columns.specs.Lists.{pick, every}
 use Rattle.columns.proofs.Strict.{both}
+use Rattle.buckets.specs.Lengths.{bucketsMost}
 use Rattle.buckets.specs.Bucket.{Entry}
 use Rattle.buckets.specs.Held.{printedPair, pairsOf}
 use Rattle.listener.specs.Listener.{Choice, dozes, misses, entryChoice, laterChoice, indexChoice}
@@ -17,30 +18,30 @@ use Rattle.listener.specs.OnReading.{chosen, below, reached, firstChosen
 use Rattle.listener.specs.declared.Phase.{Phase}
 use Rattle.listener.specs.declared.Phase.the-variants.{Index, Either}
 
-pub near-by : (e : Entry) → near e ≡ true → (1 ≤ e .distance) × (e .distance ≤ 99999)
+pub near-by : (e : Entry) → near e ≡ true → (1 ≤ e .distance) × (e .distance ≤ bucketsMost)
 unfolding near
 near-by e h =
-    let b = both (leb 1 (e .distance)) (leb (e .distance) 99999) h in
-    (leb-true 1 (e .distance) (b .0), leb-true (e .distance) 99999 (b .1))
+    let b = both (leb 1 (e .distance)) (leb (e .distance) bucketsMost) h in
+    (leb-true 1 (e .distance) (b .0), leb-true (e .distance) bucketsMost (b .1))
 
 -- what is chosen is near
-pub chosen-near : (f : Entry → Bool) (es : List Entry) → every near es ≡ true → chosen f es ≤ 99999
+pub chosen-near : (f : Entry → Bool) (es : List Entry) → every near es ≡ true → chosen f es ≤ bucketsMost
 chosen-near f [] h = omega arith
 chosen-near f (e ∷ es) h =
     let b = both (near e) (every near es) h in
     passed (f e) (near-by e (b .0) .1) (chosen-near f es (b .1))
   where
-    passed : (t : Bool) → e .distance ≤ 99999 → chosen f es ≤ 99999 → pick t (e .distance) (chosen f es) ≤ 99999
+    passed : (t : Bool) → e .distance ≤ bucketsMost → chosen f es ≤ bucketsMost → pick t (e .distance) (chosen f es) ≤ bucketsMost
     passed true k r = k
     passed false k r = r
 
 pub first-near :
-    (tag : ℕ) (blank : Bool) (es : List Entry) → every near es ≡ true → firstChosen tag blank es ≤ 99999
+    (tag : ℕ) (blank : Bool) (es : List Entry) → every near es ≡ true → firstChosen tag blank es ≤ bucketsMost
 first-near tag blank [] h = omega arith
 first-near tag blank (e ∷ es) h =
     passed blank (leb tag (e .tag)) (near-by e (both (near e) (every near es) h .0) .1)
   where
-    passed : (t u : Bool) → e .distance ≤ 99999 → pick t 0 (pick u (e .distance) 0) ≤ 99999
+    passed : (t u : Bool) → e .distance ≤ bucketsMost → pick t 0 (pick u (e .distance) 0) ≤ bucketsMost
     passed true u k = omega arith
     passed false true k = k
     passed false false k = omega arith

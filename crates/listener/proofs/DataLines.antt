@@ -17,7 +17,8 @@ use Rattle.cycle.proofs.Rising.{Rising, lastFrom}
 use Rattle.cycle.proofs.DataTags.{Laid, restFrom, lines-of, rest-next, last-tag, Filled, rest-rises, lines-rise, next-rises, rest-end, filled}
 use Rattle.listener.specs.Listener.{matching}
 use Rattle.listener.specs.Hearing.{runsWith}
-use Rattle.listener.proofs.Target.{target, before-target}
+use Rattle.listener.specs.EndPlace.{target}
+use Rattle.listener.proofs.Target.{before-target}
 use Rattle.listener.proofs.TagRuns.{holds, none-above, none-below, last-held, matching-append, matching-none, runsOf, runs-zero, runs-more, runs-above}
 
 module _ (t : Plan) (tag : ℕ) where

@@ -22,9 +22,12 @@ use Rattle.cycle.proofs.Sequence.{dataCount}
 use Rattle.cycle.proofs.DataTags.{Laid, Filled, filled, lines-rise, last-tag}
 use Rattle.cycle.proofs.Pieces.{count-append}
 use Rattle.cycle.proofs.Distances.{First, first-or-none}
-use Rattle.cycle.proofs.DataOnce.{follow-none, follow-hit}
+use Rattle.cycle.proofs.Suffixes.{data-occurs}
+use Rattle.cycle.proofs.NextOccurrence.{first-hit}
+use Rattle.cycle.proofs.DataOnce.{none-before, follow-none, follow-hit}
 use Rattle.listener.specs.Listener.{dozes, finds, misses, choice, bodyChoice, dataChoice, lastIs, matching, before, letterAwaited}
 use Rattle.listener.specs.Hearing.{found}
+use Rattle.listener.specs.EndPlace.{position}
 use Rattle.listener.specs.declared.Phase.{Phase}
 use Rattle.listener.specs.declared.Phase.the-variants.{TuneIn, Index, Either, Data, Ended}
 use Rattle.listener.proofs.DataLines.{linesFrom, runsFrom, lines-next, runs-hold, last-from, holds-first, Stops, stops-over, stops-end, stops-break}
@@ -101,6 +104,13 @@ module _ (t : Plan) (a : Laid t) (s : Spot t) (d : isData t (s .slot) ≡ true) 
   pub data-place : s .slot .place ≡ sentTo s
   data-place = place-sent t a s d
 
+  pub data-position : position t (sentTo s) ≡ here s
+  unfolding position sentTo here
+  data-position =
+      first-hit t (t .k + 1) (sentTo s) (s .before) (s .slot) (s .rest) (s .splits)
+      (none-before t (a .keeps) (s .before) (s .slot ∷ s .rest) (s .splits) (sentTo s) (omega arith))
+      (data-occurs t (s .slot) (sentTo s) d data-place)
+
   pub data-all : sentTo s + suc (dataCount t (s .rest)) ≡ t .d
   data-all = all-sent t a s d
 
@@ -154,6 +164,11 @@ pub hit-data :
 unfolding further
 hit-data s f = f .is
 
+-- a walk from data bucket q, at place x, to the last bucket of the row that holds the tag
+abbrev pub RowFrom : Plan → ℕ → ℕ → ℕ → Phase → ℕ → Type 0
+RowFrom t tag b x ph q =
+    WalkOn t tag b x ph (runsFrom t tag q) found (b + position t (q + runsFrom t tag q - 1)) (linesFrom t tag q)
+
 module _ (t : Plan) (a : Laid t) (tag b : ℕ) (hb : b ≤ cycleSize t) where
   -- the row stops here
   pub finds-last :
@@ -161,12 +176,14 @@ module _ (t : Plan) (a : Laid t) (tag b : ℕ) (hb : b ≤ cycleSize t) where
       holds tag (linesOf t (sentTo s)) ≡ true →
       (lastIs tag (linesOf t (sentTo s)) && not (eqb (followOnFrom t (lastTag t (sentTo s)) 1 (s .rest)) 0)) ≡ false →
       Stops t a tag (sentTo s) →
-      WalkOn t tag b (here s) ph (runsFrom t tag (sentTo s)) found (linesFrom t tag (sentTo s))
+      RowFrom t tag b (here s) ph (sentTo s)
   finds-last s d ph w takes h n stops =
       let q : ℕ = sentTo s in
       let below : q < t .d = omega (arith, data-all t a s d) in
+      let last : q + runsFrom t tag q - 1 ≡ q = omega (arith, runs-hold t tag q below h, stops .no-runs) in
       walk-as
       (sym (runs-hold t tag q below h ∙ ap suc (stops .no-runs)))
+      (ap (λ z. b + z) (sym (ap (position t) last ∙ data-position t a s d)))
       (data-lines t a s d tag ∙
       sym (lines-next t tag q ∙ (ap (λ z. matching tag (linesOf t q) ++ z) (stops .no-lines) ∙ append-nil (matching tag (linesOf t q)))))
       (finds-here (before tag (linesOf t q)) (length (matching tag (linesOf t q))) hb (here-below s)
@@ -177,9 +194,8 @@ module _ (t : Plan) (a : Laid t) (tag b : ℕ) (hb : b ≤ cycleSize t) where
   pub follows-on :
       (s : Spot t) (d : isData t (s .slot) ≡ true) (f : First (isData t) (s .rest)) (ph : Phase) → awake ph ≡ true → TakesData ph →
       holds tag (linesOf t (sentTo s)) ≡ true → lastTag t (sentTo s) ≡ tag → firstTag t (suc (sentTo s)) ≡ tag →
-      WalkOn t tag b (here (further s (f .skipped) (f .hit) (f .behind) (f .splits))) Data (runsFrom t tag (suc (sentTo s))) found
-      (linesFrom t tag (suc (sentTo s))) →
-      WalkOn t tag b (here s) ph (runsFrom t tag (sentTo s)) found (linesFrom t tag (sentTo s))
+      RowFrom t tag b (here (further s (f .skipped) (f .hit) (f .behind) (f .splits))) Data (suc (sentTo s)) →
+      RowFrom t tag b (here s) ph (sentTo s)
   follows-on s d f ph w takes h last first more =
       let q : ℕ = sentTo s in
       let below : q < t .d = omega (arith, data-all t a s d) in
@@ -189,8 +205,10 @@ module _ (t : Plan) (a : Laid t) (tag b : ℕ) (hb : b ≤ cycleSize t) where
       ap (followOnFrom t (lastTag t q) 1) (f .splits) ∙
       (follow-hit t (lastTag t q) 1 (f .skipped) (f .hit) (f .behind) (f .fresh) (f .is) ∙
       rw (place, eq-eqb (firstTag t (suc q)) (lastTag t q) (first ∙ sym last)) (omega arith)) in
+      let same-end : suc q + runsFrom t tag (suc q) - 1 ≡ q + runsFrom t tag q - 1 = omega (arith, runs-hold t tag q below h) in
       walk-as
       (sym (runs-hold t tag q below h))
+      (ap (λ z. b + position t z) same-end)
       (ap (λ z. z ++ linesFrom t tag (suc q)) (data-lines t a s d tag) ∙ sym (lines-next t tag q))
       (hop-within s (f .skipped) (f .hit) (f .behind) (f .splits) tag b (before tag (linesOf t q)) (length (matching tag (linesOf t q)))
       hb
@@ -207,9 +225,8 @@ module _ (t : Plan) (a : Laid t) (tag b : ℕ) (hb : b ≤ cycleSize t) where
       (s : Spot t) → isData t (s .slot) ≡ true → (ph : Phase) → awake ph ≡ true → TakesData ph →
       holds tag (linesOf t (sentTo s)) ≡ true →
       ((f : First (isData t) (s .rest)) → holds tag (linesOf t (suc (sentTo s))) ≡ true →
-      WalkOn t tag b (here (further s (f .skipped) (f .hit) (f .behind) (f .splits))) Data (runsFrom t tag (suc (sentTo s))) found
-      (linesFrom t tag (suc (sentTo s)))) →
-      WalkOn t tag b (here s) ph (runsFrom t tag (sentTo s)) found (linesFrom t tag (sentTo s))
+      RowFrom t tag b (here (further s (f .skipped) (f .hit) (f .behind) (f .splits))) Data (suc (sentTo s))) →
+      RowFrom t tag b (here s) ph (sentTo s)
   data-step s d ph w takes h go = by (eqb (lastTag t q) tag) refl
     where
       q : ℕ
@@ -222,7 +239,7 @@ module _ (t : Plan) (a : Laid t) (tag b : ℕ) (hb : b ≤ cycleSize t) where
       ends f l = rw (data-last t a s d tag, l, f)
 
       starts : (f : First (isData t) (s .rest)) → lastTag t q ≡ tag → (c : Bool) → eqb (firstTag t (suc q)) tag ≡ c →
-          WalkOn t tag b (here s) ph (runsFrom t tag q) found (linesFrom t tag q)
+          RowFrom t tag b (here s) ph q
       starts f l true e =
           let first : firstTag t (suc q) ≡ tag = eqb-true (firstTag t (suc q)) tag e in
           let below : suc q < t .d = next-below t a s d f in
@@ -236,7 +253,7 @@ module _ (t : Plan) (a : Laid t) (tag b : ℕ) (hb : b ≤ cycleSize t) where
           finds-last s d ph w takes h (ends none-follows (eq-eqb (lastTag t q) tag l))
           (stops-break t a tag q (next-below t a s d f) l other)
 
-      by : (c : Bool) → eqb (lastTag t q) tag ≡ c → WalkOn t tag b (here s) ph (runsFrom t tag q) found (linesFrom t tag q)
+      by : (c : Bool) → eqb (lastTag t q) tag ≡ c → RowFrom t tag b (here s) ph q
       by false e =
           let other : lastTag t q ≡ tag → ⊥ = eqb-false (lastTag t q) tag e in
           finds-last s d ph w takes h (rw (data-last t a s d tag, e))
@@ -254,7 +271,7 @@ module _ (t : Plan) (a : Laid t) (tag b : ℕ) (hb : b ≤ cycleSize t) where
   pub data-run :
       (c : ℕ) (s : Spot t) → isData t (s .slot) ≡ true → sentTo s + suc c ≡ t .d → (ph : Phase) → awake ph ≡ true →
       TakesData ph → holds tag (linesOf t (sentTo s)) ≡ true →
-      WalkOn t tag b (here s) ph (runsFrom t tag (sentTo s)) found (linesFrom t tag (sentTo s))
+      RowFrom t tag b (here s) ph (sentTo s)
   data-run zero s d e ph w takes h =
       data-step s d ph w takes h (λ f g. absurd (omega (arith, next-below t a s d f)))
   data-run (suc c) s d e ph w takes h =
@@ -262,7 +279,5 @@ module _ (t : Plan) (a : Laid t) (tag b : ℕ) (hb : b ≤ cycleSize t) where
       (λ f g.
       let n : Spot t = further s (f .skipped) (f .hit) (f .behind) (f .splits) in
       let m : sentTo n ≡ suc (sentTo s) = next-data t a s d f in
-      subst
-      (λ z. WalkOn t tag b (here n) Data (runsFrom t tag z) found (linesFrom t tag z))
-      m
+      subst (RowFrom t tag b (here n) Data) m
       (data-run c n (hit-data s f) (omega arith) Data refl (λ f ls. refl) (rw m g)))

@@ -1,6 +1,6 @@
 -- Demand 3 holds: the walk from any tune-in bucket gives the hearing of any number of steps, and the lookup.
 -- Assumes nothing.
-use mathlib.Core.Path.{_≡_, refl, sym, _∙_, ap, subst}
+use mathlib.Core.Path.{_≡_, refl, sym, _∙_, ap}
 use Prim.Native.Nat.{ℕ, _+_, _*_, _/_, _≤_, _<_, max}
 use mathlib.Core.Bool.{true, not}
 use mathlib.Core.Option.{some}
@@ -15,35 +15,35 @@ use Rattle.buckets.specs.declared.Line.{Line}
 use Rattle.buckets.specs.Bucket.{Bucket}
 use Rattle.buckets.specs.ListLine.{printLine, listLines}
 use Rattle.cycle.specs.Tree.{Settings, Plan, plan}
+use Rattle.cycle.specs.Building.{build}
 use Rattle.cycle.specs.Cycle.{cycleSize, image}
 use Rattle.cycle.specs.ReadingBack.{wholeBuckets}
 use Rattle.cycle.specs.Held.{cycleBucket}
 use Rattle.cycle.proofs.DataTags.{Laid}
-use Rattle.cycle.proofs.Accepted.{laid}
-use Rattle.cycle.proofs.Outcomes.{Answered, answered, accepted}
-use Rattle.cycle.proofs.BuiltImage.{CycleOf, cycle-of-plan}
+use Rattle.cycle.proofs.BuiltImage.{CycleOf}
 use Rattle.listener.specs.Listener.{start}
 use Rattle.listener.specs.Hearing.{Taken, at, hearing, End, found, absent, endOf, heardIn, elapsedIn, linesGot, listenerAfter}
 use Rattle.listener.specs.Lookup
-use Rattle.listener.specs.Lookup.{Finish, run, concluded, lookup}
-use Rattle.listener.specs.Demand3.{heardLimit, linesWanted, endWanted, Demand3, EveryHearing}
+use Rattle.listener.specs.Lookup.{Finish, run, wholeRun, lookup}
+use Rattle.listener.specs.OnRun.{concluded}
+use Rattle.listener.specs.Demand3.{heardLimit, linesWanted, endWanted, Looks, Demand3, EveryHearing}
+use Rattle.listener.specs.EndPlace.{endPlace}
 use Rattle.listener.specs.declared.Listener.{Listener}
 use Rattle.listener.specs.declared.Phase.{Phase}
-use Rattle.listener.specs.declared.Phase.the-variants.{TuneIn}
 use Rattle.listener.specs.declared.Looked.the-variants
 use Rattle.listener.proofs.Walk.{Walk, misses-here, finds-here, hops}
 use Rattle.listener.proofs.Mechanics.{start-awaits}
 use Rattle.listener.proofs.WalkedSteps.{goneBy, finish, Walked}
 use Rattle.listener.proofs.Walked.{Reads, walked}
 use Rattle.listener.proofs.Arrival.{wanted, runs}
-use Rattle.listener.proofs.SegmentStart.{Within}
-use Rattle.listener.proofs.TuneIn.{tunes-in-at}
-use Rattle.listener.proofs.Images.{image-reads, image-whole, image-count}
+use Rattle.listener.proofs.TuneIn.{FromTuneIn, tunes-in-at}
+use Rattle.listener.proofs.Lookups.{lookup-by-tests}
+use Rattle.listener.proofs.Images.{image-reads, image-whole, image-count, cycle-answered, of-built}
 
 -- each step of a walk moves on
 pub walk-length :
-    {n tag : ℕ} {bk : ℕ → Bucket} {b x : ℕ} {ph : Phase} {h : ℕ} {e : End} {got : List Line} →
-    Walk n tag bk b x ph h e got → b + x + h ≤ 2 * n
+    {n tag : ℕ} {bk : ℕ → Bucket} {b x : ℕ} {ph : Phase} {h : ℕ} {e : End} {z : ℕ} {got : List Line} →
+    Walk n tag bk b x ph h e z got → b + x + h ≤ 2 * n
 walk-length (misses-here hb hx l c) = omega arith
 walk-length (finds-here f c hb hx l e) = omega arith
 walk-length (hops d f c hb hx l e w far lands sums hb′ hx′ more) = omega (arith, walk-length more)
@@ -55,7 +55,7 @@ elapsed-gone (x ∷ xs) = refl
 -- 11 and 12 do not hold
 pub past-tests :
     (c tune space : ℕ) (f : Finish) → wholeBuckets c ≡ true → tune < c / 240 →
-    pick (not (wholeBuckets c)) (Lookup.refuse 11 0) (pick (leb (c / 240) tune) (Lookup.refuse 12 0) (concluded space f)) ≡
+    concluded space (pick (not (wholeBuckets c)) (Lookup.refused 11 0) (pick (leb (c / 240) tune) (Lookup.refused 12 0) f)) ≡
     concluded space f
 past-tests c tune space f w l = rw (w, lt-leb (c / 240) tune l)
 
@@ -64,10 +64,12 @@ module _ (t : Plan) (a : Laid t) (c : CycleOf (image t) (cycleSize t) (cycleBuck
   unfoldable pub log : List Taken
   log = hearing (image t) (cycleSize t) strays tag tune m
 
-  pub way : Within t tag 0 tune TuneIn (2 + t .k + max 1 (runs t tag))
+  pub way : FromTuneIn t tag tune
   way = tunes-in-at t a tag tune early
 
-  pub told : Walked (image t) (cycleSize t) tune tune (start tag) m (way .steps) (endWanted (wanted t tag)) (wanted t tag) log
+  pub told :
+      Walked (image t) (cycleSize t) tune tune (start tag) m (way .steps) (endWanted (wanted t tag)) (endPlace t tag tune)
+      (wanted t tag) log
   unfolding log hearing
   told =
       let r : Reads (image t) (cycleSize t) (cycleBucket t) = image-reads (image t) (cycleSize t) (cycleBucket t) c in
@@ -78,9 +80,10 @@ module _ (t : Plan) (a : Laid t) (c : CycleOf (image t) (cycleSize t) (cycleBuck
   pub looked :
       (space : ℕ) (e : End) → endOf log ≡ some e →
       lookup (image t) tag tune space ≡ concluded space (finish e (listenerAfter (start tag) log) (linesGot log))
-  unfolding lookup
+  unfolding wholeRun
   looked space e ended =
       let count : length (image t) / 240 ≡ cycleSize t = image-count (image t) (cycleSize t) (cycleBucket t) c in
+      lookup-by-tests (image t) tag tune space ∙
       past-tests (length (image t)) tune space (run (image t) (length (image t) / 240) 200000 tune (start tag) [])
       (image-whole (image t) (cycleSize t) (cycleBucket t) c (omega arith)) (rw count early) ∙
       ap (concluded space)
@@ -106,6 +109,12 @@ pub concluded-absent :
     (space : ℕ) (l : Listener) {h e : ℕ} → l .heard ≡ h → l .elapsed ≡ e →
     concluded space (Lookup.absent l) ≡ record { answer = the-variants.Absent h e; output = [] }
 concluded-absent space l heard elapsed = rw (heard, elapsed)
+
+-- an outcome, by its numbers and its bytes
+pub looks :
+    {image : List ℕ} {tag tune space : ℕ} {o : Lookup.Outcome} → lookup image tag tune space ≡ o →
+    Looks image tag tune space (Lookup.numbers (o .answer)) (o .output)
+looks e = record { answers = ap (λ o. Lookup.numbers (o .answer)) e; writes = ap (λ o. o .output) e }
 
 -- the limit of demand 3, of the plan
 pub limit-is : (s : Settings) (list : List ℕ) (tag : ℕ) → heardLimit s list tag ≡ 2 + plan s (listLines list) .k + max 1 (runs (plan s (listLines list)) tag)
@@ -136,9 +145,9 @@ of-plan s list a c tag tune early m strays =
       elapsed-own = elapsed;
       after-end = w .after-end;
       unchanged = w .unchanged;
-      lookup-found = λ space ended room. ends space found ended ∙ concluded-found space after (linesGot l) heard elapsed room;
-      lookup-short = λ space ended room. ends space found ended ∙ concluded-short space after (linesGot l) room;
-      lookup-absent = λ space ended. ends space absent ended ∙ concluded-absent space after heard elapsed;
+      lookup-found = λ space ended room. looks (ends space found ended ∙ concluded-found space after (linesGot l) heard elapsed room);
+      lookup-short = λ space ended room. looks (ends space found ended ∙ concluded-short space after (linesGot l) room);
+      lookup-absent = λ space ended. looks (ends space absent ended ∙ concluded-absent space after heard elapsed);
     }
   where
     t : Plan
@@ -147,10 +156,12 @@ of-plan s list a c tag tune early m strays =
     l : List Taken
     l = log t a c tag tune early m strays
 
-    w : Walked (image t) (cycleSize t) tune tune (start tag) m (way t a c tag tune early m strays .steps) (endWanted (wanted t tag)) (wanted t tag) l
+    w :
+        Walked (image t) (cycleSize t) tune tune (start tag) m (way t a c tag tune early m strays .steps)
+        (endWanted (wanted t tag)) (endPlace t tag tune) (wanted t tag) l
     w = told t a c tag tune early m strays
 
-    y : Within t tag 0 tune TuneIn (2 + t .k + max 1 (runs t tag))
+    y : FromTuneIn t tag tune
     y = way t a c tag tune early m strays
 
     after : Listener
@@ -168,10 +179,5 @@ of-plan s list a c tag tune early m strays =
 -- demand 3
 pub demand-3 : EveryHearing
 demand-3 s list room n built tag tune early m strays =
-    let t : Plan = plan s (listLines list) in
-    let o : Answered s list room n = answered s list room n built in
-    let ok = accepted s list room n built in
-    let size : cycleSize t ≡ n = sym (o .size-is) in
-    subst (λ z. Demand3 s list z n tag tune m (hearing z n strays tag tune m)) (sym (o .output-is))
-    (subst (λ z. Demand3 s list (image t) z tag tune m (hearing (image t) z strays tag tune m)) size
-    (of-plan s list (laid t ok) (cycle-of-plan t ok (o .short)) tag tune (rw size early) m strays))
+    of-built s list room n (cycle-answered (build s list room .answer) n built (omega arith)) (λ z c. tune < c → Demand3 s list z c tag tune m (hearing z c strays tag tune m))
+    (λ a c h. of-plan s list a c tag tune h m strays) early

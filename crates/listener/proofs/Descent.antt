@@ -21,9 +21,10 @@ use Rattle.cycle.proofs.Pieces.{index-slot, data-level}
 use Rattle.cycle.proofs.Occurring.{occurs-is}
 use Rattle.cycle.proofs.DataTags.{Laid}
 use Rattle.listener.specs.Listener.{dozes, choice, tagBelow}
+use Rattle.listener.specs.EndPlace.{target}
 use Rattle.listener.specs.declared.Phase.{Phase}
 use Rattle.listener.specs.declared.Phase.the-variants.{Index, Either}
-use Rattle.listener.proofs.Target.{target, entry-test, pair-test}
+use Rattle.listener.proofs.Target.{entry-test, pair-test}
 use Rattle.listener.proofs.Places.{distance-within, count-index}
 use Rattle.listener.proofs.Walk.{awake, linesAt}
 use Rattle.listener.proofs.Ways.{Spot, here, sentTo, further, further-sent, hop-within, walk-as}
@@ -171,7 +172,7 @@ module _ (t : Plan) (a : Laid t) (tag : ℕ) (below : target t tag < t .d) where
       Leads t tag b (here s) ph (suc h + max 1 (runs t tag))
   goes-down b hb h s e unsent is ph w takes more =
       let n : isData t (s .slot) ≡ false = index-slot t (s .slot) (omega arith) in
-      walk-as (sym (suc-add h (max 1 (runs t tag)))) refl
+      walk-as (sym (suc-add h (max 1 (runs t tag)))) refl refl
       (enters b hb s n unsent is ph w takes (h + max 1 (runs t tag))
       (λ c.
       let l : Is (s .slot .level + 1) (placeAbove t (s .slot .level + 1) (target t tag)) (landing s c .slot) = landing-is s c in
@@ -186,7 +187,7 @@ module _ (t : Plan) (a : Laid t) (tag : ℕ) (below : target t tag < t .d) where
       let l : s .slot .level ≡ t .k + 1 = omega arith in
       let d : isData t (s .slot) ≡ true = data-level t (s .slot) l in
       let p : s .slot .place ≡ target t tag = is ∙ (ap (λ z. placeAbove t z (target t tag)) l ∙ above-data t (target t tag)) in
-      walk-as (omega arith) refl (arrives t a tag b hb s d (sym (place-sent t a s d) ∙ p) Either refl (λ f ls. refl))
+      walk-as (omega arith) refl refl (arrives t a tag b hb s d (sym (place-sent t a s d) ∙ p) Either refl (λ f ls. refl))
   descends b hb (suc h) s e unsent is =
       goes-down b hb h s e unsent is Either refl (λ ps es. refl) (λ n. descends b hb h n)
 
@@ -197,5 +198,5 @@ module _ (t : Plan) (a : Laid t) (tag : ℕ) (below : target t tag < t .d) where
       Leads t tag b (here s) Index (t .k + 1 - s .slot .level + max 1 (runs t tag))
   descends-from b hb s high unsent is =
       let h : ℕ = t .k - s .slot .level in
-      walk-as (omega arith) refl
+      walk-as (omega arith) refl refl
       (goes-down b hb h s (omega arith) unsent is Index refl (λ ps es. refl) (λ n. descends b hb h n))

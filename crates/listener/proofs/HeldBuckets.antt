@@ -11,6 +11,7 @@ use lib.Seq.{take-at}
 use borrow.Author.Tests.{le-leb}
 use Rattle.columns.specs.Lists.{every}
 use Rattle.columns.proofs.Strict.{both}
+use Rattle.buckets.specs.Lengths.{bucketsMost}
 use Rattle.buckets.specs.declared.Line.{Line}
 use Rattle.buckets.specs.Bucket.{Pair, Entry, Bucket, pairFits, entryFits}
 use Rattle.buckets.specs.Held.{filled, tagOr0, heldIndex, headOf}
@@ -45,11 +46,11 @@ lines-held ls =
 
 -- ---- what a step asks
 
-near-distance : (n : ℕ) (e : Entry) → n ≤ 99999 → Reaches n (e .distance) → near e ≡ true
+near-distance : (n : ℕ) (e : Entry) → n ≤ bucketsMost → Reaches n (e .distance) → near e ≡ true
 unfolding near
-near-distance n e h r = rw (le-leb 1 (e .distance) (r .onward), le-leb (e .distance) 99999 (omega arith))
+near-distance n e h r = rw (le-leb 1 (e .distance) (r .onward), le-leb (e .distance) bucketsMost (omega arith))
 
-module _ (n : ℕ) (h : n ≤ 99999) where
+module _ (n : ℕ) (h : n ≤ bucketsMost) where
   near-pairs : (ps : List Pair) → every (pairFits n) ps ≡ true → every near (map inNumbers ps) ≡ true
   near-pairs [] k = refl
   near-pairs (p ∷ ps) k =

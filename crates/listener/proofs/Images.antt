@@ -1,18 +1,28 @@
 -- The bytes of a cycle, as listeners and lookups take them: bucket by bucket, and as many buckets as they are long for.
 -- Assumes nothing.
-use mathlib.Core.Path.{_≡_, _∙_}
-use Prim.Native.Nat.{ℕ, _*_, _/_, _%_, _≤_}
+use mathlib.Core.Path.{_≡_, sym, ap, _∙_, subst}
+use Prim.Native.Nat.{ℕ, _*_, _/_, _%_, _≤_, _<_}
 use mathlib.Core.Bool.{true}
-use mathlib.Core.List.{List}
+use mathlib.Core.List.{List, [], _∷_}
 use native.Mathlib.Nat.{mul-comm, mul-mod-left, mul-div-cancel}
 use native.Mathlib.Omega.{arith}
 use lib.Dec.{lit<}
-use lib.ListN.{length}
+use lib.ListN.{length, getD}
 use borrow.Author.Tests.{le-leb, eq-eqb}
+use Rattle.buckets.specs.ListLine.{listLines}
 use Rattle.buckets.specs.Bucket.{Bucket}
+use Rattle.cycle.specs.Tree.{Settings, Plan, plan}
+use Rattle.cycle.specs.Cycle.{cycleSize, image, bucketAt}
+use Rattle.cycle.specs.Building
+use Rattle.cycle.specs.Building.{build}
+use Rattle.cycle.specs.declared.Built.{Built}
+use Rattle.cycle.specs.declared.Built.the-variants.{Cycle, Refused}
 use Rattle.cycle.specs.ReadingBack.{wholeBuckets}
-use Rattle.cycle.proofs.BuiltImage.{CycleOf}
-use Rattle.listener.specs.Hearing.{bucketAt}
+use Rattle.cycle.specs.Held.{cycleBucket}
+use Rattle.cycle.proofs.DataTags.{Laid}
+use Rattle.cycle.proofs.Accepted.{laid}
+use Rattle.cycle.proofs.Outcomes.{Answered, answered, accepted}
+use Rattle.cycle.proofs.BuiltImage.{CycleOf, cycle-of-plan}
 use Rattle.listener.proofs.Walked.{Reads}
 
 module _ (bytes : List ℕ) (n : ℕ) (bk : ℕ → Bucket) (c : CycleOf bytes n bk) where
@@ -37,3 +47,22 @@ module _ (bytes : List ℕ) (n : ℕ) (bk : ℕ → Bucket) (c : CycleOf bytes n
         image-count,
         le-leb n 99999 (c .small),
       )
+
+-- an answer of building by its numbers
+pub cycle-answered : (b : Built) (n : ℕ) → Building.numbers b ≡ 0 ∷ 0 ∷ n ∷ [] → 0 < n → b ≡ Cycle n
+cycle-answered (Cycle m) n e h = ap (λ s. Cycle (getD s 2 0)) e
+cycle-answered (Refused number place) n e h = absurd (omega (arith, ap (λ s. getD s 2 0) e))
+
+-- what holds of the cycle of a plan holds of what building made
+pub of-built :
+    (s : Settings) (list : List ℕ) (room n : ℕ) → build s list room .answer ≡ Cycle n → (P : List ℕ → ℕ → Type 0) →
+    (Laid (plan s (listLines list)) →
+    CycleOf (image (plan s (listLines list))) (cycleSize (plan s (listLines list))) (cycleBucket (plan s (listLines list))) →
+    P (image (plan s (listLines list))) (cycleSize (plan s (listLines list)))) →
+    P (build s list room .output) n
+of-built s list room n built P h =
+    let t : Plan = plan s (listLines list) in
+    let o : Answered s list room n = answered s list room n built in
+    let ok = accepted s list room n built in
+    subst (λ z. P z n) (sym (o .output-is))
+    (subst (P (image t)) (sym (o .size-is)) (h (laid t ok) (cycle-of-plan t ok (o .short))))

@@ -17,9 +17,10 @@ use Rattle.cycle.specs.Cycle.{isData, hasPairs, firstPair, laterPair, pairs, en
 use Rattle.cycle.specs.Held.{lastOf, cycleBucket}
 use Rattle.cycle.proofs.DataTags.{Laid}
 use Rattle.listener.specs.Listener.{dozes, misses, choice, bodyChoice, entryChoice, tagBelow, laterChoice, atMost, indexChoice, letterAwaited}
+use Rattle.listener.specs.EndPlace.{target}
 use Rattle.listener.specs.declared.Phase.{Phase}
 use Rattle.listener.specs.declared.Phase.the-variants.{Index, Either}
-use Rattle.listener.proofs.Target.{target, before-target, from-target}
+use Rattle.listener.proofs.Target.{before-target, from-target}
 use Rattle.listener.proofs.Walk.{awake}
 use Rattle.listener.proofs.Ways.{Spot, here, sentTo, body-here}
 use Rattle.listener.proofs.DataRun.{choice-awake}

@@ -14,10 +14,13 @@ pub mod Arrival
 pub mod IndexTells
 pub mod Descent
 pub mod Roots
+pub mod EndCases
 pub mod SegmentStart
 pub mod TuneIn
 pub mod Images
 pub mod Demand3
+pub mod EndPlace
+pub mod Segments
 pub mod HeldLists
 pub mod HeldBuckets
 pub mod Readings
@@ -30,3 +33,7 @@ pub mod Runs
 pub mod WritingRuns
 pub mod Lookups
 pub mod SavedStates
+pub mod Told
+pub mod StepLeaves
+pub mod StartedListeners
+pub mod EnoughSteps

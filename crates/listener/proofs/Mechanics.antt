@@ -2,27 +2,28 @@
 -- counts and the place awaited move on.
 -- Assumes nothing.
 use mathlib.Core.Path.{_≡_, refl, sym, _∙_, ap, ap₂}
-use Prim.Native.Nat.{ℕ, _+_, _*_, _%_, _≤_, _<_}
-use mathlib.Core.Bool.{true, false, false≢true}
+use Prim.Native.Nat.{ℕ, zero, suc, _+_, _*_, _/_, _%_, _≤_, _<_}
+use mathlib.Core.Bool.{true, false}
 use mathlib.Core.Option.{some}
 use mathlib.Core.List.{List}
 use native.Mathlib.Omega.{arith}
-use borrow.Author.Tests.{le-ltb, le-leb, eq-eqb}
+use native.Mathlib.Nat.{add-mul, div-mul-le-self, div-add-mod'}
+use borrow.Author.Tests.{le-ltb, eq-eqb}
 use Rattle.buckets.specs.Bucket.{Bucket, cycleLength, readBucket}
-use Rattle.listener.specs.Listener.{start, choice, letterAwaited, placeAwaited, awaited, isEnded, countsFit, refusedEnded, heardWith, elapsedWith, tunedWith, pastNextCycle, dozing, decided, take, step}
+use Rattle.listener.specs.Listener.{start, choice, letterAwaited, placeAwaited, awaited, isEnded, countsFit, refusedEnded, heardWith, elapsedWith, passedWith, pastNextCycle, dozing, decided, heed, step}
 use Rattle.listener.specs.declared.Listener.{Listener}
 use Rattle.listener.specs.declared.Phase.{Phase}
 use Rattle.listener.specs.declared.Phase.the-variants.{TuneIn, Index, Either, Data, Ended}
 use Rattle.listener.specs.declared.Stepped.{Stepped}
 use Rattle.listener.proofs.Walk.{awake}
+use Rattle.listener.proofs.States.{limits-fit}
 
 -- s awaits bucket x, in the cycle that b stands for, and was tuned in at place u
 pub record Awaits (n tag u : ℕ) (bk : ℕ → Bucket) (b x : ℕ) (ph : Phase) (s : Listener) : Type 0 where
   pub tag-is : s .tag ≡ tag
   pub phase-is : s .phase ≡ ph
   pub place-is : placeAwaited ph s (bk x) ≡ true
-  pub tuned-is : tunedWith ph s (bk x) ≡ u
-  pub tuned-small : s .tuned ≤ n
+  pub passed-is : s .passed * n ≡ b
   pub gone-by : u + (s .elapsed + s .doze) ≡ b + x + 1
   pub dozes-some : 1 ≤ s .doze
   pub counted : s .heard ≤ s .elapsed
@@ -44,8 +45,7 @@ start-awaits n tag u bk e =
       tag-is = refl;
       phase-is = refl;
       place-is = refl;
-      tuned-is = e;
-      tuned-small = omega arith;
+      passed-is = omega arith;
       gone-by = omega arith;
       dozes-some = omega arith;
       counted = omega arith;
@@ -53,27 +53,19 @@ start-awaits n tag u bk e =
 
 pub step-takes :
     (s : Listener) (bytes : List ℕ) (b : Bucket) → isEnded (s .phase) ≡ false → countsFit s ≡ true →
-    readBucket bytes ≡ some b → step s bytes ≡ take s b
+    readBucket bytes ≡ some b → step s bytes ≡ heed s b
 unfolding step
 step-takes s bytes b h k r = rw (h, k, r)
 
-pub take-decides :
-    (s : Listener) (b : Bucket) → awaited s b ≡ true → take s b ≡ decided s b (choice (s .phase) (s .tag) b)
-unfolding take
-take-decides s b h = rw h
+pub heed-decides :
+    (s : Listener) (b : Bucket) → awaited s b ≡ true → heed s b ≡ decided s b (choice (s .phase) (s .tag) b)
+unfolding heed
+heed-decides s b h = rw h
 
 -- an ended listener is refused by 14
 pub step-ended : (s : Listener) (bytes : List ℕ) → s .phase ≡ Ended → step s bytes ≡ refusedEnded s
 unfolding step
 step-ended s bytes e = rw e
-
-pub counts-fit :
-    (s : Listener) (n : ℕ) → n ≤ 99999 → s .heard ≤ s .elapsed → s .elapsed + s .doze ≤ 2 * n → s .tuned ≤ n →
-    countsFit s ≡ true
-unfolding countsFit
-counts-fit s n small a e u =
-    rw
-    (le-leb (s .heard) 4294967295 (omega arith), le-leb (s .elapsed) 4294967295 (omega arith), le-leb (s .doze) 4294967295 (omega arith), le-leb (s .tuned) 4294967295 (omega arith))
 
 -- where a doze ends is what the phases after a doze await
 pub due-place :
@@ -85,12 +77,11 @@ due-place Either s b w p c = rw (eq-eqb (b .position) (s .due) p, eq-eqb (cycleL
 due-place Data s b w p c = rw (eq-eqb (b .position) (s .due) p, eq-eqb (cycleLength b) (s .cycle) c)
 due-place Ended s b w p c = w
 
-pub tuned-awake : (ph : Phase) (s : Listener) (b : Bucket) → awake ph ≡ true → tunedWith ph s b ≡ s .tuned
-tuned-awake TuneIn s b w = absurd (false≢true w)
-tuned-awake Index s b w = refl
-tuned-awake Either s b w = refl
-tuned-awake Data s b w = refl
-tuned-awake Ended s b w = refl
+-- fewer than two cycles are at most one
+pub under-two : (k n : ℕ) → k * n < 2 * n → k ≤ 1
+under-two zero n h = omega arith
+under-two (suc zero) n h = omega arith
+under-two (suc (suc k)) n h = absurd (omega arith)
 
 -- an equation of a value of the phase, at the listener's own phase
 along {ℓ} : {A : Type ℓ} {x y : Phase} {z : A} (f : Phase → A) → x ≡ y → f y ≡ z → f x ≡ z
@@ -107,18 +98,29 @@ module _ (n tag u : ℕ) (bk : ℕ → Bucket) (small : n ≤ 99999) where
       let l′ : letterAwaited (s .phase) (bk x .body) ≡ true = along (λ p. letterAwaited p (bk x .body)) (a .phase-is) l in
       let p′ : placeAwaited (s .phase) s (bk x) ≡ true = along (λ p. placeAwaited p s (bk x)) (a .phase-is) (a .place-is) in
       step-takes s bytes (bk x) (open-phase (s .phase) (bk x) l′)
-      (counts-fit s n small (a .counted) (omega arith) (a .tuned-small)) r ∙
-      (take-decides s (bk x) (rw (l′, p′)) ∙
+      (limits-fit s
+      (record {
+        heard = omega arith;
+        elapsed = omega arith;
+        doze = omega arith;
+        passed = under-two (s .passed) n (omega (arith, a .passed-is));
+      })) r ∙
+      (heed-decides s (bk x) (rw (l′, p′)) ∙
       ap₂ {C = Stepped} (λ p g. decided s (bk x) (choice p g (bk x))) (a .phase-is) (a .tag-is))
+
+  passed-at :
+      (x : ℕ) (s : Listener) (d : ℕ) → bk x .position ≡ x → cycleLength (bk x) ≡ n →
+      passedWith s (bk x) d ≡ s .passed + (x + d) / n
+  unfolding passedWith
+  passed-at x s d px nx = ap₂ {C = ℕ} (λ y z. s .passed + (y + d) / z) px nx
 
   -- a doze to a bucket of this cycle or the next: the listener that awaits it
   pub dozes-on :
       {b x b′ x′ : ℕ} {ph next : Phase} (s : Listener) (d : ℕ) → Awaits n tag u bk b x ph s → bk x .position ≡ x →
-      cycleLength (bk x) ≡ n → bk x′ .position ≡ x′ → cycleLength (bk x′) ≡ n → u ≤ n → awake next ≡ true → 1 ≤ d →
+      cycleLength (bk x) ≡ n → bk x′ .position ≡ x′ → cycleLength (bk x′) ≡ n → awake next ≡ true → 1 ≤ d →
       (x + d) % n ≡ x′ → b′ + x′ ≡ b + x + d → Awaits n tag u bk b′ x′ next (dozing s (bk x) d next)
   unfolding dozing heardWith elapsedWith
-  dozes-on {b} {x} {b′} {x′} {ph} {next} s d a px nx px′ nx′ hu w far lands sums =
-      let tuned : tunedWith (s .phase) s (bk x) ≡ u = along (λ p. tunedWith p s (bk x)) (a .phase-is) (a .tuned-is) in
+  dozes-on {b} {x} {b′} {x′} {ph} {next} s d a px nx px′ nx′ w far lands sums =
       record {
         tag-is = a .tag-is;
         phase-is = refl;
@@ -126,8 +128,10 @@ module _ (n tag u : ℕ) (bk : ℕ → Bucket) (small : n ≤ 99999) where
             due-place next (dozing s (bk x) d next) (bk x′) w
             (px′ ∙ (sym lands ∙ ap₂ {C = ℕ} (λ y z. (y + d) % z) (sym px) (sym nx)))
             (nx′ ∙ sym nx);
-        tuned-is = tuned-awake next (dozing s (bk x) d next) (bk x′) w ∙ tuned;
-        tuned-small = rw tuned hu;
+        passed-is =
+            ap (λ k. k * n) (passed-at x s d px nx) ∙
+            (add-mul (s .passed) ((x + d) / n) n ∙
+            omega (arith, a .passed-is, div-add-mod' (x + d) n, lands, sums));
         gone-by = omega arith;
         dozes-some = far;
         counted = omega arith;
@@ -135,9 +139,11 @@ module _ (n tag u : ℕ) (bk : ℕ → Bucket) (small : n ≤ 99999) where
 
   -- 10 does not hold of a doze that stays before the end of the next cycle
   pub not-past :
-      {b x b′ x′ : ℕ} {ph : Phase} (s : Listener) (d : ℕ) → Awaits n tag u bk b x ph s → cycleLength (bk x) ≡ n →
-      b′ + x′ ≡ b + x + d → b′ ≤ n → x′ < n → pastNextCycle s (bk x) d ≡ false
-  unfolding pastNextCycle elapsedWith
-  not-past {b} {x} {b′} {x′} {ph} s d a nx sums hb hx =
-      let tuned : tunedWith (s .phase) s (bk x) ≡ u = along (λ p. tunedWith p s (bk x)) (a .phase-is) (a .tuned-is) in
-      le-ltb (2 * cycleLength (bk x)) (tunedWith (s .phase) s (bk x) + (s .elapsed + s .doze + d)) (rw (nx, tuned) (omega arith))
+      {b x b′ x′ : ℕ} {ph : Phase} (s : Listener) (d : ℕ) → Awaits n tag u bk b x ph s → bk x .position ≡ x →
+      cycleLength (bk x) ≡ n → b′ + x′ ≡ b + x + d → b′ ≤ n → x′ < n → pastNextCycle s (bk x) d ≡ false
+  unfolding pastNextCycle
+  not-past {b} {x} {b′} {x′} {ph} s d a px nx sums hb hx =
+      rw (passed-at x s d px nx)
+      (le-ltb 1 (s .passed + (x + d) / n)
+      (under-two (s .passed + (x + d) / n) n
+      (omega (arith, a .passed-is, add-mul (s .passed) ((x + d) / n) n, div-mul-le-self (x + d) n))))

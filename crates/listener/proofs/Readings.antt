@@ -6,6 +6,7 @@ use mathlib.Core.Option.{Option, none, some}
 use mathlib.Core.List.{List}
 use Prim.Native.Nat.{ℕ, _+_, _≤_}
 use native.Mathlib.Omega.{arith}
+use Rattle.buckets.specs.Lengths.{bucketsMost, bucketLinesMost}
 use Rattle.buckets.specs.declared.Kind.the-variants
 use Rattle.buckets.specs.declared.Reading.{Reading}
 use Rattle.buckets.specs.Bucket.{Body, indexBody, dataBody, Bucket, good, readBucket}
@@ -13,26 +14,26 @@ use Rattle.buckets.specs.Held.{indexOf, bucketWith, headOf, asReading}
 use Rattle.buckets.proofs.Holding.{index-held}
 use Rattle.buckets.proofs.Good.{bucket-good}
 use Rattle.buckets.proofs.Buckets.{print-of-read-bucket}
-use Rattle.listener.specs.Listener.{take, takeRead}
+use Rattle.listener.specs.Listener.{heed, heedRead}
 use Rattle.listener.specs.OnReading.{SoundHead, SoundIndex, taggedLines}
 use Rattle.listener.specs.declared.Listener.{Listener}
-use Rattle.listener.proofs.TagsAlone.{take-bare}
+use Rattle.listener.proofs.TagsAlone.{heed-bare}
 use Rattle.listener.proofs.HeldBuckets.{lines-held, sound-index, sound-head}
 
 -- an index bucket was read
 pub record IndexRead (r : Reading) (o : Option Bucket) : Type 0 where
   pub head : SoundHead (r .head)
   pub index : SoundIndex (r .index)
-  pub is : (s : Listener) → take s (bucketWith (r .head) (indexOf (r .index))) ≡ takeRead s o
+  pub is : (s : Listener) → heed s (bucketWith (r .head) (indexOf (r .index))) ≡ heedRead s o
 
 -- a data bucket was read
 pub record DataRead (r : Reading) (o : Option Bucket) : Type 0 where
   pub head : SoundHead (r .head)
-  pub near : r .«follow_on» ≤ 99999
-  pub few : r .lines ≤ 8
+  pub near : r .«follow_on» ≤ bucketsMost
+  pub few : r .lines ≤ bucketLinesMost
   pub is :
       (s : Listener) →
-      take s (bucketWith (r .head) (dataBody (r .«follow_on») (taggedLines (r .lines) (r .tags)))) ≡ takeRead s o
+      heed s (bucketWith (r .head) (dataBody (r .«follow_on») (taggedLines (r .lines) (r .tags)))) ≡ heedRead s o
 
 module _ (p c g : ℕ) where
   abbrev bucket : Body → Bucket
@@ -47,7 +48,7 @@ module _ (p c g : ℕ) where
       record {
         head = sound-head (bucket (indexBody ps es)) b;
         index = sound-index (p + c) (b .short-cycle) ps es (b .good-rest);
-        is = λ s. ap (λ x. take s (bucket x)) (index-held ps es (b .good-rest .later-printed));
+        is = λ s. ap (λ x. heed s (bucket x)) (index-held ps es (b .good-rest .later-printed));
       }
   index-of (dataBody f ls) k e = let z : _≡_ {A = ℕ} 0 1 = cc in absurd (omega arith)
 
@@ -63,7 +64,7 @@ module _ (p c g : ℕ) where
         near = omega (arith, b .good-rest .follow-on-near, b .short-cycle);
         few = b .good-rest .few-lines;
         is = λ s.
-            ap (λ x. take s (bucket (dataBody f x))) (lines-held ls) ∙ take-bare s (headOf (bucket (dataBody f ls))) f ls;
+            ap (λ x. heed s (bucket (dataBody f x))) (lines-held ls) ∙ heed-bare s (headOf (bucket (dataBody f ls))) f ls;
       }
 
 module _ (bytes : List ℕ) where

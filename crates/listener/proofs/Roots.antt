@@ -17,11 +17,12 @@ use Rattle.cycle.proofs.DataTags.{Laid}
 use Rattle.cycle.proofs.Pieces.{index-slot, count-append}
 use Rattle.cycle.proofs.Distances.{distance-hit}
 use Rattle.cycle.proofs.Occurring.{root-above}
+use Rattle.listener.specs.EndPlace.{target}
 use Rattle.listener.specs.declared.Phase.the-variants.{Index}
-use Rattle.listener.proofs.Target.{target, over-entry}
+use Rattle.listener.proofs.Target.{over-entry}
 use Rattle.listener.proofs.Walk.{misses-here}
 use Rattle.listener.proofs.Ways.{Spot, here, sentTo, here-below, walk-as}
-use Rattle.listener.proofs.Arrival.{runs, Leads, wanted-over}
+use Rattle.listener.proofs.Arrival.{runs, EndsAt, Leads, wanted-over}
 use Rattle.listener.proofs.IndexTells.{entry-none, index-heard, entry-choice}
 use Rattle.listener.proofs.Descent.{Is, descends-from}
 
@@ -70,13 +71,14 @@ module _ (t : Plan) (a : Laid t) where
     from-root below b hb =
         let r : Is 1 0 (root .slot) = root-is in
         subst (λ x. Leads t tag b x Index (t .k + max 1 (runs t tag))) root-here
-        (walk-as (omega arith) refl
+        (walk-as (omega arith) refl refl
         (descends-from t a tag below b hb root (omega (arith, a .sound .levelled)) (omega (arith, root-sent))
         (r .place-is ∙ (sym (root-above t (a .sound) (a .keeps) (target t tag) below) ∙ ap (λ z. placeAbove t z (target t tag)) (sym (r .level-is))))))
 
     -- a root, for a tag above the whole list
     pub over-root :
-        target t tag ≡ t .d → (b : ℕ) → b ≤ cycleSize t → (s : Spot t) → s .slot .level ≡ 1 → Leads t tag b (here s) Index 1
+        target t tag ≡ t .d → (b : ℕ) → b ≤ cycleSize t → (s : Spot t) → s .slot .level ≡ 1 →
+        EndsAt t tag b (here s) Index 1 (b + here s)
     unfolding entries entry children
     over-root e b hb s l =
         let i : ℕ = s .slot .level in
@@ -87,3 +89,8 @@ module _ (t : Plan) (a : Laid t) where
         (entry-choice t a s n Index tag refl (rw e (sent-le s)) (λ h p u v. absurd (omega arith)) ∙
         entry-none tag (entry t (s .rest ++ slots t) (i + 1)) (j * t .n) (min (j * t .n + t .n) (width t (suc i)) - j * t .n)
         (λ c u v. over-entry t a tag (i + 1) c e (omega (arith, a .sound .levelled)) (rw (add-one i) (omega arith)))))
+
+    -- the cycle's first bucket
+    pub over-start : target t tag ≡ t .d → (b : ℕ) → b ≤ cycleSize t → EndsAt t tag b 0 Index 1 (b + 0)
+    over-start e b hb =
+        subst (λ x. EndsAt t tag b x Index 1 (b + x)) root-here (over-root e b hb root (root-is .level-is))

@@ -1,23 +1,34 @@
 -- A lookup's run, bucket by bucket: what is left of it, and that the lines got only grow.
 -- Assumes nothing.
 use mathlib.Core.Path.{_≡_, refl, sym, _∙_, ap, subst}
-use mathlib.Core.List.{List, [], _++_}
+use mathlib.Core.Bool.{Bool, true, false}
+use mathlib.Core.List.{List, [], _∷_, _++_}
 use Prim.Native.Nat.{ℕ, zero, suc, _+_, _-_, _*_, _≤_, _<_, _%_}
 use native.Mathlib.Omega.{arith}
 use native.Mathlib.Nat.{mod-lt}
 use lib.ListN.{length, length-append}
+use Rattle.columns.specs.Lists.{pick}
+use Rattle.buckets.specs.Lengths.{bucketsMost, bucketLinesMost}
 use Rattle.buckets.specs.declared.Line.{Line}
 use Rattle.cycle.proofs.Children.{nil-of}
-use Rattle.listener.specs.Listener.{start, step, named}
-use Rattle.listener.specs.Hearing.{bucketAt}
-use Rattle.listener.specs.Lookup.{Finish, found, refused, afterAnswer, run}
-use Rattle.listener.specs.OnRun.{wholeRun, WasHeard, heardNext, runOn}
+use Rattle.listener.specs.Listener.{start, step, named, isEnded}
+use Rattle.cycle.specs.Cycle.{bucketAt}
+use Rattle.listener.specs.Started.{after}
+use Rattle.listener.specs.Lookup.{Finish, found, afterAnswer, runBudget, run, wholeRun}
+use Rattle.listener.specs.OnRun.{WasHeard, heardNext, runOn, Begins}
 use Rattle.listener.specs.declared.Listener.{Listener}
 use Rattle.listener.specs.declared.Answer.{Answer}
 use Rattle.listener.specs.declared.Answer.the-variants.{Doze, Found, Absent, Refused}
 use Rattle.listener.specs.declared.Stepped.{Stepped}
-use Rattle.listener.specs.declared.lookup.Heard.{Heard}
+use Rattle.listener.specs.declared.hearing.Heard.{Heard}
 use Rattle.listener.proofs.StepBounds.{length-named, few-named, doze-near}
+use Rattle.listener.proofs.StepLeaves.{GoesOn, Leaves, goes-on, stops, dozed-on, open-awake, midway-short}
+use Rattle.listener.proofs.StartedListeners.{tunedIn, leaves, after-one-more, counts-limited}
+use Rattle.listener.proofs.EnoughSteps.{run-on}
+
+-- the listener that heard a bucket
+abbrev pub listenerAt : {image : List ℕ} {count : ℕ} {h : Heard} → WasHeard image count h → Listener
+listenerAt w = after (start (w .tag)) (w .given)
 
 -- a run that has come from `goal`'s start to a bucket heard, with so many lines got before it
 pub record SoFar (image : List ℕ) (count : ℕ) (goal : Finish) (h : Heard) (lines : ℕ) : Type 0 where
@@ -25,35 +36,39 @@ pub record SoFar (image : List ℕ) (count : ℕ) (goal : Finish) (h : Heard) (l
   pub got : List Line
   pub counted : length got ≡ lines
   pub rest : goal ≡ runOn image count h got
-  pub few : lines + 8 * h .left < 1600000
+  pub few : lines ≤ bucketLinesMost * listenerAt heard .elapsed
 
 module _ (image : List ℕ) (count : ℕ) where
-  -- a run with steps left hears a bucket
-  pub hears :
-      (left x : ℕ) (s : Listener) (got : List Line) {r : Stepped} → 0 < left → r ≡ step s (bucketAt image x) →
-      run image count left x s got ≡ runOn image count (record { x = x; left = left - 1; step = r }) got
-  unfolding runOn
-  hears zero x s got h e = absurd (omega arith)
-  hears (suc left) x s got {r} h e =
-      let less : suc left - 1 ≡ left = omega arith in
-      rw (less, e)
-
   pub at-start :
       (tag t : ℕ) {s : Listener} {r : Stepped} → s ≡ start tag → r ≡ step s (bucketAt image t) → t < count →
-      SoFar image count (wholeRun image count tag t) (record { x = t; left = 199999; step = r }) 0
+      SoFar image count (wholeRun image count tag t) (record { x = t; step = r }) 0
   unfolding wholeRun
-  at-start tag t {s} e k h =
+  at-start tag t {s} {r} e k h =
+      let is : r ≡ step (start tag) (bucketAt image t) = k ∙ ap (λ z. step z (bucketAt image t)) e in
       record {
-        heard = record { listener = s; is = k; inside = h; few = omega arith };
+        heard = record { tag = tag; given = []; is = is; inside = h };
         got = [];
         counted = refl;
-        rest = ap (λ z. run image count 200000 t z []) (sym e) ∙ hears 200000 t s [] (omega arith) k;
+        rest = run-on image count tag [] t [] ∙ ap (λ z. runOn image count (record { x = t; step = z }) []) (sym is);
         few = omega arith;
       }
 
   -- the rest of a run, at the bucket heard that it starts from
   unfoldable pub at-heard : {h : Heard} → WasHeard image count h → SoFar image count (runOn image count h []) h 0
-  at-heard w = record { heard = w; got = []; counted = refl; rest = refl; few = omega (arith, w .few) }
+  at-heard w = record { heard = w; got = []; counted = refl; rest = refl; few = omega arith }
+
+-- how far a run is from its end at a bucket heard: the listener's counts grow up to the buckets of two cycles, and then it ends
+unfoldable pub toGo : Heard → ℕ
+toGo h = 2 * (2 * bucketsMost - h .step .listener .elapsed) + pick (isEnded (h .step .listener .phase)) 0 1
+
+-- a step that ends a run is one fewer to go, and one that goes on two
+fewer :
+    {p : ℕ} {s : Listener} {r : Stepped} → Leaves p s r → isEnded (s .phase) ≡ false → s .elapsed < 2 * bucketsMost →
+    2 * (2 * bucketsMost - r .listener .elapsed) + pick (isEnded (r .listener .phase)) 0 1 <
+    2 * (2 * bucketsMost - s .elapsed) + pick (isEnded (s .phase)) 0 1
+fewer {s = s} {r = r} (goes-on g) o m =
+    rw (o, open-awake (r .listener .phase) (g .awaits .awake-is)) (omega (arith, g .further))
+fewer {s = s} {r = r} (stops e) o m = rw (o, e .over-is) (omega (arith, e .no-less))
 
 module _ {image : List ℕ} {count : ℕ} {goal : Finish} {h : Heard} {lines : ℕ} (f : SoFar image count goal h lines) where
   -- the lines got with this bucket
@@ -64,61 +79,92 @@ module _ {image : List ℕ} {count : ℕ} {goal : Finish} {h : Heard} {lines : �
   unfolding gotWith
   counted-with =
       length-append (f .got) (named (bucketAt image (h .x)) (h .step)) ∙
-      rw (f .counted, f .heard .is, length-named (f .heard .listener) (bucketAt image (h .x)))
+      rw (f .counted, f .heard .is, length-named (listenerAt (f .heard)) (bucketAt image (h .x)))
 
-  pub named-few : h .step .first + h .step .count ≤ 8
-  named-few = rw (f .heard .is) (few-named (f .heard .listener) (bucketAt image (h .x)))
+  pub named-few : h .step .first + h .step .count ≤ bucketLinesMost
+  named-few = rw (f .heard .is) (few-named (listenerAt (f .heard)) (bucketAt image (h .x)))
 
-  pub lines-few : lines + h .step .count ≤ 1600008
-  lines-few = omega (arith, named-few, f .few)
+  pub lines-few : lines + h .step .count ≤ 1600000
+  lines-few = omega (arith, named-few, f .few, counts-limited (f .heard .tag) (f .heard .given) .elapsed)
 
-  pub after :
+  pub after-step :
       {a : Answer} → h .step .answer ≡ a →
-      goal ≡ afterAnswer (run image count (h .left)) count (h .x) gotWith (h .step .listener) a
+      goal ≡ afterAnswer (run image count runBudget) count (h .x) gotWith (h .step .listener) a
   unfolding gotWith runOn
-  after k = f .rest ∙ ap (afterAnswer (run image count (h .left)) count (h .x) gotWith (h .step .listener)) k
+  after-step k = f .rest ∙ ap (afterAnswer (run image count runBudget) count (h .x) gotWith (h .step .listener)) k
 
-  pub doze-few : {d : ℕ} → h .step .answer ≡ Doze d → d ≤ 99999
+  pub doze-few : {d : ℕ} → h .step .answer ≡ Doze d → d ≤ bucketsMost
   doze-few k =
-      doze-near (f .heard .listener) (bucketAt image (h .x)) (ap (λ z. z .answer) (sym (f .heard .is)) ∙ k)
+      doze-near (listenerAt (f .heard)) (bucketAt image (h .x)) (ap (λ z. z .answer) (sym (f .heard .is)) ∙ k)
+
+  -- ---- after a doze
+
+  -- the bytes given up to this bucket
+  unfoldable pub givenWith : List (List ℕ)
+  givenWith = f .heard .given ++ bucketAt image (h .x) ∷ []
+
+  pub next-listener : h .step .listener ≡ after (start (f .heard .tag)) givenWith
+  unfolding givenWith
+  next-listener =
+      ap (λ z. z .listener) (f .heard .is) ∙
+      sym (after-one-more (start (f .heard .tag)) (f .heard .given) (bucketAt image (h .x)))
+
+  pub went-on :
+      {d : ℕ} → h .step .answer ≡ Doze d →
+      GoesOn (tunedIn (f .heard .given) (bucketAt image (h .x))) (listenerAt (f .heard)) (h .step)
+  went-on k =
+      dozed-on
+      (subst (Leaves (tunedIn (f .heard .given) (bucketAt image (h .x))) (listenerAt (f .heard))) (sym (f .heard .is))
+      (leaves (f .heard .tag) (f .heard .given) (bucketAt image (h .x))))
+      k
 
   unfoldable pub onward :
-      (d : ℕ) → h .step .answer ≡ Doze d → 0 < h .left →
-      SoFar image count goal (heardNext image count h d) (lines + h .step .count)
+      (d : ℕ) → h .step .answer ≡ Doze d → SoFar image count goal (heardNext image count h d) (lines + h .step .count)
   unfolding heardNext
-  onward d k more =
+  onward d k =
+      let x : ℕ = (h .x + d) % count in
+      let tag = f .heard .tag in
+      let bytes = bucketAt image x in
       record {
         heard =
             record {
-              listener = h .step .listener;
-              is = refl;
+              tag = tag;
+              given = givenWith;
+              is = ap (λ z. step z bytes) next-listener;
               inside = mod-lt (h .x + d) {m = count} (omega (arith, f .heard .inside));
-              few = omega (arith, f .heard .few);
             };
         got = gotWith;
         counted = counted-with;
-        rest = after k ∙ hears image count (h .left) ((h .x + d) % count) (h .step .listener) gotWith more refl;
-        few = omega (arith, f .few, named-few, more);
+        rest =
+            after-step k ∙
+            (ap (λ z. run image count runBudget x z gotWith) next-listener ∙
+            (run-on image count tag givenWith x gotWith ∙
+            ap (λ z. runOn image count (record { x = x; step = step z bytes }) gotWith) (sym next-listener)));
+        few = omega (arith, f .few, named-few, went-on k .further, ap (λ z. z .elapsed) next-listener);
       }
 
-  pub fewer-left : (d : ℕ) {h′ : Heard} → 0 < h .left → h′ ≡ heardNext image count h d → h′ .left < h .left
-  unfolding heardNext
-  fewer-left d more next = omega (arith, ap (λ z. z .left) next)
+  pub fewer-to-go : (d : ℕ) {h′ : Heard} → h .step .answer ≡ Doze d → h′ ≡ heardNext image count h d → toGo h′ < toGo h
+  unfolding heardNext toGo
+  fewer-to-go d k next =
+      let g = went-on k in
+      let s = h .step .listener in
+      let bytes = bucketAt image ((h .x + d) % count) in
+      rw next
+      (fewer
+      (subst (λ z. Leaves (tunedIn givenWith bytes) z (step z bytes)) (sym next-listener)
+      (leaves (f .heard .tag) givenWith bytes))
+      (open-awake (s .phase) (g .awaits .awake-is))
+      (omega (arith, midway-short s (g .awaits), g .awaits .dozed)))
 
-  pub run-out : {d : ℕ} → h .step .answer ≡ Doze d → h .left ≡ 0 → goal ≡ refused 10 ((h .x + d) % count)
-  run-out {d} k e = after k ∙ ap (λ left. run image count left ((h .x + d) % count) (h .step .listener) gotWith) e
-
--- a run that has got no lines yet
-module _ {image : List ℕ} {count : ℕ} {goal : Finish} {h : Heard} (f : SoFar image count goal h 0) where
-  pub none-onward :
-      (d : ℕ) {h′ : Heard} → h .step .answer ≡ Doze d → 0 < h .left → h .step .count ≡ 0 →
-      h′ ≡ heardNext image count h d → SoFar image count goal h′ 0
-  none-onward d k more e next =
-      let none : 0 + h .step .count ≡ 0 = omega arith in
-      rw next (subst (SoFar image count goal (heardNext image count h d)) none (onward f d k more))
-
-  pub sought : WasHeard image count h × (goal ≡ runOn image count h [])
-  sought = (f .heard, f .rest ∙ ap (runOn image count h) (nil-of (f .got) (f .counted)))
+-- a run that has got no lines yet can be written from here
+pub begins :
+    {image : List ℕ} {count : ℕ} {goal : Finish} {h : Heard} {lines : ℕ} → SoFar image count goal h lines → lines ≡ 0 →
+    Begins image count goal h
+begins {image} {count} {goal} {h} f none =
+    record {
+      heard = f .heard;
+      all = f .rest ∙ ap (runOn image count h) (nil-of (f .got) (f .counted ∙ none));
+    }
 
 -- ---- the lines got only grow
 

@@ -6,6 +6,7 @@ use mathlib.Core.Logic.{⊎-elim}
 use Prim.Native.Nat.{ℕ, suc, _+_, _-_, _≤_, _<_, max}
 use mathlib.Core.Bool.{Bool, true, false}
 use mathlib.Core.List.{List, _++_, map}
+use native.Mathlib.Nat.{zero-add}
 use native.Mathlib.Omega.{arith}
 use lib.Dec.{ltb}
 use lib.ListN.{length}
@@ -14,31 +15,38 @@ use Rattle.columns.specs.Lists.{any, span}
 use Rattle.buckets.specs.Bucket.{Entry}
 use Rattle.cycle.specs.Tree.{Plan, above}
 use Rattle.cycle.specs.Layouts.{Slot, slots}
-use Rattle.cycle.specs.Cycle.{occurs, toNext, isData, hasPairs, laterPair, entries, cycleSize}
+use Rattle.cycle.specs.Cycle.{distanceTo, occurs, toNext, isData, hasPairs, laterPair, entries, cycleSize}
 use Rattle.cycle.specs.Held.{lastOf, cycleBucket}
 use Rattle.cycle.proofs.Sequence.{IndexKeeps, Comes, placeAbove}
 use Rattle.cycle.proofs.Ranges.{le-or-lt}
 use Rattle.cycle.proofs.TreeLaws.{above-mono}
 use Rattle.cycle.proofs.DataTags.{Laid}
+use Rattle.cycle.proofs.Pieces.{occurs-slot}
 use Rattle.cycle.proofs.Distances.{First, first-or-none}
 use Rattle.cycle.proofs.Occurring.{root-above}
 use Rattle.listener.specs.Listener.{dozes, choice, laterChoice, tagBelow}
+use Rattle.listener.specs.EndPlace.{target, lastHeard, position, rootFrom, endFrom}
 use Rattle.listener.specs.declared.Phase.{Phase}
 use Rattle.listener.specs.declared.Phase.the-variants.{Index}
-use Rattle.listener.proofs.Target.{target, target-le, pair-test, over-pair}
+use Rattle.listener.proofs.Target.{target-le, pair-test, over-pair}
 use Rattle.listener.proofs.Places.{distance-within}
 use Rattle.listener.proofs.Walk.{linesAt}
-use Rattle.listener.proofs.Ways.{Spot, here, sentTo, here-below, further, hop-within, hop-round}
-use Rattle.listener.proofs.Arrival.{runs, Leads}
+use Rattle.listener.proofs.Ways.{Spot, here, sentTo, here-below, further, further-here, hop-within, hop-round, walk-as}
+use Rattle.listener.proofs.Arrival.{runs, EndsAt, Leads}
 use Rattle.listener.proofs.IndexTells.{later-first, Below, first-quiet, first-fires, pairs-first, pairs-later, index-heard, index-choice}
 use Rattle.listener.proofs.Descent.{above-of, above-width, Is, named, comes-at, index-keeps, landing, landing-is, landing-sent, descends-from}
-use Rattle.listener.proofs.Roots.{rest-length, root, root-here, root-is, sent-le, root-occurs, to-root, from-root, over-root}
+use Rattle.listener.proofs.Roots.{rest-length, sent-le, root-occurs, to-root, from-root, over-root, over-start}
+use Rattle.listener.proofs.EndCases.{end-unsent, end-sent, end-over, root-at, root-on}
 
--- a walk of a number of steps up to a bound
-pub record Within (t : Plan) (tag b x : ℕ) (ph : Phase) (bound : ℕ) : Type 0 where
+-- a walk of a number of steps up to a bound, to place z
+pub record Within (t : Plan) (tag b x : ℕ) (ph : Phase) (bound z : ℕ) : Type 0 where
   pub steps : ℕ
   pub most : steps ≤ bound
-  pub walk : Leads t tag b x ph steps
+  pub walk : EndsAt t tag b x ph steps z
+
+-- the same from the start of a segment in tune-in's cycle
+abbrev pub FromStart : (t : Plan) → ℕ → Spot t → ℕ → Type 0
+FromStart t tag s z = Within t tag 0 (here s) Index (1 + t .k + max 1 (runs t tag)) z
 
 pub further-level :
     {t : Plan} (s : Spot t) {f : Slot → Bool} (r : First f (s .rest)) {i : ℕ} → r .hit .level ≡ i →
@@ -48,7 +56,9 @@ further-level s r e = e
 
 module _ (t : Plan) (a : Laid t) (tag : ℕ) (s : Spot t) (n : isData t (s .slot) ≡ false) (p : hasPairs t (s .slot) ≡ true) where
   -- the target was sent: round to the next cycle
-  pub goes-round : target t tag < sentTo s → Leads t tag 0 (here s) Index (suc (t .k + max 1 (runs t tag)))
+  pub goes-round :
+      target t tag < sentTo s →
+      EndsAt t tag 0 (here s) Index (suc (t .k + max 1 (runs t tag))) (cycleSize t + position t (lastHeard t tag))
   unfolding linesAt
   goes-round sent =
       let b : here s < cycleSize t = here-below s in
@@ -144,7 +154,7 @@ module _ (t : Plan) (a : Laid t) (tag : ℕ) (s : Spot t) (n : isData t (s .slot
         (l .place-is ∙ ap (λ z. placeAbove t z q) (sym (l .level-is)))))
 
     -- the target is unsent
-    pub seeks : Within t tag 0 (here s) Index (1 + t .k + max 1 (runs t tag))
+    pub seeks : FromStart t tag s (0 + position t (lastHeard t tag))
     seeks = ⊎-elim turns stays (later-first tag (laterPair t (s .rest ++ slots t) (s .slot)) es 2 (s .slot .level + 1 - 2))
       where
         q : ℕ
@@ -156,7 +166,9 @@ module _ (t : Plan) (a : Laid t) (tag : ℕ) (s : Spot t) (n : isData t (s .slot
         es : List Entry
         es = entries t (s .rest ++ slots t) (s .slot)
 
-        turns : Below tag (laterPair t (s .rest ++ slots t) (s .slot)) es 2 (i + 1 - 2) → Within t tag 0 (here s) Index (1 + t .k + max 1 (runs t tag))
+        turns :
+            Below tag (laterPair t (s .rest ++ slots t) (s .slot)) es 2 (i + 1 - 2) →
+            FromStart t tag s (0 + position t (lastHeard t tag))
         turns r =
             let h : ℕ = r .pair - 1 in
             let e : r .pair ≡ h + 1 = omega (arith, r .low) in
@@ -177,7 +189,7 @@ module _ (t : Plan) (a : Laid t) (tag : ℕ) (s : Spot t) (n : isData t (s .slot
 
         stays :
             ((j : ℕ) → 2 ≤ j → j < 2 + (i + 1 - 2) → tagBelow (laterPair t (s .rest ++ slots t) (s .slot) j .tag) tag ≡ false) →
-            Within t tag 0 (here s) Index (1 + t .k + max 1 (runs t tag))
+            FromStart t tag s (0 + position t (lastHeard t tag))
         stays none-below =
             record {
               steps = t .k + 1 - i + max 1 (runs t tag);
@@ -190,31 +202,34 @@ module _ (t : Plan) (a : Laid t) (tag : ℕ) (s : Spot t) (n : isData t (s .slot
   -- pair 2 is followed: to a root, of this cycle or the next
   pub follows-root :
       target t tag ≡ t .d → choice Index tag (cycleBucket t (here s)) ≡ dozes (toNext (s .rest ++ slots t) 1 0) Index 0 0 →
-      Leads t tag 0 (here s) Index 2
+      EndsAt t tag 0 (here s) Index 2 (here s + toNext (s .rest ++ slots t) 1 0)
   unfolding toNext linesAt
   follows-root e c = ⊎-elim within round (first-or-none (occurs 1 0) (s .rest))
     where
-      within : First (occurs 1 0) (s .rest) → Leads t tag 0 (here s) Index 2
+      d : ℕ
+      d = distanceTo (occurs 1 0) (s .rest ++ slots t)
+
+      within : First (occurs 1 0) (s .rest) → EndsAt t tag 0 (here s) Index 2 (here s + d)
       within f =
           let l : Is 1 0 (f .hit) = named 1 0 (f .hit) (f .is) in
-          hop-within s (f .skipped) (f .hit) (f .behind) (f .splits) tag 0 0 0 (omega arith)
-          (index-heard t a s n Index (λ ps es. refl))
-          (c ∙
-          ap (λ z. dozes z Index 0 0)
-          (distance-within (occurs 1 0) (s .rest) (f .skipped) (f .hit) (f .behind) (slots t) (f .splits) (f .fresh) (f .is)))
-          refl
-          (over-root t a tag e 0 (omega arith) (further s (f .skipped) (f .hit) (f .behind) (f .splits)) (further-level s f (l .level-is)))
+          let far : d ≡ suc (length (f .skipped)) =
+          distance-within (occurs 1 0) (s .rest) (f .skipped) (f .hit) (f .behind) (slots t) (f .splits) (f .fresh) (f .is) in
+          walk-as refl (omega (arith, further-here s (f .skipped) (f .hit) (f .behind) (f .splits), far)) refl
+          (hop-within s (f .skipped) (f .hit) (f .behind) (f .splits) tag 0 0 0 (omega arith)
+          (index-heard t a s n Index (λ ps es. refl)) (c ∙ ap (λ z. dozes z Index 0 0) far) refl
+          (over-root t a tag e 0 (omega arith) (further s (f .skipped) (f .hit) (f .behind) (f .splits))
+          (further-level s f (l .level-is))))
 
-      round : any (occurs 1 0) (s .rest) ≡ false → Leads t tag 0 (here s) Index 2
+      round : any (occurs 1 0) (s .rest) ≡ false → EndsAt t tag 0 (here s) Index 2 (here s + d)
       round none-left =
-          hop-round s tag (suc (length (s .rest))) 0 0 (index-heard t a s n Index (λ ps es. refl))
-          (c ∙ ap (λ z. dozes z Index 0 0) (to-root t a (occurs 1 0) (s .rest) none-left root-occurs))
-          refl (rest-length s)
-          (subst (λ x. Leads t tag (cycleSize t) x Index 1) (root-here t a)
-          (over-root t a tag e (cycleSize t) (omega arith) (root t a) (root-is t a .level-is)))
+          let far : d ≡ suc (length (s .rest)) = to-root t a (occurs 1 0) (s .rest) none-left root-occurs in
+          walk-as refl (omega (arith, rest-length s, far)) refl
+          (hop-round s tag (suc (length (s .rest))) 0 0 (index-heard t a s n Index (λ ps es. refl))
+          (c ∙ ap (λ z. dozes z Index 0 0) far) refl (rest-length s)
+          (over-start t a tag e (cycleSize t) (omega arith)))
 
   -- a tag above the whole list
-  pub over : target t tag ≡ t .d → Within t tag 0 (here s) Index (1 + t .k + max 1 (runs t tag))
+  pub over : target t tag ≡ t .d → FromStart t tag s (rootFrom t (here s))
   unfolding laterPair
   over e = ⊎-elim at-root below-root (le-or-lt i 1)
     where
@@ -237,20 +252,39 @@ module _ (t : Plan) (a : Laid t) (tag : ℕ) (s : Spot t) (n : isData t (s .slot
           later-choice (rw e (sent-le t a s)) ∙
           rw (more, over-pair t a tag 2 (above (t .n) (i - 2) (s .slot .place)) e (some-data l) (omega (arith, k .high)), k .rooted)
 
-      at-root : i ≤ 1 → Within t tag 0 (here s) Index (1 + t .k + max 1 (runs t tag))
-      at-root l = record { steps = 1; most = omega arith; walk = over-root t a tag e 0 (omega arith) s (omega (arith, k .low)) }
+      at-root : i ≤ 1 → FromStart t tag s (rootFrom t (here s))
+      at-root l =
+          let one : i ≡ 1 = omega (arith, k .low) in
+          let none-above : i - 1 ≡ 0 = omega arith in
+          let first : s .slot .place ≡ 0 = sym (ap (λ z. above (t .n) z (s .slot .place)) none-above) ∙ k .rooted in
+          record {
+            steps = 1;
+            most = omega arith;
+            walk =
+                walk-as refl (omega (arith, root-at t a s (occurs-slot 1 0 (s .slot) one first))) refl
+                (over-root t a tag e 0 (omega arith) s one);
+          }
 
-      below-root : 1 < i → Within t tag 0 (here s) Index (1 + t .k + max 1 (runs t tag))
-      below-root l = record { steps = 2; most = omega (arith, a .sound .levelled); walk = follows-root e (pair-two l) }
+      below-root : 1 < i → FromStart t tag s (rootFrom t (here s))
+      below-root l =
+          record {
+            steps = 2;
+            most = omega (arith, a .sound .levelled);
+            walk = walk-as refl (sym (root-on t a s l)) refl (follows-root e (pair-two l));
+          }
 
-  pub from-start : Within t tag 0 (here s) Index (1 + t .k + max 1 (runs t tag))
+  pub from-start : FromStart t tag s (endFrom t tag (here s))
   from-start =
       ⊎-elim
       (λ (unsent : sentTo s ≤ target t tag).
       ⊎-elim
-      (λ (h : t .d ≤ target t tag). over (omega (arith, target-le t tag)))
-      (λ (h : target t tag < t .d). seeks h unsent)
+      (λ (h : t .d ≤ target t tag).
+      let e : target t tag ≡ t .d = omega (arith, target-le t tag) in
+      subst (FromStart t tag s) (sym (end-over t a tag e (here s))) (over e))
+      (λ (h : target t tag < t .d).
+      subst (FromStart t tag s) (zero-add (position t (lastHeard t tag)) ∙ sym (end-unsent t a tag s h unsent)) (seeks h unsent))
       (le-or-lt (t .d) (target t tag)))
       (λ (sent : target t tag < sentTo s).
-      record { steps = suc (t .k + max 1 (runs t tag)); most = omega arith; walk = goes-round sent })
+      subst (FromStart t tag s) (sym (end-sent t a tag s (omega (arith, sent-le t a s)) sent))
+      (record { steps = suc (t .k + max 1 (runs t tag)); most = omega arith; walk = goes-round sent }))
       (le-or-lt (sentTo s) (target t tag))

@@ -13,7 +13,7 @@ use Rattle.buckets.specs.declared.Line.{Line}
 use Rattle.buckets.specs.declared.Head.{Head}
 use Rattle.buckets.specs.Bucket.{Body, dataBody, cycleLength}
 use Rattle.buckets.specs.Held.{bucketWith}
-use Rattle.listener.specs.Listener.{before, matching, lastIs, dataChoice, Choice, dozes, finds, misses, choice, awaited, letterAwaited, placeAwaited, decided, take, pastNextCycle, dozing, tunedWith}
+use Rattle.listener.specs.Listener.{before, matching, lastIs, dataChoice, Choice, dozes, finds, misses, choice, awaited, letterAwaited, placeAwaited, decided, heed, passedWith, pastNextCycle, dozing}
 use Rattle.listener.specs.OnReading.{tagged, taggedLines}
 use Rattle.listener.specs.declared.Phase.{Phase}
 use Rattle.listener.specs.declared.Phase.the-variants.{TuneIn, Index, Either, Data, Ended}
@@ -66,17 +66,8 @@ module _ (s : Listener) (h : Head) where
   -- what is decided hangs on a bucket's head alone
   pub decided-by-head :
       (x y : Body) (c : Choice) → decided s (bucketWith h x) c ≡ decided s (bucketWith h y) c
-  unfolding bucketWith pastNextCycle dozing cycleLength
-  decided-by-head x y (dozes d p i k) =
-      let e : tunedWith (s .phase) s (bucketWith h x) ≡ tunedWith (s .phase) s (bucketWith h y) = tuned (s .phase) in
-      rw e
-    where
-      tuned : (p : Phase) → tunedWith p s (bucketWith h x) ≡ tunedWith p s (bucketWith h y)
-      tuned TuneIn = refl
-      tuned Index = refl
-      tuned Either = refl
-      tuned Data = refl
-      tuned Ended = refl
+  unfolding bucketWith passedWith pastNextCycle dozing cycleLength
+  decided-by-head x y (dozes d p i k) = refl
   decided-by-head x y (finds i k) = refl
   decided-by-head x y misses = refl
 
@@ -105,9 +96,9 @@ module _ (s : Listener) (h : Head) where
     choice-bare Data = data-bare (s .tag) f ls
     choice-bare Ended = refl
 
-    pub take-bare : take s (bucketWith h (dataBody f (bare ls))) ≡ take s (bucketWith h (dataBody f ls))
-    unfolding take
-    take-bare =
+    pub heed-bare : heed s (bucketWith h (dataBody f (bare ls))) ≡ heed s (bucketWith h (dataBody f ls))
+    unfolding heed
+    heed-bare =
         rw (
           awaited-bare,
           choice-bare (s .phase),

@@ -8,18 +8,16 @@ use mathlib.Core.Bool.{true, false}
 use native.Mathlib.Omega.{arith}
 use lib.Dec.{leb, ltb}
 use borrow.Author.Tests.{leb-true, leb-false, le-leb, lt-leb, lt-ltb, le-ltb}
-use Rattle.columns.specs.Lists.{lastOr, range, least}
+use Rattle.columns.specs.Lists.{lastOr, range}
 use Rattle.cycle.specs.Tree.{Plan, width, dataUnder, lastTag, largestTag}
 use Rattle.cycle.proofs.Sequence.{placeAbove}
 use Rattle.cycle.proofs.Ranges.{le-or-lt, last-range, range-empty}
 use Rattle.cycle.proofs.TreeLaws.{dataUnder-range}
 use Rattle.cycle.proofs.Least.{least-to, least-fails, least-passes}
 use Rattle.cycle.proofs.DataTags.{Laid, last-mono, Lowest, lowest}
+use Rattle.listener.specs.EndPlace.{target}
 
 -- ---- the target
-
-unfoldable pub target : Plan → ℕ → ℕ
-target t tag = least (t .d) 0 (λ q. leb tag (lastTag t q))
 
 pub target-le : (t : Plan) (tag : ℕ) → target t tag ≤ t .d
 unfolding target

@@ -18,35 +18,45 @@ use Rattle.cycle.proofs.DataTags.{Laid}
 use Rattle.cycle.proofs.BucketAt.{Place, place-of}
 use Rattle.cycle.proofs.Distances.{First, first-or-none}
 use Rattle.listener.specs.Listener.{dozes}
+use Rattle.listener.specs.EndPlace.{target, endFrom, endPlace}
 use Rattle.listener.specs.declared.Phase.the-variants.{TuneIn, Index}
-use Rattle.listener.proofs.Target.{target, target-le}
-use Rattle.listener.proofs.Places.{distance-within}
+use Rattle.listener.proofs.Target.{target-le}
 use Rattle.listener.proofs.Walk.{linesAt}
-use Rattle.listener.proofs.Ways.{Spot, here, further, hop-within, hop-round, bucket-here}
-use Rattle.listener.proofs.Arrival.{runs, Leads}
+use Rattle.listener.proofs.Ways.{Spot, here, spot-of, spot-here, further, hop-within, hop-round, walk-as, bucket-here}
+use Rattle.listener.proofs.Arrival.{runs}
 use Rattle.listener.proofs.Descent.{index-keeps}
-use Rattle.listener.proofs.Roots.{rest-length, root, root-here, root-is, to-root, from-root, over-root}
-use Rattle.listener.proofs.SegmentStart.{Within, from-start}
+use Rattle.listener.proofs.Roots.{rest-length, from-root, over-start}
+use Rattle.listener.proofs.EndCases.{end-coming, end-over, end-behind, to-start, behind-within, to-coming, behind-round, root-coming}
+use Rattle.listener.proofs.SegmentStart.{Within, FromStart, from-start}
+
+-- a walk from tune-in bucket u to where it ends
+abbrev pub FromTuneIn : Plan → ℕ → ℕ → Type 0
+FromTuneIn t tag u = Within t tag 0 u TuneIn (2 + t .k + max 1 (runs t tag)) (endPlace t tag u)
 
 module _ (t : Plan) (a : Laid t) (tag : ℕ) where
   pub to-segment : (s : Spot t) → cycleBucket t (here s) .toSegment ≡ toNextSegment (s .rest ++ slots t)
   unfolding bucketOf
   to-segment s = ap (λ b. b .toSegment) (bucket-here t (a .keeps) s)
 
-  -- the first bucket of a cycle
-  pub at-cycle-start : (b : ℕ) → b ≤ cycleSize t → Within t tag b 0 Index (1 + t .k + max 1 (runs t tag))
-  at-cycle-start b hb =
+  -- the first bucket of the coming cycle
+  pub at-coming-start : Within t tag (cycleSize t) 0 Index (1 + t .k + max 1 (runs t tag)) (endFrom t tag (cycleSize t))
+  at-coming-start =
       ⊎-elim
       (λ (h : t .d ≤ target t tag).
+      let e : target t tag ≡ t .d = omega (arith, target-le t tag) in
       record {
         steps = 1;
         most = omega arith;
         walk =
-            subst (λ x. Leads t tag b x Index 1) (root-here t a)
-            (over-root t a tag (omega (arith, target-le t tag)) b hb (root t a) (root-is t a .level-is));
+            walk-as refl (omega (arith, end-over t a tag e (cycleSize t), root-coming t a)) refl
+            (over-start t a tag e (cycleSize t) (omega arith));
       })
       (λ (h : target t tag < t .d).
-      record { steps = t .k + max 1 (runs t tag); most = omega arith; walk = from-root t a tag h b hb })
+      record {
+        steps = t .k + max 1 (runs t tag);
+        most = omega arith;
+        walk = walk-as refl (sym (end-coming t a tag h)) refl (from-root t a tag h (cycleSize t) (omega arith));
+      })
       (le-or-lt (t .d) (target t tag))
 
   module _ (s : Spot t) (f : First (λ x. x .starts) (s .rest)) where
@@ -81,42 +91,36 @@ module _ (t : Plan) (a : Laid t) (tag : ℕ) where
         by false e = absurd (behind-some (s .before) (s .slot) (f .skipped) (k .opens (f .is) e .0))
 
   -- from a tune-in bucket
-  pub tunes-in : (s : Spot t) → Within t tag 0 (here s) TuneIn (2 + t .k + max 1 (runs t tag))
-  unfolding next toNextSegment linesAt
+  pub tunes-in : (s : Spot t) → FromTuneIn t tag (here s)
+  unfolding next linesAt
   tunes-in s = ⊎-elim within round (first-or-none (λ x. x .starts) (s .rest))
     where
-      within : First (λ x. x .starts) (s .rest) → Within t tag 0 (here s) TuneIn (2 + t .k + max 1 (runs t tag))
+      within : First (λ x. x .starts) (s .rest) → FromTuneIn t tag (here s)
       within f =
-          let w : Within t tag 0 (here (next s f)) Index (1 + t .k + max 1 (runs t tag)) =
+          let w : FromStart t tag (next s f) (endFrom t tag (here (next s f))) =
           from-start t a tag (next s f) (next-index s f) (next-pairs s f) in
           record {
             steps = suc (w .steps);
             most = omega (arith, w .most);
             walk =
-                hop-within s (f .skipped) (f .hit) (f .behind) (f .splits) tag 0 0 0 (omega arith) refl
-                (ap (λ z. dozes z Index 0 0)
-                (to-segment s ∙
-                distance-within (λ x. x .starts) (s .rest) (f .skipped) (f .hit) (f .behind) (slots t) (f .splits) (f .fresh) (f .is)))
-                refl
-                (w .walk);
+                walk-as refl (end-behind t a tag (here s) (here (next s f)) (behind-within t a s f)) refl
+                (hop-within s (f .skipped) (f .hit) (f .behind) (f .splits) tag 0 0 0 (omega arith) refl
+                (ap (λ z. dozes z Index 0 0) (to-segment s ∙ to-start t a s f)) refl (w .walk));
           }
 
-      round : any (λ x. x .starts) (s .rest) ≡ false → Within t tag 0 (here s) TuneIn (2 + t .k + max 1 (runs t tag))
+      round : any (λ x. x .starts) (s .rest) ≡ false → FromTuneIn t tag (here s)
       round none-left =
-          let w : Within t tag (cycleSize t) 0 Index (1 + t .k + max 1 (runs t tag)) = at-cycle-start (cycleSize t) (omega arith) in
           record {
-            steps = suc (w .steps);
-            most = omega (arith, w .most);
+            steps = suc (at-coming-start .steps);
+            most = omega (arith, at-coming-start .most);
             walk =
-                hop-round s tag (suc (length (s .rest))) 0 0 refl
-                (ap (λ z. dozes z Index 0 0) (to-segment s ∙ to-root t a (λ x. x .starts) (s .rest) none-left refl))
-                refl (rest-length s) (w .walk);
+                walk-as refl (end-behind t a tag (here s) (cycleSize t) (behind-round t a s none-left)) refl
+                (hop-round s tag (suc (length (s .rest))) 0 0 refl
+                (ap (λ z. dozes z Index 0 0) (to-segment s ∙ to-coming t a s none-left)) refl (rest-length s)
+                (at-coming-start .walk));
           }
 
   -- at any place
-  pub tunes-in-at : (u : ℕ) → u < cycleSize t → Within t tag 0 u TuneIn (2 + t .k + max 1 (runs t tag))
-  unfolding here
+  pub tunes-in-at : (u : ℕ) → u < cycleSize t → FromTuneIn t tag u
   tunes-in-at u h =
-      let p : Place t u = place-of t u h in
-      subst (λ x. Within t tag 0 x TuneIn (2 + t .k + max 1 (runs t tag))) (p .is)
-      (tunes-in (record { before = p .before; slot = p .slot; rest = p .rest; splits = p .splits }))
+      let p : Place t u = place-of t u h in subst (FromTuneIn t tag) (spot-here p) (tunes-in (spot-of p))

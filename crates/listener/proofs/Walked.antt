@@ -9,7 +9,8 @@ use native.Mathlib.Omega.{arith}
 use Rattle.buckets.specs.declared.Line.{Line}
 use Rattle.buckets.specs.Bucket.{Bucket, cycleLength, readBucket}
 use Rattle.listener.specs.Listener.{Choice, dozes, finds, misses, choice, letterAwaited, ended, stepped, heardWith, elapsedWith, dozing, decided, step, named}
-use Rattle.listener.specs.Hearing.{bucketAt, Taken, at, anywhere, onward, stepsFrom, End, found, absent, endBy, endOf, upTo, untilEnd, dozeOf, isRefused}
+use Rattle.listener.specs.Hearing.{Taken, at, anywhere, onward, stepsFrom, End, found, absent, endBy, endOf, upTo, untilEnd, dozeOf, isRefused}
+use Rattle.cycle.specs.Cycle.{bucketAt}
 use Rattle.listener.specs.Lookup
 use Rattle.listener.specs.Lookup.{Finish, run, afterAnswer}
 use Rattle.listener.specs.declared.Listener.{Listener}
@@ -43,8 +44,8 @@ named-lines bytes b s a first count r = rw r
 
 -- a walk stays in the two cycles
 pub walk-bounds :
-    {n tag : ℕ} {bk : ℕ → Bucket} {b x : ℕ} {ph : Phase} {h : ℕ} {e : End} {got : List Line} →
-    Walk n tag bk b x ph h e got → (b ≤ n) × (x < n) × (1 ≤ h)
+    {n tag : ℕ} {bk : ℕ → Bucket} {b x : ℕ} {ph : Phase} {h : ℕ} {e : End} {z : ℕ} {got : List Line} →
+    Walk n tag bk b x ph h e z got → (b ≤ n) × (x < n) × (1 ≤ h)
 walk-bounds (misses-here hb hx l c) = (hb, hx, omega arith)
 walk-bounds (finds-here f c hb hx l e) = (hb, hx, omega arith)
 walk-bounds (hops d f c hb hx l e w far lands sums hb′ hx′ more) = (hb, hx, omega arith)
@@ -84,19 +85,20 @@ absent-ends =
 
 -- a step that ends the hearing
 pub walked-end :
-    (image : List ℕ) (n u x : ℕ) (strays : ℕ → List ℕ) (s : Listener) (m : ℕ) (e : End) (a : Answer) (first count : ℕ) (b : Bucket) →
+    (image : List ℕ) (n u x : ℕ) (strays : ℕ → List ℕ) (s : Listener) (m : ℕ) (e : End) (z : ℕ) (a : Answer)
+    (first count : ℕ) (b : Bucket) →
     Ends e a → step s (bucketAt image x) ≡ stepped (ended s (heardWith s) (elapsedWith s)) a first count →
-    readBucket (bucketAt image x) ≡ some b → u + (s .elapsed + s .doze) ≤ 2 * n →
-    Walked image n u x s (suc m) 1 e (linesAt b first count) (stepsFrom image n strays s (at x) (suc m))
+    readBucket (bucketAt image x) ≡ some b → u + (s .elapsed + s .doze) ≡ z + 1 → z < 2 * n →
+    Walked image n u x s (suc m) 1 e z (linesAt b first count) (stepsFrom image n strays s (at x) (suc m))
 unfolding stepped ended
-walked-end image n u x strays s m e a first count b ends is reads bound =
-    subst (λ r. Walked image n u x s (suc m) 1 e (linesAt b first count) (stepThen image n strays x m r)) (sym is)
-    (walked-last image n u x s m e (linesAt b first count) y
+walked-end image n u x strays s m e z a first count b ends is reads place bound =
+    subst (λ r. Walked image n u x s (suc m) 1 e z (linesAt b first count) (stepThen image n strays x m r)) (sym is)
+    (walked-last image n u x s m e z (linesAt b first count) y
     (stepsFrom image n strays last (onward n (at x) a) m)
     (ends .until y (untilEnd (stepsFrom image n strays last (onward n (at x) a) m)))
     (ends .end (endOf (stepsFrom image n strays last (onward n (at x) a) m)))
     (ends .fine) (ends .no-doze)
-    (rw (ends .away n x) (stays image n strays last refl m)) refl lines bound
+    (rw (ends .away n x) (stays image n strays last refl m)) refl lines place bound
     (λ budget before. rw (is, lines) (ends .finishes (run image n budget) n x (before ++ linesAt b first count) last)))
   where
     last : Listener
@@ -110,16 +112,16 @@ walked-end image n u x strays s m e a first count b ends is reads bound =
 
 -- a step that dozes
 pub walked-doze :
-    (image : List ℕ) (n u x x′ : ℕ) (strays : ℕ → List ℕ) (s : Listener) (m h d : ℕ) (next : Phase) (e : End) (first count : ℕ)
+    (image : List ℕ) (n u x x′ : ℕ) (strays : ℕ → List ℕ) (s : Listener) (m h d : ℕ) (next : Phase) (e : End) (z first count : ℕ)
     (b : Bucket) (got : List Line) →
     step s (bucketAt image x) ≡ stepped (dozing s b d next) (Doze d) first count →
     readBucket (bucketAt image x) ≡ some b → (x + d) % n ≡ x′ →
-    Walked image n u x′ (dozing s b d next) m h e got (stepsFrom image n strays (dozing s b d next) (at x′) m) →
-    Walked image n u x s (suc m) (suc h) e (linesAt b first count ++ got) (stepsFrom image n strays s (at x) (suc m))
+    Walked image n u x′ (dozing s b d next) m h e z got (stepsFrom image n strays (dozing s b d next) (at x′) m) →
+    Walked image n u x s (suc m) (suc h) e z (linesAt b first count ++ got) (stepsFrom image n strays s (at x) (suc m))
 unfolding stepped dozing heardWith elapsedWith
-walked-doze image n u x x′ strays s m h d next e first count b got is reads lands w =
-    subst (λ r. Walked image n u x s (suc m) (suc h) e (linesAt b first count ++ got) (stepThen image n strays x m r)) (sym is)
-    (walked-hop image n u x x′ s m h d e (linesAt b first count) got y (stepsFrom image n strays then (at ((x + d) % n)) m)
+walked-doze image n u x x′ strays s m h d next e z first count b got is reads lands w =
+    subst (λ r. Walked image n u x s (suc m) (suc h) e z (linesAt b first count ++ got) (stepThen image n strays x m r)) (sym is)
+    (walked-hop image n u x x′ s m h d e z (linesAt b first count) got y (stepsFrom image n strays then (at ((x + d) % n)) m)
     refl refl refl refl lines
     (λ budget before. rw (is, lines, lands))
     (rw lands w))
@@ -143,23 +145,25 @@ module _ (image : List ℕ) (n tag u : ℕ) (bk : ℕ → Bucket) (reads : Reads
 
   -- the hearing along a walk, whatever the number of steps
   pub walked :
-      {b x : ℕ} {ph : Phase} {h : ℕ} {e : End} {got : List Line} → Walk n tag bk b x ph h e got → (s : Listener) →
-      Awaits n tag u bk b x ph s → (m : ℕ) → Walked image n u x s m h e got (stepsFrom image n strays s (at x) m)
+      {b x : ℕ} {ph : Phase} {h : ℕ} {e : End} {z : ℕ} {got : List Line} → Walk n tag bk b x ph h e z got → (s : Listener) →
+      Awaits n tag u bk b x ph s → (m : ℕ) → Walked image n u x s m h e z got (stepsFrom image n strays s (at x) m)
   unfolding linesAt
-  walked {x = x} {h = h} {e = e} {got = got} w s a zero =
-      walked-none image n u x s h e got (walk-bounds w .2) (omega (arith, walk-bounds w .0, walk-bounds w .1))
+  walked {x = x} {h = h} {e = e} {z = z} {got = got} w s a zero =
+      walked-none image n u x s h e z got (walk-bounds w .2) (omega (arith, walk-bounds w .0, walk-bounds w .1))
   walked (misses-here {b} {x} hb hx l c) s a (suc m) =
-      walked-end image n u x strays s m absent Absent 0 0 (bk x) absent-ends (decides s a hb hx l misses c) (reads .read x hx)
-      (omega arith)
+      walked-end image n u x strays s m absent (b + x) Absent 0 0 (bk x) absent-ends (decides s a hb hx l misses c)
+      (reads .read x hx) (a .gone-by) (omega arith)
   walked (finds-here {b} {x} first count hb hx l c) s a (suc m) =
-      walked-end image n u x strays s m found Found first count (bk x) found-ends (decides s a hb hx l (finds first count) c)
-      (reads .read x hx) (omega arith)
-  walked (hops {b} {x} {b′} {x′} {ph} {next} {h} {e} {got} d first count hb hx l c w far lands sums hb′ hx′ more) s a (suc m) =
-      walked-doze image n u x x′ strays s m h d next e first count (bk x) got
+      walked-end image n u x strays s m found (b + x) Found first count (bk x) found-ends
+      (decides s a hb hx l (finds first count) c) (reads .read x hx) (a .gone-by) (omega arith)
+  walked
+      (hops {b} {x} {b′} {x′} {ph} {next} {h} {e} {z} {got} d first count hb hx l c w far lands sums hb′ hx′ more) s a
+      (suc m) =
+      walked-doze image n u x x′ strays s m h d next e z first count (bk x) got
       (decides s a hb hx l (dozes d next first count) c ∙
-      rw (not-past n tag u bk (reads .small) s d a (reads .cycle-is x hx) sums hb′ hx′))
+      rw (not-past n tag u bk (reads .small) s d a (reads .position-is x hx) (reads .cycle-is x hx) sums hb′ hx′))
       (reads .read x hx) lands
       (walked more (dozing s (bk x) d next)
       (dozes-on n tag u bk (reads .small) s d a (reads .position-is x hx) (reads .cycle-is x hx) (reads .position-is x′ hx′)
-      (reads .cycle-is x′ hx′) tuned w far lands sums)
+      (reads .cycle-is x′ hx′) w far lands sums)
       m)

@@ -3,7 +3,7 @@
 -- listener stays as it is.
 -- Assumes nothing.
 use mathlib.Core.Path.{_≡_, refl, sym, _∙_, ap}
-use Prim.Native.Nat.{ℕ, zero, suc, _+_, _*_, _≤_}
+use Prim.Native.Nat.{ℕ, zero, suc, _+_, _*_, _≤_, _<_}
 use mathlib.Core.Bool.{true, false}
 use mathlib.Core.Option.{none, some}
 use mathlib.Core.List.{List, [], _∷_, _++_, append-assoc, append-nil}
@@ -15,7 +15,7 @@ use Rattle.listener.specs.Listener.{ended, stepped, refusedEnded, heardW
 use Rattle.listener.specs.Hearing.{Taken, anywhere, stepsFrom, End, found, absent, endOf, untilEnd, heardIn, dozeOf, dozesFollowed, isRefused, refusedBeforeEnd, linesGot, listenerAfter}
 use Rattle.listener.specs.Lookup
 use Rattle.listener.specs.Lookup.{Finish, run}
-use Rattle.listener.specs.Demand3.{refusedBy}
+use Rattle.listener.specs.Demand3.{refusedBy14}
 use Rattle.listener.specs.declared.Listener.{Listener}
 use Rattle.listener.specs.declared.Phase.the-variants.{Ended}
 use Rattle.listener.specs.declared.Answer.the-variants.{Doze}
@@ -30,8 +30,9 @@ abbrev pub finish : End → Listener → List Line → Finish
 finish found s got = Lookup.found s got
 finish absent s got = Lookup.absent s
 
--- of the hearing from listener s and place x on, if a walk of h steps starts there
-pub record Walked (image : List ℕ) (n u x : ℕ) (s : Listener) (m h : ℕ) (e : End) (got : List Line) (log : List Taken) : Type 0 where
+-- of the hearing from listener s and place x on, if a walk of h steps to place z starts there
+pub record Walked (image : List ℕ) (n u x : ℕ) (s : Listener) (m h : ℕ) (e : End) (z : ℕ) (got : List Line)
+    (log : List Taken) : Type 0 where
   pub heard-most : heardIn log ≤ h
   pub unrefused : refusedBeforeEnd log ≡ false
   pub come : h ≤ m → endOf log ≡ some e
@@ -40,7 +41,8 @@ pub record Walked (image : List ℕ) (n u x : ℕ) (s : Listener) (m h : ℕ) (e
   pub heard-own : listenerAfter s log .heard ≡ s .heard + heardIn log
   pub elapsed-own : listenerAfter s log .elapsed ≡ s .elapsed + goneBy (s .doze) log
   pub in-time : u + (s .elapsed + goneBy (s .doze) log) ≤ 2 * n
-  pub after-end : every (λ x. refusedBy 14 (x .outcome .answer)) (drop (heardIn log) log) ≡ true
+  pub ends-at : (e′ : End) → endOf log ≡ some e′ → u + (s .elapsed + goneBy (s .doze) log) ≡ z + 1
+  pub after-end : every (λ x. refusedBy14 (x .outcome .answer)) (drop (heardIn log) log) ≡ true
   pub unchanged : listenerAfter s log ≡ listenerAfter s (untilEnd log)
   pub runs :
       (e′ : End) → endOf log ≡ some e′ → (budget : ℕ) → h ≤ budget → (before : List Line) →
@@ -48,7 +50,7 @@ pub record Walked (image : List ℕ) (n u x : ℕ) (s : Listener) (m h : ℕ) (e
 
 -- the steps of an ended listener
 pub record Stays (s : Listener) (log : List Taken) : Type 0 where
-  pub refused : every (λ x. refusedBy 14 (x .outcome .answer)) log ≡ true
+  pub refused : every (λ x. refusedBy14 (x .outcome .answer)) log ≡ true
   pub keeps : listenerAfter s log ≡ s
   pub no-lines : linesGot log ≡ []
   pub no-dozes : (x : Taken) → dozeOf (x .outcome .answer) ≡ 0 → dozesFollowed x log ≡ 0
@@ -76,10 +78,10 @@ stays image n strays s e (suc m) =
 
 -- the hearing without a step
 pub walked-none :
-    (image : List ℕ) (n u x : ℕ) (s : Listener) (h : ℕ) (e : End) (got : List Line) → 1 ≤ h → u + s .elapsed ≤ 2 * n →
-    Walked image n u x s 0 h e got []
+    (image : List ℕ) (n u x : ℕ) (s : Listener) (h : ℕ) (e : End) (z : ℕ) (got : List Line) → 1 ≤ h → u + s .elapsed ≤ 2 * n →
+    Walked image n u x s 0 h e z got []
 unfolding heardIn refusedBeforeEnd
-walked-none image n u x s h e got more bound =
+walked-none image n u x s h e z got more bound =
     record {
       heard-most = omega arith;
       unrefused = refl;
@@ -89,6 +91,7 @@ walked-none image n u x s h e got more bound =
       heard-own = omega arith;
       elapsed-own = omega arith;
       in-time = omega arith;
+      ends-at = λ e′ c. absurd (no-end e′ c);
       after-end = refl;
       unchanged = refl;
       runs = λ e′ c. absurd (no-end e′ c);
@@ -99,15 +102,15 @@ walked-none image n u x s h e got more bound =
 
 -- the hearing whose first step, y, is its end
 pub walked-last :
-    (image : List ℕ) (n u x : ℕ) (s : Listener) (m : ℕ) (e : End) (got : List Line) (y : Taken) (rest : List Taken) →
+    (image : List ℕ) (n u x : ℕ) (s : Listener) (m : ℕ) (e : End) (z : ℕ) (got : List Line) (y : Taken) (rest : List Taken) →
     untilEnd (y ∷ rest) ≡ y ∷ [] → endOf (y ∷ rest) ≡ some e → isRefused (y .outcome .answer) ≡ false →
     dozeOf (y .outcome .answer) ≡ 0 → Stays (y .outcome .listener) rest →
     y .outcome .listener ≡ ended s (heardWith s) (elapsedWith s) → named (y .bytes) (y .outcome) ≡ got →
-    u + (s .elapsed + s .doze) ≤ 2 * n →
+    u + (s .elapsed + s .doze) ≡ z + 1 → z < 2 * n →
     ((budget : ℕ) (before : List Line) → run image n (suc budget) x s before ≡ finish e (y .outcome .listener) (before ++ got)) →
-    Walked image n u x s (suc m) 1 e got (y ∷ rest)
+    Walked image n u x s (suc m) 1 e z got (y ∷ rest)
 unfolding heardIn refusedBeforeEnd ended heardWith elapsedWith
-walked-last image n u x s m e got y rest until end fine none-dozed stay is lines bound ran =
+walked-last image n u x s m e z got y rest until end fine none-dozed stay is lines place bound ran =
     let one : heardIn (y ∷ rest) ≡ 1 = rw until in
     let after : listenerAfter s (y ∷ rest) ≡ y .outcome .listener = stay .keeps in
     let gone : goneBy (s .doze) (y ∷ rest) ≡ s .doze + 0 = rw (stay .no-dozes y none-dozed) in
@@ -121,6 +124,7 @@ walked-last image n u x s m e got y rest until end fine none-dozed stay is lines
       heard-own = rw one (ap (λ z. z .heard) (after ∙ is));
       elapsed-own = rw gone (ap (λ z. z .elapsed) (after ∙ is) ∙ omega arith);
       in-time = rw gone (omega arith);
+      ends-at = λ e′ c. rw gone (omega arith);
       after-end = rw one (stay .refused);
       unchanged = rw until after;
       runs = λ e′ c budget h before. at-least budget h before;
@@ -142,15 +146,16 @@ gone-after y (z ∷ rest) d e = rw e
 
 -- the hearing whose first step, y, dozes by d
 pub walked-hop :
-    (image : List ℕ) (n u x x′ : ℕ) (s : Listener) (m h d : ℕ) (e : End) (ls got : List Line) (y : Taken) (rest : List Taken) →
+    (image : List ℕ) (n u x x′ : ℕ) (s : Listener) (m h d : ℕ) (e : End) (z : ℕ) (ls got : List Line)
+    (y : Taken) (rest : List Taken) →
     y .outcome .answer ≡ Doze d → y .outcome .listener .heard ≡ s .heard + 1 →
     y .outcome .listener .elapsed ≡ s .elapsed + s .doze → y .outcome .listener .doze ≡ d →
     named (y .bytes) (y .outcome) ≡ ls →
     ((budget : ℕ) (before : List Line) →
     run image n (suc budget) x s before ≡ run image n budget x′ (y .outcome .listener) (before ++ ls)) →
-    Walked image n u x′ (y .outcome .listener) m h e got rest → Walked image n u x s (suc m) (suc h) e (ls ++ got) (y ∷ rest)
+    Walked image n u x′ (y .outcome .listener) m h e z got rest → Walked image n u x s (suc m) (suc h) e z (ls ++ got) (y ∷ rest)
 unfolding heardIn refusedBeforeEnd
-walked-hop image n u x x′ s m h d e ls got y rest dozed heard elapsed doze lines ran w =
+walked-hop image n u x x′ s m h d e z ls got y rest dozed heard elapsed doze lines ran w =
     let more : heardIn (y ∷ rest) ≡ suc (heardIn rest) = rw dozed in
     let end : endOf (y ∷ rest) ≡ endOf rest = rw dozed in
     let gone : goneBy (s .doze) (y ∷ rest) ≡ s .doze + goneBy (y .outcome .listener .doze) rest =
@@ -166,6 +171,7 @@ walked-hop image n u x x′ s m h d e ls got y rest dozed heard elapsed doze lin
       heard-own = omega arith;
       elapsed-own = omega (arith, w .elapsed-own);
       in-time = omega (arith, w .in-time);
+      ends-at = λ e′ c. omega (arith, w .ends-at e′ (sym end ∙ c));
       after-end = rw more (w .after-end);
       unchanged = rw dozed (w .unchanged);
       runs = λ e′ c budget b before. at-least e′ (sym end ∙ c) budget b before;

@@ -15,7 +15,7 @@ use Rattle.cycle.specs.Cycle.{bucketOf, bodyOf, cycleSize}
 use Rattle.cycle.specs.Held.{lastOf, cycleBucket}
 use Rattle.cycle.proofs.Sequence.{Keeps, dataCount}
 use Rattle.cycle.proofs.Pieces.{count-append}
-use Rattle.cycle.proofs.BucketAt.{bucket-at}
+use Rattle.cycle.proofs.BucketAt.{Place, bucket-at}
 use Rattle.listener.specs.Listener.{dozes, choice, letterAwaited}
 use Rattle.listener.specs.Hearing.{End}
 use Rattle.listener.specs.declared.Phase.{Phase}
@@ -36,13 +36,21 @@ here s = length (s .before)
 unfoldable pub sentTo : {t : Plan} → Spot t → ℕ
 sentTo {t} s = dataCount t (s .before)
 
+-- the bucket at a place
+unfoldable pub spot-of : {t : Plan} {x : ℕ} → Place t x → Spot t
+spot-of p = record { before = p .before; slot = p .slot; rest = p .rest; splits = p .splits }
+
+pub spot-here : {t : Plan} {x : ℕ} (p : Place t x) → here (spot-of p) ≡ x
+unfolding here spot-of
+spot-here p = p .is
+
 pub here-below : {t : Plan} (s : Spot t) → here s < cycleSize t
 unfolding here cycleSize
 here-below {t} s = rw (s .splits, length-append) (omega arith)
 
 -- a walk over the cycle of a plan
-abbrev pub WalkOn : Plan → ℕ → ℕ → ℕ → Phase → ℕ → End → List Line → Type 0
-WalkOn t tag b x ph h e got = Walk (cycleSize t) tag (cycleBucket t) b x ph h e got
+abbrev pub WalkOn : Plan → ℕ → ℕ → ℕ → Phase → ℕ → End → ℕ → List Line → Type 0
+WalkOn t tag b x ph h e z got = Walk (cycleSize t) tag (cycleBucket t) b x ph h e z got
 
 -- a bucket further on
 unfoldable pub further : {t : Plan} (s : Spot t) (skipped : List Slot) (hit : Slot) (behind : List Slot) → s .rest ≡ skipped ++ (hit ∷ behind) → Spot t
@@ -66,11 +74,11 @@ module _ {t : Plan} (s : Spot t) (skipped : List Slot) (hit : Slot) (behind : Li
   further-sent = count-append t (s .before) (s .slot ∷ skipped)
 
   pub hop-within :
-      (tag b : ℕ) {ph next : Phase} {h : ℕ} {end : End} {got : List Line} (first count : ℕ) → b ≤ cycleSize t →
+      (tag b : ℕ) {ph next : Phase} {h : ℕ} {end : End} {z : ℕ} {got : List Line} (first count : ℕ) → b ≤ cycleSize t →
       letterAwaited ph (cycleBucket t (here s) .body) ≡ true →
       choice ph tag (cycleBucket t (here s)) ≡ dozes (suc (length skipped)) next first count → awake next ≡ true →
-      WalkOn t tag b (here (further s skipped hit behind e)) next h end got →
-      WalkOn t tag b (here s) ph (suc h) end (linesAt (cycleBucket t (here s)) first count ++ got)
+      WalkOn t tag b (here (further s skipped hit behind e)) next h end z got →
+      WalkOn t tag b (here s) ph (suc h) end z (linesAt (cycleBucket t (here s)) first count ++ got)
   hop-within tag b first count hb l c w more =
       let f : here (further s skipped hit behind e) ≡ here s + suc (length skipped) = further-here in
       let g : here (further s skipped hit behind e) < cycleSize t = here-below (further s skipped hit behind e) in
@@ -79,11 +87,11 @@ module _ {t : Plan} (s : Spot t) (skipped : List Slot) (hit : Slot) (behind : Li
 
 -- round to the first bucket of the next cycle
 pub hop-round :
-    {t : Plan} (s : Spot t) (tag : ℕ) {ph next : Phase} {h : ℕ} {end : End} {got : List Line} (d first count : ℕ) →
+    {t : Plan} (s : Spot t) (tag : ℕ) {ph next : Phase} {h : ℕ} {end : End} {z : ℕ} {got : List Line} (d first count : ℕ) →
     letterAwaited ph (cycleBucket t (here s) .body) ≡ true →
     choice ph tag (cycleBucket t (here s)) ≡ dozes d next first count → awake next ≡ true → here s + d ≡ cycleSize t →
-    WalkOn t tag (cycleSize t) 0 next h end got →
-    WalkOn t tag 0 (here s) ph (suc h) end (linesAt (cycleBucket t (here s)) first count ++ got)
+    WalkOn t tag (cycleSize t) 0 next h end z got →
+    WalkOn t tag 0 (here s) ph (suc h) end z (linesAt (cycleBucket t (here s)) first count ++ got)
 hop-round {t} s tag d first count l c w sums more =
     let b : here s < cycleSize t = here-below s in
     hops {b = 0} {x = here s} {b′ = cycleSize t} {x′ = 0} d first count (omega arith) b l c w (omega arith)
@@ -91,10 +99,11 @@ hop-round {t} s tag d first count l c w sums more =
 
 -- a walk read with equal figures
 pub walk-as :
-    {n tag : ℕ} {bk : ℕ → Bucket} {b x : ℕ} {ph : Phase} {h h′ : ℕ} {e : End} {got got′ : List Line} → h ≡ h′ → got ≡ got′ →
-    Walk n tag bk b x ph h e got → Walk n tag bk b x ph h′ e got′
-walk-as {n} {tag} {bk} {b} {x} {ph} {h} {h′} {e} {got} {got′} p q w =
-    subst (λ z. Walk n tag bk b x ph z e got′) p (subst (λ z. Walk n tag bk b x ph h e z) q w)
+    {n tag : ℕ} {bk : ℕ → Bucket} {b x : ℕ} {ph : Phase} {h h′ : ℕ} {e : End} {z z′ : ℕ}
+    {got got′ : List Line} → h ≡ h′ → z ≡ z′ → got ≡ got′ → Walk n tag bk b x ph h e z got → Walk n tag bk b x ph h′ e z′ got′
+walk-as {n} {tag} {bk} {b} {x} {ph} {h} {h′} {e} {z} {z′} {got} {got′} p r q w =
+    subst (λ y. Walk n tag bk b x ph y e z′ got′) p
+    (subst (λ y. Walk n tag bk b x ph h e y got′) r (subst (λ y. Walk n tag bk b x ph h e z y) q w))
 
 -- ---- the bucket at a spot
 

@@ -5,20 +5,20 @@ use Prim.Native.Nat.{ℕ, zero, suc, _+_, _*_, _≤_, _<_, max}
 use mathlib.Core.Bool.{Bool, true, false}
 use mathlib.Core.Option.{Option, none, some}
 use mathlib.Core.List.{List, [], _∷_}
-use lib.Dec.{eqb}
 use lib.ListN.{length, drop}
-use Rattle.columns.specs.Lists.{joined, every}
+use Rattle.columns.specs.Lists.{joined, every, same}
+use Rattle.buckets.specs.Lengths.{lineLength}
 use Rattle.buckets.specs.declared.Line.{Line}
 use Rattle.buckets.specs.ListLine.{printLine, listLines}
 use Rattle.cycle.specs.Tree.{Settings, plan}
+use Rattle.cycle.specs.Building
 use Rattle.cycle.specs.Building.{build}
-use Rattle.cycle.specs.declared.Built.the-variants.{Cycle}
+use Rattle.listener.specs.Listener
 use Rattle.listener.specs.Listener.{start, matching}
 use Rattle.listener.specs.Hearing.{Taken, hearing, End, found, absent, endOf, untilEnd, heardIn, elapsedIn, refusedBeforeEnd, linesGot, listenerAfter, runsWith}
+use Rattle.listener.specs.Lookup
 use Rattle.listener.specs.Lookup.{lookup}
 use Rattle.listener.specs.declared.Answer.{Answer}
-use Rattle.listener.specs.declared.Answer.the-variants.{Doze, Found, Absent, Refused}
-use Rattle.listener.specs.declared.Looked.the-variants
 
 -- "2 + k + max(1, C)": "k is the index levels, C the data buckets with that tag"
 unfoldable pub heardLimit : Settings → List ℕ → ℕ → ℕ
@@ -33,11 +33,14 @@ abbrev pub endWanted : List Line → End
 endWanted [] = absent
 endWanted (l ∷ ls) = found
 
-abbrev pub refusedBy : ℕ → Answer → Bool
-refusedBy number (Doze d) = false
-refusedBy number Found = false
-refusedBy number Absent = false
-refusedBy number (Refused given) = eqb given number
+-- a step's answer that is the refusal by 14, place 0
+abbrev pub refusedBy14 : Answer → Bool
+refusedBy14 a = same (Listener.numbers a) (4 ∷ 14 ∷ 0 ∷ [])
+
+-- a lookup's outcome: the numbers of its answer, and the bytes that it writes
+pub record Looks (image : List ℕ) (tag tune space : ℕ) (answer output : List ℕ) : Type 0 where
+  pub answers : Lookup.numbers (lookup image tag tune space .answer) ≡ answer
+  pub writes : lookup image tag tune space .output ≡ output
 
 -- What demand 3 says of the hearing of m steps, log, and of a lookup, over the cycle of n buckets that a list and settings
 -- build: image is that cycle, and space is the room of the lookup's buffer.
@@ -57,29 +60,27 @@ pub record Demand3 (s : Settings) (list image : List ℕ) (n tag tune m : ℕ) (
   pub heard-own : listenerAfter (start tag) log .heard ≡ heardIn log
   pub elapsed-own : listenerAfter (start tag) log .elapsed ≡ elapsedIn log
   -- after the end "each such step is refused by 14 and changes nothing in the listener"
-  pub after-end : every (λ x. refusedBy 14 (x .outcome .answer)) (drop (heardIn log) log) ≡ true
+  pub after-end : every (λ x. refusedBy14 (x .outcome .answer)) (drop (heardIn log) log) ≡ true
   pub unchanged : listenerAfter (start tag) log ≡ listenerAfter (start tag) (untilEnd log)
   -- "A lookup over that cycle gives the same end, lines and counts, or is refused by 7 exactly if its buffer is too short for
   -- the lines."
   pub lookup-found :
-      (space : ℕ) → endOf log ≡ some found → 27 * length (linesGot log) ≤ space →
-      lookup image tag tune space ≡
-      record {
-        answer = the-variants.Found (heardIn log) (elapsedIn log) (length (linesGot log));
-        output = joined printLine (linesGot log);
-      }
+      (space : ℕ) → endOf log ≡ some found → lineLength * length (linesGot log) ≤ space →
+      Looks image tag tune space (0 ∷ 0 ∷ 1 ∷ heardIn log ∷ elapsedIn log ∷ length (linesGot log) ∷ [])
+      (joined printLine (linesGot log))
   pub lookup-short :
-      (space : ℕ) → endOf log ≡ some found → space < 27 * length (linesGot log) →
-      lookup image tag tune space ≡ record { answer = the-variants.Refused 7 0; output = [] }
+      (space : ℕ) → endOf log ≡ some found → space < lineLength * length (linesGot log) →
+      Looks image tag tune space (7 ∷ 0 ∷ 0 ∷ 0 ∷ 0 ∷ 0 ∷ []) []
   pub lookup-absent :
       (space : ℕ) → endOf log ≡ some absent →
-      lookup image tag tune space ≡ record { answer = the-variants.Absent (heardIn log) (elapsedIn log); output = [] }
+      Looks image tag tune space (0 ∷ 0 ∷ 2 ∷ heardIn log ∷ elapsedIn log ∷ 0 ∷ []) []
 
 -- "For any list and settings the builder accepts, any tag and any tune-in t from 0 to N - 1, the cycle repeated unchanged
 -- and each bucket the display wakes for arriving intact: for every list of steps the display takes from a fresh start":
 -- strays are the bytes given after the end, of which nothing is known
 abbrev pub EveryHearing : Type 0
 EveryHearing =
-    (s : Settings) (list : List ℕ) (room n : ℕ) → build s list room .answer ≡ Cycle n → (tag tune : ℕ) → tune < n →
+    (s : Settings) (list : List ℕ) (room n : ℕ) → Building.numbers (build s list room .answer) ≡ 0 ∷ 0 ∷ n ∷ [] →
+    (tag tune : ℕ) → tune < n →
     (m : ℕ) (strays : ℕ → List ℕ) →
     Demand3 s list (build s list room .output) n tag tune m (hearing (build s list room .output) n strays tag tune m)

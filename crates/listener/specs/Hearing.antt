@@ -5,19 +5,16 @@ use mathlib.Core.Bool.{Bool, true, false, not}
 use mathlib.Core.Option.{Option, none, some}
 use mathlib.Core.List.{List, [], _∷_, _++_}
 use lib.Dec.{eqb}
-use lib.ListN
 use lib.ListN.{length, drop}
 use Rattle.columns.specs.Lists.{pick, any, parts, up}
+use Rattle.buckets.specs.Lengths.{bucketLength}
 use Rattle.buckets.specs.declared.Line.{Line}
+use Rattle.cycle.specs.Cycle.{bucketAt}
 use Rattle.listener.specs.Listener.{start, step, named}
 use Rattle.listener.specs.declared.Listener.{Listener}
 use Rattle.listener.specs.declared.Answer.{Answer}
 use Rattle.listener.specs.declared.Answer.the-variants.{Doze, Found, Absent, Refused}
 use Rattle.listener.specs.declared.Stepped.{Stepped}
-
--- bucket x of an image
-unfoldable pub bucketAt : List ℕ → ℕ → List ℕ
-bucketAt image x = ListN.take 240 (drop (240 * x) image)
 
 -- one step of a hearing: the bytes it was given, and what it handed back
 pub record Taken : Type 0 where

@@ -3,7 +3,9 @@ pub mod Listener
 pub mod Hearing
 pub mod Lookup
 pub mod Demand3
+pub mod EndPlace
 pub mod SampleYard
 pub mod OnReading
 pub mod OnRun
 pub mod State
+pub mod Started

@@ -1,15 +1,15 @@
 -- Document 01, "The listener": its state, its start and its step, with the conditions 14, 8, 9 and 10 in that order.
 -- Assumes nothing.
-use Prim.Native.Nat.{ℕ, zero, suc, _+_, _-_, _*_, _%_}
+use Prim.Native.Nat.{ℕ, zero, suc, _+_, _-_, _*_, _/_, _%_}
 use mathlib.Core.Bool.{Bool, true, false, _&&_, _||_, not}
 use mathlib.Core.Option.{Option, none, some}
-use mathlib.Core.List.{List, [], _∷_, map}
+use mathlib.Core.List.{List, [], _∷_, _++_, map}
 use lib.Dec.{leb, ltb, eqb}
-use lib.ListN
-use lib.ListN.{length, drop}
+use lib.ListN.{length, take, drop}
 use Rattle.columns.specs.Lists.{pick, only, lastOr}
 use Rattle.buckets.specs.declared.Line.{Line}
 use Rattle.buckets.specs.Bucket.{Pair, Entry, Body, indexBody, dataBody, Bucket, cycleLength, readBucket}
+use Rattle.buckets.specs.BucketLines.{linesRead}
 use Rattle.listener.specs.declared.Phase.{Phase}
 use Rattle.listener.specs.declared.Phase.the-variants.{TuneIn, Index, Either, Data, Ended}
 use Rattle.listener.specs.declared.Listener.{Listener}
@@ -17,17 +17,22 @@ use Rattle.listener.specs.declared.Answer.{Answer}
 use Rattle.listener.specs.declared.Answer.the-variants.{Doze, Found, Absent, Refused}
 use Rattle.listener.specs.declared.Stepped.{Stepped}
 
--- the numbers that an answer stands for: 1 doze and its distance, 2 found, 3 absent, 4 refused and its number
+-- the numbers that an answer stands for: 1 doze and its distance, 2 found, 3 absent, 4 refused and its number; then the place,
+-- which is 0 in a step
 abbrev pub numbers : Answer → List ℕ
-numbers (Doze d) = 1 ∷ d ∷ []
-numbers Found = 2 ∷ 0 ∷ []
-numbers Absent = 3 ∷ 0 ∷ []
-numbers (Refused number) = 4 ∷ number ∷ []
+numbers (Doze d) = 1 ∷ d ∷ 0 ∷ []
+numbers Found = 2 ∷ 0 ∷ 0 ∷ []
+numbers Absent = 3 ∷ 0 ∷ 0 ∷ []
+numbers (Refused number) = 4 ∷ number ∷ 0 ∷ []
+
+-- the numbers that a step hands back beside the next listener: its answer's, the first matching line, how many match
+unfoldable pub stepNumbers : Stepped → List ℕ
+stepNumbers r = numbers (r .answer) ++ r .first ∷ r .count ∷ []
 
 -- "A caller makes one by starting it with a tag, both counts 0." The tune-in bucket is the first to go by.
 unfoldable pub start : ℕ → Listener
 start tag =
-    record { tag = tag; phase = TuneIn; due = 0; cycle = 0; tuned = 0; doze = 1; heard = 0; elapsed = 0 }
+    record { tag = tag; phase = TuneIn; due = 0; cycle = 0; passed = 0; doze = 1; heard = 0; elapsed = 0 }
 
 -- ---- what a bucket tells a listener
 
@@ -133,11 +138,15 @@ isEnded Either = false
 isEnded Data = false
 isEnded Ended = true
 
--- No state that starting and stepping give has a number above 4,294,967,295 in these four. One made in another way is
--- answered as an ended one.
+-- the largest number that a listener's counts keep to
+abbrev pub countMost : ℕ
+countMost = 4294967295
+
+-- Every state that starting and stepping give keeps to it in these four (the law `CountsFit` of Started). One made in another
+-- way may not, and is answered as an ended one.
 unfoldable pub countsFit : Listener → Bool
 countsFit s =
-    leb (s .heard) 4294967295 && (leb (s .elapsed) 4294967295 && (leb (s .doze) 4294967295 && leb (s .tuned) 4294967295))
+    leb (s .heard) countMost && (leb (s .elapsed) countMost && (leb (s .doze) countMost && leb (s .passed) countMost))
 
 -- an ended listener with these counts
 unfoldable pub ended : Listener → ℕ → ℕ → Listener
@@ -147,7 +156,7 @@ ended s heard elapsed =
       phase = Ended;
       due = s .due;
       cycle = s .cycle;
-      tuned = s .tuned;
+      passed = s .passed;
       doze = s .doze;
       heard = heard;
       elapsed = elapsed;
@@ -171,17 +180,15 @@ heardWith s = s .heard + 1
 unfoldable pub elapsedWith : Listener → ℕ
 elapsedWith s = s .elapsed + s .doze
 
--- the position of the tune-in bucket, which may be the one at hand
-abbrev pub tunedWith : Phase → Listener → Bucket → ℕ
-tunedWith TuneIn s b = b .position
-tunedWith Index s b = s .tuned
-tunedWith Either s b = s .tuned
-tunedWith Data s b = s .tuned
-tunedWith Ended s b = s .tuned
+-- the cycle starts passed since tune-in, with those that a doze by d passes: the number of the next bucket's cycle, tune-in's
+-- being 0
+unfoldable pub passedWith : Listener → Bucket → ℕ → ℕ
+passedWith s b d = s .passed + (b .position + d) / cycleLength b
 
--- 10: "the next bucket lies past the cycle after tune-in's"
+-- 10: "the next bucket lies past the cycle after tune-in's". The law `PastByCount` of Started says the same by the buckets
+-- counted from tune-in.
 unfoldable pub pastNextCycle : Listener → Bucket → ℕ → Bool
-pastNextCycle s b d = ltb (2 * cycleLength b) (tunedWith (s .phase) s b + (elapsedWith s + d))
+pastNextCycle s b d = ltb 1 (passedWith s b d)
 
 -- the listener that dozes by d
 unfoldable pub dozing : Listener → Bucket → ℕ → Phase → Listener
@@ -191,7 +198,7 @@ dozing s b d awaits =
       phase = awaits;
       due = (b .position + d) % cycleLength b;
       cycle = cycleLength b;
-      tuned = tunedWith (s .phase) s b;
+      passed = passedWith s b d;
       doze = d;
       heard = heardWith s;
       elapsed = elapsedWith s;
@@ -204,27 +211,18 @@ decided s b (finds first count) = stepped (ended s (heardWith s) (elapsedWith s)
 decided s b misses = stepped (ended s (heardWith s) (elapsedWith s)) Absent 0 0
 
 -- a well printed bucket: 9, then the rules, then 10
-unfoldable pub take : Listener → Bucket → Stepped
-take s b = pick (awaited s b) (decided s b (choice (s .phase) (s .tag) b)) (refused s 9)
+unfoldable pub heed : Listener → Bucket → Stepped
+heed s b = pick (awaited s b) (decided s b (choice (s .phase) (s .tag) b)) (refused s 9)
 
 -- 8: "bucket not 240 bytes, or misprinted"
-abbrev pub takeRead : Listener → Option Bucket → Stepped
-takeRead s none = refused s 8
-takeRead s (some b) = take s b
+abbrev pub heedRead : Listener → Option Bucket → Stepped
+heedRead s none = refused s 8
+heedRead s (some b) = heed s b
 
 -- "A step: 14, 8, 9, 10." 14: "bucket given to an ended listener"
 unfoldable pub step : Listener → List ℕ → Stepped
-step s bytes = pick (isEnded (s .phase) || not (countsFit s)) (refusedEnded s) (takeRead s (readBucket bytes))
-
--- the lines of a bucket
-abbrev pub bodyLines : Body → List Line
-bodyLines (indexBody ps es) = []
-bodyLines (dataBody f ls) = ls
-
-abbrev pub readLines : Option Bucket → List Line
-readLines none = []
-readLines (some b) = bodyLines (b .body)
+step s bytes = pick (isEnded (s .phase) || not (countsFit s)) (refusedEnded s) (heedRead s (readBucket bytes))
 
 -- the lines of a bucket that the answer to it names
 unfoldable pub named : List ℕ → Stepped → List Line
-named bytes r = ListN.take (r .count) (drop (r .first) (readLines (readBucket bytes)))
+named bytes r = take (r .count) (drop (r .first) (linesRead (readBucket bytes)))

@@ -8,12 +8,14 @@ use mathlib.Core.List.{List, [], _∷_, map}
 use lib.Dec.{leb, ltb}
 use lib.ListN.{length, take}
 use Rattle.columns.specs.Lists.{pick, every}
+use Rattle.buckets.specs.Lengths.{bucketsMost, pairsMost, entriesMost}
 use Rattle.buckets.specs.declared.Line.{Line}
 use Rattle.buckets.specs.declared.Head.{Head}
 use Rattle.buckets.specs.declared.Index.{Index}
 use Rattle.buckets.specs.declared.Reading.{Reading}
 use Rattle.buckets.specs.Bucket.{Entry, readBucket}
 use Rattle.buckets.specs.Held.{entriesOf, asReading}
+use Rattle.listener.specs.Listener.{countMost}
 use Rattle.listener.specs.declared.Phase.{Phase}
 use Rattle.listener.specs.declared.Phase.the-variants
 use Rattle.listener.specs.declared.Listener.{Listener}
@@ -70,20 +72,20 @@ isTuneIn the-variants.Ended = false
 -- ---- what a well printed bucket keeps, and a state that fits
 
 unfoldable pub near : Entry → Bool
-near e = leb 1 (e .distance) && leb (e .distance) 99999
+near e = leb 1 (e .distance) && leb (e .distance) bucketsMost
 
 pub record SoundHead (h : Head) : Type 0 where
   pub ahead : 1 ≤ h .«to_cycle»
-  pub short : h .position + h .«to_cycle» ≤ 99999
-  pub segmentNear : h .«to_segment» ≤ 99999
+  pub short : h .position + h .«to_cycle» ≤ bucketsMost
+  pub segmentNear : h .«to_segment» ≤ bucketsMost
 
 pub record SoundIndex (x : Index) : Type 0 where
-  pub pairTags : length (x .«pair_tags») ≡ 4
-  pub pairDistances : length (x .«pair_distances») ≡ 4
-  pub entryTags : length (x .«entry_tags») ≡ 8
-  pub entryDistances : length (x .«entry_distances») ≡ 8
-  pub fewPairs : x .pairs ≤ 4
-  pub fewEntries : x .entries ≤ 8
+  pub pairTags : length (x .«pair_tags») ≡ pairsMost
+  pub pairDistances : length (x .«pair_distances») ≡ pairsMost
+  pub entryTags : length (x .«entry_tags») ≡ entriesMost
+  pub entryDistances : length (x .«entry_distances») ≡ entriesMost
+  pub fewPairs : x .pairs ≤ pairsMost
+  pub fewEntries : x .entries ≤ entriesMost
   pub pairsNear : every near (pairsHeld x) ≡ true
   pub entriesNear : every near (entriesHeld x) ≡ true
 
@@ -93,7 +95,7 @@ pub record WasRead (r : Reading) : Type 0 where
   pub is : r ≡ asReading (readBucket bytes)
 
 pub record Counts (s : Listener) : Type 0 where
-  pub heard : s .heard ≤ 4294967295
-  pub elapsed : s .elapsed ≤ 4294967295
-  pub doze : s .doze ≤ 4294967295
-  pub tuned : s .tuned ≤ 4294967295
+  pub heard : s .heard ≤ countMost
+  pub elapsed : s .elapsed ≤ countMost
+  pub doze : s .doze ≤ countMost
+  pub passed : s .passed ≤ countMost

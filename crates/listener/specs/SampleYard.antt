@@ -5,6 +5,7 @@ use Prim.Native.Nat.{ℕ, zero, suc, _+_, _-_, _*_}
 use mathlib.Core.List.{List, [], _∷_, _++_, map}
 use lib.ListN.{length, drop, replicate}
 use Rattle.columns.specs.Lists.{pick, joined, range}
+use Rattle.buckets.specs.Lengths.{bucketLength, lineLength}
 use Rattle.buckets.specs.declared.Line.{Line}
 use Rattle.buckets.specs.ListLine.{printLine, listLines}
 use Rattle.cycle.specs.Tree.{Settings, Plan, plan}
@@ -12,7 +13,7 @@ use Rattle.cycle.specs.Layouts.{Slot, slots}
 use Rattle.cycle.specs.Cycle.{isData}
 use Rattle.cycle.specs.Building
 use Rattle.cycle.specs.Building.{build}
-use Rattle.listener.specs.Lookup.{numbers, lookup}
+use Rattle.listener.specs.Lookup.{Outcome, numbers, lookup}
 
 -- "other figures 0": a list of these tags, as bytes
 unfoldable pub yard : List ℕ → List ℕ
@@ -26,9 +27,9 @@ S = yard (3 ∷ 5 ∷ 5 ∷ 8 ∷ 9 ∷ [])
 unfoldable pub sample : ℕ → ℕ → Settings
 sample layout copies = record { n = 2; p = 1; layout = layout; copies = copies }
 
--- building with a buffer of 40 buckets: refusal number, place, N
+-- building with a buffer of 40 buckets: refusal number and place, and N where it is not refused
 unfoldable pub built : Settings → List ℕ → List ℕ
-built s list = Building.numbers (build s list 9600 .answer)
+built s list = Building.numbers (build s list (40 * bucketLength) .answer)
 
 -- the levels of a list's tree
 unfoldable pub levelsOf : Settings → List ℕ → List ℕ
@@ -46,7 +47,8 @@ partSizes s list = let t : Plan = plan s (listLines list) in drop 1 (sizes t 0 (
 -- lines, and behind them the tags of the lines written
 unfoldable pub looked : Settings → List ℕ → ℕ → ℕ → List ℕ
 looked s list tag t =
-    let r : Rattle.listener.specs.Lookup.Outcome = lookup (build s list 9600 .output) tag t 108 in
+    let image : List ℕ = build s list (40 * bucketLength) .output in
+    let r : Outcome = lookup image tag t (4 * lineLength) in
     numbers (r .answer) ++ map (λ l. l .tag) (listLines (r .output))
 
 -- every row of "Sample yard", P5 for the tag given
@@ -91,7 +93,7 @@ unfoldable pub builtRow : ℕ → List ℕ
 builtRow n = 0 ∷ 0 ∷ n ∷ []
 
 unfoldable pub refusedRow : ℕ → List ℕ
-refusedRow number = number ∷ 0 ∷ 0 ∷ []
+refusedRow number = number ∷ 0 ∷ []
 
 -- what document 01 says of each row
 unfoldable pub wanted : List (List ℕ)

@@ -23,7 +23,7 @@ phaseOf x = pick (eqb x 0) TuneIn (pick (eqb x 1) Index (pick (eqb x 2) Either (
 
 unfoldable pub saved : Listener → List ℕ
 saved s =
-    s .tag ∷ phaseNumber (s .phase) ∷ s .due ∷ s .cycle ∷ s .tuned ∷ s .doze ∷ s .heard ∷ s .elapsed ∷ []
+    s .tag ∷ phaseNumber (s .phase) ∷ s .due ∷ s .cycle ∷ s .passed ∷ s .doze ∷ s .heard ∷ s .elapsed ∷ []
 
 unfoldable pub restored : List ℕ → Listener
 restored a =
@@ -32,7 +32,7 @@ restored a =
       phase = phaseOf (getD a 1 0);
       due = getD a 2 0;
       cycle = getD a 3 0;
-      tuned = getD a 4 0;
+      passed = getD a 4 0;
       doze = getD a 5 0;
       heard = getD a 6 0;
       elapsed = getD a 7 0;

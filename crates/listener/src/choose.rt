@@ -3,6 +3,7 @@ use buckets::Index;
 ghost use mathlib.Core.Path.{_≡_};
 ghost use Prim.Native.Nat.{_≤_};
 ghost use lib.ListN.{drop, length};
+ghost use Rattle.buckets.specs.Lengths.{pairsMost, entriesMost, bucketLinesMost};
 ghost use Rattle.listener.specs.Listener.{before, matching};
 ghost use Rattle.listener.specs.OnReading.{SoundIndex, held, pairsHeld, chosen, below, reached, firstChosen, taggedLines};
 
@@ -25,7 +26,7 @@ pub fn first_pair(tag: u64, x: Index) -> u64
 
 // The distance of the first of count control pairs, behind the first one, whose tag is below ours, 0 if there is none.
 pub fn pair_below(tag: u64, count: usize, tags: [u64; 4], distances: [u64; 4]) -> u64
-    requires { ⌜ count ≤ 4 ⌝ }
+    requires { ⌜ count ≤ pairsMost ⌝ }
     ensures { λ r. ⌜ r ≡ chosen (below tag) (drop 1 (held count tags distances)) ⌝ }
 {
     let mut i = 1;
@@ -43,7 +44,7 @@ pub fn pair_below(tag: u64, count: usize, tags: [u64; 4], distances: [u64; 4]) -
 
 // The distance of the first of count entries whose tag is at least ours, 0 if there is none.
 pub fn entry_from(tag: u64, count: usize, tags: [u64; 8], distances: [u64; 8]) -> u64
-    requires { ⌜ count ≤ 8 ⌝ }
+    requires { ⌜ count ≤ entriesMost ⌝ }
     ensures { λ r. ⌜ r ≡ chosen (reached tag) (held count tags distances) ⌝ }
 {
     let mut i = 0;
@@ -61,7 +62,7 @@ pub fn entry_from(tag: u64, count: usize, tags: [u64; 8], distances: [u64; 8]) -
 
 // How many of the first count lines come before the first one of our tag.
 pub fn lines_before(tag: u64, count: usize, tags: [u64; 8]) -> u64
-    requires { ⌜ count ≤ 8 ⌝ }
+    requires { ⌜ count ≤ bucketLinesMost ⌝ }
     ensures { λ r. ⌜ r ≡ before tag (taggedLines count tags) ⌝ }
 {
     let mut i = 0;
@@ -76,7 +77,7 @@ pub fn lines_before(tag: u64, count: usize, tags: [u64; 8]) -> u64
 
 // How many of the first count lines are of our tag.
 pub fn lines_matching(tag: u64, count: usize, tags: [u64; 8]) -> u64
-    requires { ⌜ count ≤ 8 ⌝ }
+    requires { ⌜ count ≤ bucketLinesMost ⌝ }
     ensures { λ r. ⌜ r ≡ length (matching tag (taggedLines count tags)) ⌝ }
 {
     let mut found = 0;

@@ -1,6 +1,8 @@
 // The listener and the lookup: document 01, "The listener".
 mod choose;
+mod hearing;
 pub mod lookup;
+pub mod run;
 mod state;
 mod step;
 
@@ -23,8 +25,8 @@ pub struct Listener {
     due: u64,
     // the N awaited
     cycle: u64,
-    // the position of the tune-in bucket
-    tuned: u64,
+    // the cycle starts passed since tune-in
+    passed: u64,
     // the buckets that go by up to the next one taken, that one counted
     doze: u64,
     // buckets taken
@@ -47,6 +49,14 @@ pub struct Stepped {
     pub answer: Answer,
     pub first: u64,
     pub count: u64,
+}
+
+// How a run of a listener over an image ends: found with the listener and the number of lines got, absent with the listener, or
+// a refusal's number and place.
+pub enum Ending {
+    Found(Listener, u64),
+    Absent(Listener),
+    Refused(u64, u64),
 }
 
 // What a lookup answers: found or absent with heard and elapsed, or a refusal's number and place.

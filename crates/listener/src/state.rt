@@ -37,7 +37,7 @@ fn phase_of(x: u64) -> Phase
 }
 
 impl Listener {
-    // Tag, what is awaited, due, cycle, tuned, doze, heard and elapsed.
+    // Tag, what is awaited, due, cycle, passed, doze, heard and elapsed.
     pub fn saved(self) -> [u64; 8]
         ensures { λ r. ⌜ r ≡ saved self ⌝ }
     {
@@ -48,7 +48,7 @@ impl Listener {
             awaited,
             self.due,
             self.cycle,
-            self.tuned,
+            self.passed,
             self.doze,
             self.heard,
             self.elapsed,
@@ -65,7 +65,7 @@ impl Listener {
             phase: phase,
             due: a[2],
             cycle: a[3],
-            tuned: a[4],
+            passed: a[4],
             doze: a[5],
             heard: a[6],
             elapsed: a[7],

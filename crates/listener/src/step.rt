@@ -4,9 +4,11 @@ use super::Listener;
 use super::Phase;
 use super::Stepped;
 use super::choose;
+use buckets::Bucket;
 use buckets::Head;
 use buckets::Index;
 use buckets::Kind;
+use buckets::Line;
 use buckets::Reading;
 use buckets::reader;
 ghost use mathlib.Core.Path.{_≡_};
@@ -14,14 +16,13 @@ ghost use mathlib.Core.Bool.{_&&_};
 ghost use mathlib.Core.List.{List};
 ghost use Prim.Native.Nat.{ℕ, _+_, _≤_};
 ghost use lib.Dec.{eqb};
-ghost use Rattle.buckets.specs.Bucket.{Body, Bucket, dataBody, readBucket};
+ghost use Rattle.buckets.specs.Lengths.{bucketsMost, bucketLinesMost};
+ghost use Rattle.buckets.specs.Bucket.{Body, dataBody, readBucket};
 ghost use Rattle.buckets.specs.Held.{bucketWith, indexOf, asReading};
-ghost use Rattle.listener.specs.Listener.{start, isEnded, isIndex, countsFit, ended, stepped, refused, refusedEnded, heardWith};
-ghost use Rattle.listener.specs.Listener.{elapsedWith, tunedWith, awaited, dozes, decided, bodyChoice, dataChoice, take, takeRead, step};
+ghost use Rattle.listener.specs.Listener.{start, isEnded, isIndex, countsFit, ended, stepped, refused, refusedEnded};
+ghost use Rattle.listener.specs.Listener.{heardWith, elapsedWith, awaited, dozes, decided, bodyChoice, dataChoice};
+ghost use Rattle.listener.specs.Listener.{heed, heedRead, step, stepNumbers};
 ghost use Rattle.listener.specs.OnReading.{isTuneIn, Counts, SoundHead, SoundIndex, WasRead, taggedLines};
-
-// The largest number that a listener's counts keep to.
-const LARGEST: u64 = 4294967295;
 
 // Whether the tune-in bucket is awaited.
 fn is_tune_in(phase: Phase) -> bool
@@ -51,13 +52,16 @@ fn is_ended(phase: Phase) -> bool
 
 impl Listener {
     // A bucket's bytes; where the lines of a data bucket start, and the columns of each; a list line's bytes.
-    pub const BUCKET: usize = 240;
+    pub const BUCKET: usize = Bucket::LENGTH;
 
-    pub const LINES: usize = 29;
+    pub const LINES: usize = Bucket::LINES;
 
-    pub const FIGURES: usize = 26;
+    pub const FIGURES: usize = Line::FIGURES;
 
-    pub const LINE: usize = 27;
+    pub const LINE: usize = Line::LENGTH;
+
+    // The largest number that a listener's counts keep to.
+    const COUNT_MOST: u64 = 4294967295;
 
     // A listener that waits for its tune-in bucket.
     pub fn new(tag: u64) -> Listener
@@ -68,7 +72,7 @@ impl Listener {
             phase: Phase::TuneIn,
             due: 0,
             cycle: 0,
-            tuned: 0,
+            passed: 0,
             doze: 1,
             heard: 0,
             elapsed: 0,
@@ -93,16 +97,16 @@ impl Listener {
     fn counts_fit(self) -> bool
         ensures { λ r. ⌜ r ≡ countsFit self ⌝ }
     {
-        if LARGEST < self.heard {
+        if Listener::COUNT_MOST < self.heard {
             return false;
         }
-        if LARGEST < self.elapsed {
+        if Listener::COUNT_MOST < self.elapsed {
             return false;
         }
-        if LARGEST < self.doze {
+        if Listener::COUNT_MOST < self.doze {
             return false;
         }
-        self.tuned <= LARGEST
+        self.passed <= Listener::COUNT_MOST
     }
 
     // The ended listener with these counts.
@@ -114,7 +118,7 @@ impl Listener {
             phase: Phase::Ended,
             due: self.due,
             cycle: self.cycle,
-            tuned: self.tuned,
+            passed: self.passed,
             doze: self.doze,
             heard: heard,
             elapsed: elapsed,
@@ -148,42 +152,28 @@ impl Listener {
         }
     }
 
-    // The position of the tune-in bucket, which may be the one at hand.
-    fn tuned_with(self, position: u64) -> u64
-        ensures { λ r. ⌜ ((b : Bucket) → b .position ≡ position → r ≡ tunedWith (self .phase) self b) ⌝ }
-    {
-        let phase = self.phase;
-        match phase {
-            Phase::TuneIn => position,
-            Phase::Index => self.tuned,
-            Phase::Either => self.tuned,
-            Phase::Data => self.tuned,
-            Phase::Ended => self.tuned,
-        }
-    }
-
     // Doze by d, awaiting a bucket of the kind named, unless that lies past the cycle after tune-in's.
     fn doze_by(self, h: Head, d: u64, awaits: Phase, first: u64, count: u64) -> Stepped
         requires { ⌜ Counts self ⌝ }
         requires { ⌜ SoundHead h ⌝ }
-        requires { ⌜ d ≤ 99999 ⌝ }
+        requires { ⌜ d ≤ bucketsMost ⌝ }
         ensures { λ r. ⌜ ((body : Body) → r ≡ decided self (bucketWith h body) (dozes d awaits first count)) ⌝ }
     {
         let n = h.position + h.to_cycle;
-        let elapsed = self.elapsed + self.doze;
-        let tuned = self.tuned_with(h.position);
-        if 2 * n < tuned + (elapsed + d) {
+        let next = h.position + d;
+        let passed = self.passed + next / n;
+        if 1 < passed {
             return self.refused(10);
         }
         let listener = Listener {
             tag: self.tag,
             phase: awaits,
-            due: (h.position + d) % n,
+            due: next % n,
             cycle: n,
-            tuned: tuned,
+            passed: passed,
             doze: d,
             heard: self.heard + 1,
-            elapsed: elapsed,
+            elapsed: self.elapsed + self.doze,
         };
         Stepped {
             listener: listener,
@@ -249,7 +239,7 @@ impl Listener {
     fn data_step(self, h: Head, follow_on: u64, count: usize, tags: [u64; 8]) -> Stepped
         requires { ⌜ Counts self ⌝ }
         requires { ⌜ SoundHead h ⌝ }
-        requires { ⌜ («follow_on» ≤ 99999) × (count ≤ 8) ⌝ }
+        requires { ⌜ («follow_on» ≤ bucketsMost) × (count ≤ bucketLinesMost) ⌝ }
         ensures { λ r.
             ⌜ r ≡
             decided self (bucketWith h (dataBody «follow_on» (taggedLines count tags)))
@@ -275,7 +265,7 @@ impl Listener {
         requires { ⌜ Counts self ⌝ }
         requires { ⌜ SoundHead h ⌝ }
         requires { ⌜ SoundIndex x ⌝ }
-        ensures { λ r. ⌜ r ≡ take self (bucketWith h (indexOf x)) ⌝ }
+        ensures { λ r. ⌜ r ≡ heed self (bucketWith h (indexOf x)) ⌝ }
     {
         if !self.awaits(true, h) {
             return self.refused(9);
@@ -291,8 +281,8 @@ impl Listener {
     fn take_data(self, h: Head, follow_on: u64, count: usize, tags: [u64; 8]) -> Stepped
         requires { ⌜ Counts self ⌝ }
         requires { ⌜ SoundHead h ⌝ }
-        requires { ⌜ («follow_on» ≤ 99999) × (count ≤ 8) ⌝ }
-        ensures { λ r. ⌜ r ≡ take self (bucketWith h (dataBody «follow_on» (taggedLines count tags))) ⌝ }
+        requires { ⌜ («follow_on» ≤ bucketsMost) × (count ≤ bucketLinesMost) ⌝ }
+        ensures { λ r. ⌜ r ≡ heed self (bucketWith h (dataBody «follow_on» (taggedLines count tags))) ⌝ }
     {
         if !self.awaits(false, h) {
             return self.refused(9);
@@ -308,7 +298,7 @@ impl Listener {
     fn take_reading(self, r: Reading) -> Stepped
         requires { ⌜ Counts self ⌝ }
         requires { ⌜ WasRead r ⌝ }
-        ensures { λ s. ⌜ ((bytes : List ℕ) → r ≡ asReading (readBucket bytes) → s ≡ takeRead self (readBucket bytes)) ⌝ }
+        ensures { λ s. ⌜ ((bytes : List ℕ) → r ≡ asReading (readBucket bytes) → s ≡ heedRead self (readBucket bytes)) ⌝ }
     {
         let kind = r.kind;
         let head = r.head;
@@ -339,7 +329,9 @@ impl Listener {
 
     // The answer to one bucket, and the next listener.
     pub fn step(self, bucket: &[u8]) -> Stepped
-        ensures { λ r. ⌜ r ≡ step self (now (bucket .entry)) ⌝ }
+        ensures { λ r.
+            ⌜ (r .listener ≡ step self (now (bucket .entry)) .listener) ×
+            (stepNumbers r ≡ stepNumbers (step self (now (bucket .entry)))) ⌝ }
     {
         let phase = self.phase;
         if is_ended(phase) {

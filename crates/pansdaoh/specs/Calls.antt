@@ -1,25 +1,28 @@
 -- What the calls for C answer: the numbers that each answer stands for, as a record.
 -- Assumes nothing.
 use Prim.Native.Nat.{ℕ}
-use mathlib.Core.Path.{_≡_}
 use mathlib.Core.List.{List}
+use mathlib.Core.Bool.{Bool, false}
+use lib.Dec.{eqb}
 use lib.ListN.{getD}
+use Rattle.columns.specs.Lists.{pick}
 use Rattle.cycle.specs.declared.Built.{Built}
 use Rattle.cycle.specs.declared.Restored.{Restored}
 use Rattle.cycle.specs.Building as building
 use Rattle.cycle.specs.ReadingBack as readingBack
-use Rattle.cycle.specs.ReadingBack.{ReadsBack}
-use Rattle.cycle.specs.Tree.{Settings}
 use Rattle.listener.specs.declared.Looked.{Looked}
 use Rattle.listener.specs.declared.Stepped.{Stepped}
 use Rattle.listener.specs.Lookup as lookups
 use Rattle.listener.specs.Listener as listening
-use Rattle.listener.specs.State.{restored}
+use Rattle.listener.specs.State.{saved, restored}
+use Rattle.listener.specs.declared.Answer.{Answer as Answer′}
+use Rattle.listener.specs.declared.Answer.the-variants.{Doze, Found as Found′, Absent, Refused}
 use Rattle.pansdaoh.specs.declared.Answer.{Answer}
 use Rattle.pansdaoh.specs.declared.Found.{Found}
 use Rattle.pansdaoh.specs.declared.Step.{Step}
+use Rattle.pansdaoh.specs.declared.LineAnswer.{LineAnswer}
 
--- number, place and count
+-- number, place and count, 0 where there is none: "every count in that result 0"
 unfoldable pub answerOf : List ℕ → Answer
 answerOf a = record { number = getD a 0 0; place = getD a 1 0; count = getD a 2 0 }
 
@@ -30,12 +33,6 @@ builtAnswer b = answerOf (building.numbers b)
 -- reading back's answer
 unfoldable pub restoredAnswer : Restored → Answer
 restoredAnswer b = answerOf (readingBack.numbers b)
-
--- reading back, its answer as numbers
-pub record Restores (s : Settings) (image before behind : List ℕ) (a : Answer) : Type 0 where
-  pub answer : Restored
-  pub reads : ReadsBack s image before behind answer
-  pub stands : a ≡ restoredAnswer answer
 
 -- a lookup's answer
 unfoldable pub lookedAnswer : Looked → Found
@@ -59,3 +56,27 @@ stepAnswer r =
 -- the listener's step from a saved state
 unfoldable pub stepFrom : List ℕ → List ℕ → Stepped
 stepFrom state bucket = listening.step (restored state) bucket
+
+-- "14 hands it back unchanged"
+abbrev pub wasEnded : Answer′ → Bool
+wasEnded (Doze d) = false
+wasEnded Found′ = false
+wasEnded Absent = false
+wasEnded (Refused number) = eqb number 14
+
+-- the state after a step: on 14 the eight numbers given, whatever they are
+unfoldable pub stateAfter : List ℕ → Stepped → List ℕ
+stateAfter state r = pick (wasEnded (r .answer)) state (saved (r .listener))
+
+-- a bucket's line, by its numbers
+unfoldable pub lineAnswer : List ℕ → LineAnswer
+lineAnswer a =
+    record {
+      number = getD a 0 0;
+      place = getD a 1 0;
+      present = getD a 2 0;
+      tag = getD a 3 0;
+      tare = getD a 4 0;
+      code = getD a 5 0;
+      weighing = getD a 6 0;
+    }

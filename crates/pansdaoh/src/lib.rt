@@ -1,5 +1,7 @@
-// The calls for C and Rust: building, reading back, a lookup, and a listener whose state is eight numbers that the caller keeps. Each takes
-// any input. A lent buffer keeps every byte that the output does not cover, and all of them on a refusal.
+// The calls for C and Rust: building, reading back, a lookup, a listener whose state is eight numbers that the caller keeps, and
+// the lines of a bucket. Each takes any input. A lent buffer keeps every byte that the output does not cover, and all of them on a refusal.
+use buckets::BucketLine;
+use buckets::bucket_line;
 use cycle::Built;
 use cycle::Restored;
 use cycle::build;
@@ -10,14 +12,19 @@ use listener::Stepped;
 use listener::lookup;
 ghost use mathlib.Core.Path.{_≡_};
 ghost use Prim.Native.Nat.{ℕ};
+ghost use mathlib.Core.List.{[], _∷_};
 ghost use lib.ListN.{length};
 ghost use Rattle.columns.specs.Lists.{onto, put};
+ghost use Rattle.buckets.specs.Bucket.{readBucket};
+ghost use Rattle.buckets.specs.BucketLines;
+ghost use Rattle.buckets.specs.BucketLines.{bucketLine};
 ghost use Rattle.cycle.specs.Tree.{settings};
 ghost use Rattle.cycle.specs.Building;
+ghost use Rattle.cycle.specs.ReadingBack.{readBack};
 ghost use Rattle.listener.specs.Listener.{start};
 ghost use Rattle.listener.specs.Lookup;
 ghost use Rattle.listener.specs.State.{saved, restored};
-ghost use Rattle.pansdaoh.specs.Calls.{builtAnswer, restoredAnswer, Restores, lookedAnswer, stepAnswer, stepFrom};
+ghost use Rattle.pansdaoh.specs.Calls.{builtAnswer, restoredAnswer, lookedAnswer, stepAnswer, stepFrom, wasEnded, stateAfter, lineAnswer};
 
 // A refusal's number (0: not refused) and place, and the number of buckets built or of lines read back.
 #[repr(C)]
@@ -47,6 +54,18 @@ pub struct Step {
     pub value: u64,
     pub first: u64,
     pub count: u64,
+}
+
+// A refusal's number (0: not refused) and place; whether the bucket has such a line (1, else 0), and its four numbers.
+#[repr(C)]
+pub struct LineAnswer {
+    pub number: u64,
+    pub place: u64,
+    pub present: u64,
+    pub tag: u64,
+    pub tare: u64,
+    pub code: u64,
+    pub weighing: u64,
 }
 
 // Building's answer as numbers.
@@ -154,6 +173,52 @@ fn step_answer(r: Stepped) -> Step
     }
 }
 
+// Whether a step's answer is the refusal by 14, which changes nothing.
+fn was_ended(answer: listener::Answer) -> bool
+    ensures { λ r. ⌜ r ≡ wasEnded answer ⌝ }
+{
+    match answer {
+        listener::Answer::Doze(_) => false,
+        listener::Answer::Found => false,
+        listener::Answer::Absent => false,
+        listener::Answer::Refused(number) => number == 14,
+    }
+}
+
+// A bucket's line as numbers.
+fn line_answer(answer: BucketLine) -> LineAnswer
+    ensures { λ r. ⌜ r ≡ lineAnswer (BucketLines.numbers answer) ⌝ }
+{
+    match answer {
+        BucketLine::Line(line) => LineAnswer {
+            number: 0,
+            place: 0,
+            present: 1,
+            tag: line.tag,
+            tare: line.tare,
+            code: line.code,
+            weighing: line.weighing,
+        },
+        BucketLine::Nothing => no_line(0),
+        BucketLine::Misprinted => no_line(8),
+    }
+}
+
+// No line, refused by a number or by none.
+fn no_line(number: u64) -> LineAnswer
+    ensures { λ r. ⌜ r ≡ lineAnswer (number ∷ []) ⌝ }
+{
+    LineAnswer {
+        number: number,
+        place: 0,
+        present: 0,
+        tag: 0,
+        tare: 0,
+        code: 0,
+        weighing: 0,
+    }
+}
+
 // Builds the cycle of a list into the front of out.
 #[no_mangle]
 pub extern "C" fn pansdaoh_build(
@@ -165,9 +230,11 @@ pub extern "C" fn pansdaoh_build(
     out: &mut [u8],
 ) -> Answer
     ensures { λ r.
-        ⌜ (r ≡ builtAnswer (Building.build (settings n p layout copies) (now (list .entry)) (length (now (out .entry))) .answer)) ×
+        ⌜ (r ≡
+        builtAnswer (Building.build (settings n p layout copies) (now (list .entry)) (length (now (out .entry))) .answer)) ×
         (now (out .exit) ≡
-        onto (Building.build (settings n p layout copies) (now (list .entry)) (length (now (out .entry))) .output) (now (out .entry))) ⌝ }
+        onto (Building.build (settings n p layout copies) (now (list .entry)) (length (now (out .entry))) .output)
+        (now (out .entry))) ⌝ }
 {
     let built = build::build(list, n, p, layout, copies, out);
     built_answer(built)
@@ -183,7 +250,11 @@ pub extern "C" fn pansdaoh_read_back(
     copies: u64,
     out: &mut [u8],
 ) -> Answer
-    ensures { λ r. ⌜ Restores (settings n p layout copies) (now (image .entry)) (now (out .entry)) (now (out .exit)) r ⌝ }
+    ensures { λ r.
+        ⌜ (r ≡ restoredAnswer (readBack (settings n p layout copies) (now (image .entry)) (length (now (out .entry))) .answer)) ×
+        (now (out .exit) ≡
+        onto (readBack (settings n p layout copies) (now (image .entry)) (length (now (out .entry))) .output)
+        (now (out .entry))) ⌝ }
 {
     let restored = restore::read_back(image, n, p, layout, copies, out);
     restored_answer(restored)
@@ -215,13 +286,26 @@ pub extern "C" fn pansdaoh_start(state: &mut [u64; 8], tag: u64)
 pub extern "C" fn pansdaoh_step(state: &mut [u64; 8], bucket: &[u8]) -> Step
     ensures { λ r.
         ⌜ (r ≡ stepAnswer (stepFrom (now (state .entry)) (now (bucket .entry)))) ×
-        (now (state .exit) ≡ saved (stepFrom (now (state .entry)) (now (bucket .entry)) .listener)) ⌝ }
+        (now (state .exit) ≡ stateAfter (now (state .entry)) (stepFrom (now (state .entry)) (now (bucket .entry)))) ⌝ }
 {
     let l = Listener::restored(*state);
     let r = l.step(bucket);
+    let answer = r.answer;
+    if was_ended(answer) {
+        return step_answer(r);
+    }
     let next = r.listener;
     *state = next.saved();
     step_answer(r)
+}
+
+// Line i of a bucket as its four numbers.
+#[no_mangle]
+pub extern "C" fn pansdaoh_line(bucket: &[u8], i: u64) -> LineAnswer
+    ensures { λ r. ⌜ r ≡ lineAnswer (BucketLines.numbers (bucketLine i (readBucket (now (bucket .entry))))) ⌝ }
+{
+    let line = bucket_line::line_of(bucket, i);
+    line_answer(line)
 }
 
 // The buckets that a listener has taken.

@@ -12,6 +12,7 @@ use borrow.Author.Needs.{needs}
 use borrow.Author.Tests.{eqb-true, eqb-false, not-true, not-false}
 use Rattle.columns.specs.Lists.{pick, every}
 use Rattle.columns.specs.PrintedNumbers.{value, digit, readNumber, orMisprint}
+use Rattle.columns.specs.Starts.{Starts}
 use Rattle.columns.proofs.OnePass.{read-zero, read-digits}
 use Rattle.columns.proofs.Digits.{first-near, first-far}
 use Rattle.columns.proofs.Put.{to-the-end}
@@ -25,22 +26,24 @@ alone (c ∷ d ∷ s) h = absurd (omega arith)
 
 -- a first column, less 49 as bytes are counted, with columns behind it
 module _ (d : ℕ) where
-  no-first : (s : List ℕ) → 1 < length s → (getD s 0 0 ≡ 32 → ⊥) → (d + 49) % 2 ^ 8 ≡ getD s 0 0 → d < 256 → 8 < d
-      → readNumber s ≡ none
-  no-first [] h b e small far = absurd (omega arith)
-  no-first (c ∷ s) h b e small far = go (eqb c 48) refl
+  no-first : (s : List ℕ) → 1 < length s → Starts s → (d + 49) % 2 ^ 8 ≡ getD s 0 0 → d < 256 → 8 < d → readNumber s ≡ none
+  no-first [] h u e small far = absurd (omega arith)
+  no-first (c ∷ s) h u e small far = go (eqb c 48) refl
     where
       go : (t : Bool) → eqb c 48 ≡ t → readNumber (c ∷ s) ≡ none
       go true k = rw (eqb-true c 48 k) (read-zero s (omega arith))
       go false k =
-          rw (read-digits c s (λ p. b) (λ p. eqb-false c 48 k), first-far c d e small far (eqb-false c 48 k))
+          rw (
+            read-digits c s (λ p b. omega (arith, u .used b)) (λ p. eqb-false c 48 k),
+            first-far c d e small far (eqb-false c 48 k),
+          )
 
-  first-digit : (s : List ℕ) → 1 < length s → (getD s 0 0 ≡ 32 → ⊥) → (d + 49) % 2 ^ 8 ≡ getD s 0 0 → d ≤ 8
+  first-digit : (s : List ℕ) → 1 < length s → Starts s → (d + 49) % 2 ^ 8 ≡ getD s 0 0 → d ≤ 8
       → (every digit s ≡ every digit (drop 1 s)) × (readNumber s ≡ pick (every digit (drop 1 s)) (some (value 0 s)) none)
-  first-digit [] h b e near = absurd (omega arith)
-  first-digit (c ∷ s) h b e near =
+  first-digit [] h u e near = absurd (omega arith)
+  first-digit (c ∷ s) h u e near =
       let told = first-near c d e near in
-      (rw (told .0), rw (told .0) at (read-digits c s (λ p. b) (λ p. told .1)))
+      (rw (told .0), rw (told .0) at (read-digits c s (λ p b. omega (arith, u .used b)) (λ p. told .1)))
 
 -- where the first column was held against 49
 abbrev start : tie.After-wrapping-sub-u8 → tie.Start
@@ -50,14 +53,14 @@ abbrev bytes : tie.After-wrapping-sub-u8 → List ℕ
 bytes c = start c .args .part .now
 
 long : (c : tie.After-wrapping-sub-u8) → 1 < length (bytes c)
-long c = omega (arith, start c .pre .0, c .before .before .if1 .left)
+long c = omega (arith, start c .pre .some, c .before .before .if1 .left)
 
 first : (c : tie.Else2)
     → (every digit (bytes (c .before)) ≡ every digit (drop 1 (bytes (c .before)))) ×
     (readNumber (bytes (c .before)) ≡ pick (every digit (drop 1 (bytes (c .before)))) (some (value 0 (bytes (c .before)))) none)
 first c =
     let at = c .before in
-    first-digit _ _ (long at) (start at .pre .1 .1) (at .wrapping-sub-u8 .ensures) (c .if2 .left)
+    first-digit _ _ (long at) (start at .pre) (at .wrapping-sub-u8 .ensures) (c .if2 .left)
 
 -- what is told of the columns behind the first
 behind : (c : tie.After-all-digits) → every digit (drop 1 (bytes (c .before .before .before))) ≡ c .all-digits .result
@@ -73,7 +76,7 @@ returns-2 : tie.Need-returns-2
 returns-2 c =
     let at = c .before in
     let d = at .wrapping-sub-u8 in
-    ap orMisprint (sym (no-first _ _ (long at) (start at .pre .1 .1) (d .ensures) (d .ok) (c .if2 .taken)))
+    ap orMisprint (sym (no-first _ _ (long at) (start at .pre) (d .ensures) (d .ok) (c .if2 .taken)))
 
 returns-3 : tie.Need-returns-3
 returns-3 c =
@@ -85,7 +88,7 @@ rest : (c : tie.Else3) → every digit (drop 1 (bytes (c .before .before .before
 rest c = behind (c .before) ∙ not-false _ (c .if3 .left)
 
 spelled-requires : tie.Need-spelled-requires
-spelled-requires c κs = (start (c .before .before .before .before) .pre .1 .0, first (c .before .before .before) .0 ∙ rest c)
+spelled-requires c κs = (start (c .before .before .before .before) .pre .most, first (c .before .before .before) .0 ∙ rest c)
 
 returns-4 : tie.Need-returns-4
 returns-4 c = c .spelled .ensures ∙ rw (first (c .before .before .before .before) .1, rest (c .before))

@@ -1,40 +1,10 @@
--- `columns::read_ten` meets its contract.
--- Assumes nothing.
-use Prim.Native.Nat.{ℕ, _<_}
-use mathlib.Core.Path.{_≡_, refl, sym, _∙_}
-use mathlib.Core.List.{List}
+-- `columns::read_ten` meets its contract. Assumes nothing.
+use mathlib.Core.Path.{sym, _∙_}
 use native.Mathlib.Omega.{arith}
-use lib.ListN.{length, getD, take, drop}
-use lib.Seq.{getD-take}
 use borrow.Author.Needs.{needs}
-use Rattle.columns.specs.PrintedNumbers.{readNumber}
-use Rattle.columns.proofs.LeadingBlanks.{past-four, read-last}
+use Rattle.columns.proofs.LeadingBlanks.{all-read, behind-one, behind-two, read-last, starts-last}
 use Rattle.columns.proofs.read_ten.Statement.{statement}
 use Rattle.columns.proofs.read_ten.Tie as tie
-
--- the first four columns are blank
-past-front : (s : List ℕ) → 4 < length s
-    → (getD (take 4 s) 0 0 ≡ 32) × ((getD (take 4 s) 1 0 ≡ 32) × ((getD (take 4 s) 2 0 ≡ 32) × (getD (take 4 s) 3 0 ≡ 32)))
-    → readNumber s ≡ readNumber (drop 4 s)
-past-front s h b =
-    past-four s h
-    (sym (getD-take 4 s 0 0 (omega arith)) ∙ b .0)
-    (sym (getD-take 4 s 1 0 (omega arith)) ∙ b .1 .0)
-    (sym (getD-take 4 s 2 0 (omega arith)) ∙ b .1 .1 .0)
-    (sym (getD-take 4 s 3 0 (omega arith)) ∙ b .1 .1 .1)
-
-returns : tie.Need-returns
-returns c =
-    let front = c .before .before in
-    let start = front .before .before .before .before in
-    let long : 4 < length (start .args .part .now) = omega (arith, start .pre) in
-    c .read-six .ensures
-    ∙ read-last _ 4 6 (omega (arith, start .pre)) (past-front _ long (front .before .four-blank .ensures (front .if1 .taken)))
-
-returns-2 : tie.Need-returns-2
-returns-2 c =
-    let start = c .before .before .before .before .before .before in
-    c .read-wide .ensures ∙ read-last _ 0 10 (omega (arith, start .pre)) refl
 
 pub read-ten-spec : {M : Type 1} → statement M
 read-ten-spec =
@@ -48,9 +18,32 @@ read-ten-spec =
     (λ c. search needs)
     (λ c. search needs)
     (λ c κs. search needs)
-    returns
+    (λ c.
+    let at = c .before .before in
+    c .read-six .ensures ∙ read-last 4 5 _ (at .before .before .before .before .pre) (sym (at .before .all-blank .ensures) ∙ at .if1 .taken))
+    (λ c. search needs)
+    (λ c. search needs)
+    (λ c. search needs)
+    (λ c. search needs)
+    (λ c κs.
+    let start = c .before .before .before .before .before .before .before in
+    starts-last 0 9 (start .args .part .now) (start .pre) (omega arith) (λ b. absurd (c .before .if2 .taken b)))
+    (λ c. c .read-digits .ensures ∙ all-read 9 _ (c .before .before .before .before .before .before .before .before .pre))
+    (λ c. search needs)
+    (λ c. search needs)
+    (λ c. search needs)
+    (λ c. search needs)
+    (λ c κs.
+    let start = c .before .before .before .before .before .before .before .before .before in
+    starts-last 1 8 (start .args .part .now) (start .pre) (omega arith) (λ b. absurd (c .before .if3 .taken b)))
+    (λ c.
+    let at = c .before .before .before .before in
+    c .read-digits2 .ensures ∙ behind-one 8 _ (at .before .before .before .before .before .before .pre) (at .if2 .left))
     (λ c. search needs)
     (λ c. search needs)
     (λ c. search needs)
     (λ c κs. search needs)
-    returns-2)
+    (λ c.
+    let at = c .before .before .before .before in
+    c .read-eight .ensures
+    ∙ behind-two 7 _ (at .before .before .before .before .before .before .pre) (at .if2 .left) (c .before .before .if3 .left)))

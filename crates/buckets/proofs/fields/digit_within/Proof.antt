@@ -8,12 +8,13 @@ use lib.ListN.{length, getD}
 use borrow.Author.Needs.{needs}
 use Rattle.columns.specs.PrintedNumbers.{readNumber, asNumber, orMisprint}
 use Rattle.columns.proofs.OnePass.{read-blank}
+use Rattle.buckets.specs.Lengths.{countWidth}
 use Rattle.buckets.proofs.Within.{first-used}
 use Rattle.buckets.proofs.fields.digit_within.Statement.{statement}
 use Rattle.buckets.proofs.fields.digit_within.Tie as tie
 
 -- the first column is blank
-second-alone : (s : List ℕ) → length s ≡ 2 → getD s 0 0 ≡ 32 → readNumber (getD s 1 0 ∷ []) ≡ readNumber s
+second-alone : (s : List ℕ) → length s ≡ countWidth → getD s 0 0 ≡ 32 → readNumber (getD s 1 0 ∷ []) ≡ readNumber s
 second-alone [] h b = absurd (omega arith)
 second-alone (a ∷ []) h b = absurd (omega arith)
 second-alone (a ∷ c ∷ []) h b = rw b (sym (read-blank (c ∷ []) (omega arith)))

@@ -8,6 +8,8 @@ use native.Mathlib.Omega.{arith}
 use borrow.Author.Needs.{needs}
 use Rattle.buckets.specs.Bucket.{columns}
 use Rattle.buckets.specs.Columns.{numberWithin, readFigures}
+use Rattle.buckets.specs.Lengths.{tagWidth, tareWidth, codeWidth, weighingWidth, tagStart, tareStart, codeStart}
+use Rattle.buckets.specs.Lengths.{weighingStart, tagMost, tareMost, codeMost, weighingMost}
 use Rattle.buckets.proofs.Answers.{number-found, number-none}
 use Rattle.buckets.proofs.Bounds.{answer-low, answer-high, answer-within}
 use Rattle.buckets.proofs.lines.read_figures.Statement.{statement}
@@ -33,39 +35,39 @@ up4 c = c .before .before .before .before .before
 abbrev bytes : tie.After-read-ten → List ℕ
 bytes c = start c .args .part .now
 
-tag-read : (c : tie.Else2) → numberWithin (start (up1 c) .args .low) 4294967295 (columns 0 10 (bytes (up1 c))) ≡ some (up1 c .read-ten .result)
+tag-read : (c : tie.Else2) → numberWithin (start (up1 c) .args .low) tagMost (columns tagStart tagWidth (bytes (up1 c))) ≡ some (up1 c .read-ten .result)
 unfolding columns
 tag-read c = answer-within _ _ _ _ (up1 c .read-ten .ensures) (omega arith) (c .before .if1 .left) (c .if2 .left)
 
-tare-read : (c : tie.After-known-told) → numberWithin 0 99999 (columns 10 6 (bytes (up1 (up2 c)))) ≡ some (c .before .tare .given .0 .0)
+tare-read : (c : tie.After-known-told) → numberWithin 0 tareMost (columns tareStart tareWidth (bytes (up1 (up2 c)))) ≡ some (c .before .tare .given .0 .0)
 unfolding columns
 tare-read c = number-found _ (sym (c .before .before .before .six-within .ensures) ∙ c .before .tare .given .1)
 
-code-read : (c : tie.After-known-told2) → numberWithin 0 9999 (columns 16 4 (bytes (up1 (up2 (up3 c))))) ≡ some (c .before .code .given .0 .0)
+code-read : (c : tie.After-known-told2) → numberWithin 0 codeMost (columns codeStart codeWidth (bytes (up1 (up2 (up3 c))))) ≡ some (c .before .code .given .0 .0)
 unfolding columns
 code-read c = number-found _ (sym (c .before .before .before .four-within .ensures) ∙ c .before .code .given .1)
 
-weighing-read : (c : tie.After-known-told3) → numberWithin 0 999999 (columns 20 6 (bytes (up1 (up2 (up3 (up4 c)))))) ≡ some (c .before .weighing .given .0 .0)
+weighing-read : (c : tie.After-known-told3) → numberWithin 0 weighingMost (columns weighingStart weighingWidth (bytes (up1 (up2 (up3 (up4 c)))))) ≡ some (c .before .weighing .given .0 .0)
 unfolding columns
 weighing-read c = number-found _ (sym (c .before .before .before .six-within2 .ensures) ∙ c .before .weighing .given .1)
 
-low-tag : (c : tie.Then1) → numberWithin (start (c .before) .args .low) 4294967295 (columns 0 10 (bytes (c .before))) ≡ none
+low-tag : (c : tie.Then1) → numberWithin (start (c .before) .args .low) tagMost (columns tagStart tagWidth (bytes (c .before))) ≡ none
 unfolding columns
 low-tag c = answer-low _ _ _ _ (c .before .read-ten .ensures) (c .if1 .taken)
 
-high-tag : (c : tie.Then2) → numberWithin (start (c .before .before) .args .low) 4294967295 (columns 0 10 (bytes (c .before .before))) ≡ none
+high-tag : (c : tie.Then2) → numberWithin (start (c .before .before) .args .low) tagMost (columns tagStart tagWidth (bytes (c .before .before))) ≡ none
 unfolding columns
 high-tag c = answer-high _ _ _ _ (c .before .before .read-ten .ensures) (c .before .if1 .left) (c .if2 .taken)
 
-no-tare : (c : tie.After-enum-told) → numberWithin 0 99999 (columns 10 6 (bytes (up1 (c .before .before .before .before)))) ≡ none
+no-tare : (c : tie.After-enum-told) → numberWithin 0 tareMost (columns tareStart tareWidth (bytes (up1 (c .before .before .before .before)))) ≡ none
 unfolding columns
 no-tare c = number-none _ (sym (c .before .before .six-within .ensures) ∙ c .enum-told .given .1)
 
-no-code : (c : tie.After-enum-told2) → numberWithin 0 9999 (columns 16 4 (bytes (up1 (up2 (c .before .before .before .before))))) ≡ none
+no-code : (c : tie.After-enum-told2) → numberWithin 0 codeMost (columns codeStart codeWidth (bytes (up1 (up2 (c .before .before .before .before))))) ≡ none
 unfolding columns
 no-code c = number-none _ (sym (c .before .before .four-within .ensures) ∙ c .enum-told2 .given .1)
 
-no-weighing : (c : tie.After-enum-told3) → numberWithin 0 999999 (columns 20 6 (bytes (up1 (up2 (up3 (c .before .before .before .before)))))) ≡ none
+no-weighing : (c : tie.After-enum-told3) → numberWithin 0 weighingMost (columns weighingStart weighingWidth (bytes (up1 (up2 (up3 (c .before .before .before .before)))))) ≡ none
 unfolding columns
 no-weighing c = number-none _ (sym (c .before .before .six-within2 .ensures) ∙ c .enum-told3 .given .1)
 

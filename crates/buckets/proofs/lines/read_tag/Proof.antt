@@ -1,6 +1,6 @@
 -- `buckets::lines::read_tag` meets its contract: the tag, and the columns behind it.
 -- Assumes nothing.
-use Prim.Native.Nat.{ℕ, _≤_}
+use Prim.Native.Nat.{ℕ, _≤_, _-_}
 use mathlib.Core.Path.{_≡_, sym, ap, _∙_}
 use mathlib.Core.Option.{none, some}
 use mathlib.Core.List.{List}
@@ -11,6 +11,7 @@ use Rattle.columns.specs.Places.{columnsPrinted}
 use Rattle.buckets.specs.Bucket.{columns}
 use Rattle.buckets.specs.Held.{tagOrMisprint}
 use Rattle.buckets.specs.Columns.{numberWithin, readFigures, restPlaces}
+use Rattle.buckets.specs.Lengths.{tagWidth, tareWidth, tagStart, tareStart, figuresWidth, restWidth, tagMost}
 use Rattle.buckets.proofs.Bounds.{answer-low, answer-high, answer-within}
 use Rattle.buckets.proofs.Within.{columns-first}
 use Rattle.buckets.proofs.PrintedRest.{rest-misprinted, tare-too-long, tag-answered}
@@ -24,16 +25,16 @@ start c = c .before .before .before
 abbrev bytes : tie.After-read-ten → List ℕ
 bytes c = start c .args .part .now
 
-low-tag : (c : tie.Then1) → numberWithin (start (c .before) .args .low) 4294967295 (columns 0 10 (bytes (c .before))) ≡ none
+low-tag : (c : tie.Then1) → numberWithin (start (c .before) .args .low) tagMost (columns tagStart tagWidth (bytes (c .before))) ≡ none
 unfolding columns
 low-tag c = answer-low _ _ _ _ (c .before .read-ten .ensures) (c .if1 .taken)
 
-high-tag : (c : tie.Then2) → numberWithin (start (c .before .before) .args .low) 4294967295 (columns 0 10 (bytes (c .before .before))) ≡ none
+high-tag : (c : tie.Then2) → numberWithin (start (c .before .before) .args .low) tagMost (columns tagStart tagWidth (bytes (c .before .before))) ≡ none
 unfolding columns
 high-tag c = answer-high _ _ _ _ (c .before .before .read-ten .ensures) (c .before .if1 .left) (c .if2 .taken)
 
 tag-read : (c : tie.Else2)
-    → numberWithin (start (c .before .before) .args .low) 4294967295 (columns 0 10 (bytes (c .before .before)))
+    → numberWithin (start (c .before .before) .args .low) tagMost (columns tagStart tagWidth (bytes (c .before .before)))
     ≡ some (c .before .before .read-ten .result)
 unfolding columns
 tag-read c = answer-within _ _ _ _ (c .before .before .read-ten .ensures) (omega arith) (c .before .if1 .left) (c .if2 .left)
@@ -47,8 +48,8 @@ unfolding readFigures
 returns-2 c = rw (high-tag c)
 
 -- the first column of the tare
-tare-first : (s : List ℕ) → 26 ≤ length s → getD (columns 10 6 s) 0 0 ≡ getD s 10 0
-tare-first s h = columns-first 10 5 s (omega arith)
+tare-first : (s : List ℕ) → figuresWidth ≤ length s → getD (columns tareStart tareWidth s) 0 0 ≡ getD s tareStart 0
+tare-first s h = columns-first tareStart (tareWidth - 1) s (omega arith)
 
 returns-3 : tie.Need-returns-3
 returns-3 c =
@@ -62,7 +63,7 @@ returns-3 c =
 
 -- what is told of the columns behind the tag
 rest : (c : tie.After-rest-printed)
-    → c .rest-printed .result ≡ columnsPrinted restPlaces 32 (columns 10 16 (bytes (c .before .before .before .before .before .before)))
+    → c .rest-printed .result ≡ columnsPrinted restPlaces 32 (columns tareStart restWidth (bytes (c .before .before .before .before .before .before)))
 unfolding columns
 rest c = c .rest-printed .ensures
 

@@ -2,7 +2,7 @@
 -- Assumes nothing.
 use Prim.Native.Nat.{ℕ, suc, _+_, _-_, _≤_, _<_}
 use mathlib.Core.Path.{_≡_, refl, sym, _∙_}
-use mathlib.Core.Bool.{Bool, true, _&&_}
+use mathlib.Core.Bool.{Bool, _&&_}
 use mathlib.Core.List.{List}
 use native.Mathlib.Numerals.{add-one}
 use native.Mathlib.Omega.{arith}
@@ -12,6 +12,7 @@ use borrow.Author.Needs.{needs}
 use Rattle.columns.specs.Places.{columnPrinted, columnsPrinted}
 use Rattle.columns.proofs.Strict.{and-true, and-assoc}
 use Rattle.buckets.specs.Columns.{restPlaces}
+use Rattle.buckets.specs.Lengths.{restWidth}
 use Rattle.buckets.proofs.lines.rest_printed.Statement.{statement}
 use Rattle.buckets.proofs.lines.rest_printed.Tie as tie
 
@@ -29,10 +30,10 @@ module _ (ks s : List ℕ) (i b : ℕ) (still : Bool) (e : columnsPrinted ks 32 
 
 abbrev Inv-loop : tie.InvT-loop
 Inv-loop part places still₀ before₀ i₀ still before i =
-    (i ≤ 16) × (columnsPrinted restPlaces 32 part ≡ (still && columnsPrinted (drop i restPlaces) before (drop i part)))
+    (i ≤ restWidth) × (columnsPrinted restPlaces 32 part ≡ (still && columnsPrinted (drop i restPlaces) before (drop i part)))
 
 abbrev μ-loop : tie.MeasureT-loop
-μ-loop part places still₀ before₀ i₀ still before i = 16 - i
+μ-loop part places still₀ before₀ i₀ still before i = restWidth - i
 
 loop-again : tie.Need-loop-again Inv-loop μ-loop
 loop-again c =

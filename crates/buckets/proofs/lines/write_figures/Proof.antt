@@ -9,6 +9,8 @@ use Rattle.columns.specs.PrintedNumbers.{print, blanks}
 use Rattle.columns.proofs.Padded.{padded-nil, padded-full, ready, printed}
 use Rattle.buckets.specs.declared.Line.{Line}
 use Rattle.buckets.specs.ListLine.{figures}
+use Rattle.buckets.specs.Lengths.{tagWidth, tareWidth, codeWidth, weighingWidth, tagStart, tareStart, codeStart}
+use Rattle.buckets.specs.Lengths.{weighingStart, figuresWidth}
 use Rattle.buckets.proofs.lines.write_figures.Statement.{statement}
 use Rattle.buckets.proofs.lines.write_figures.Tie as tie
 
@@ -29,46 +31,46 @@ abbrev line4 : tie.After-print-at4 → Line
 line4 c = line3 (c .before .before .before .before)
 
 -- the columns after each number
-blanked : (c : tie.After-print-blanks) → c .print-blanks .last .0 ≡ padded 26 []
-blanked c = c .print-blanks .ensures ∙ ap blanks (c .before .before .before .pre) ∙ sym (padded-nil 26)
+blanked : (c : tie.After-print-blanks) → c .print-blanks .last .0 ≡ padded figuresWidth []
+blanked c = c .print-blanks .ensures ∙ ap blanks (c .before .before .before .pre) ∙ sym (padded-nil figuresWidth)
 
-to-tag : (c : tie.After-print-at) → c .print-at .last .0 ≡ padded 26 (print 10 (line1 c .tag))
-to-tag c = printed 26 0 10 10 [] (blanked (c .before .before .before .before)) refl refl (lit≤ tt) (line1 c .tag) (c .print-at .ensures)
+to-tag : (c : tie.After-print-at) → c .print-at .last .0 ≡ padded figuresWidth (print tagWidth (line1 c .tag))
+to-tag c = printed figuresWidth tagStart tagWidth tareStart [] (blanked (c .before .before .before .before)) refl refl (lit≤ tt) (line1 c .tag) (c .print-at .ensures)
 
-to-tare : (c : tie.After-print-at2) → c .print-at2 .last .0 ≡ padded 26 (print 10 (line2 c .tag) ++ print 6 (line2 c .tare))
+to-tare : (c : tie.After-print-at2) → c .print-at2 .last .0 ≡ padded figuresWidth (print tagWidth (line2 c .tag) ++ print tareWidth (line2 c .tare))
 to-tare c =
-    printed 26 10 6 16 _ (to-tag (c .before .before .before .before)) refl refl (lit≤ tt) (line2 c .tare) (c .print-at2 .ensures)
+    printed figuresWidth tareStart tareWidth codeStart _ (to-tag (c .before .before .before .before)) refl refl (lit≤ tt) (line2 c .tare) (c .print-at2 .ensures)
 
-to-code : (c : tie.After-print-at3) → c .print-at3 .last .0 ≡ padded 26 ((print 10 (line3 c .tag) ++ print 6 (line3 c .tare)) ++ print 4 (line3 c .code))
+to-code : (c : tie.After-print-at3) → c .print-at3 .last .0 ≡ padded figuresWidth ((print tagWidth (line3 c .tag) ++ print tareWidth (line3 c .tare)) ++ print codeWidth (line3 c .code))
 to-code c =
-    printed 26 16 4 20 _ (to-tare (c .before .before .before .before)) refl refl (lit≤ tt) (line3 c .code) (c .print-at3 .ensures)
+    printed figuresWidth codeStart codeWidth weighingStart _ (to-tare (c .before .before .before .before)) refl refl (lit≤ tt) (line3 c .code) (c .print-at3 .ensures)
 
 to-weighing : (c : tie.After-print-at4) → c .print-at4 .last .0 ≡
-    padded 26 (((print 10 (line4 c .tag) ++ print 6 (line4 c .tare)) ++ print 4 (line4 c .code)) ++ print 6 (line4 c .weighing))
+    padded figuresWidth (((print tagWidth (line4 c .tag) ++ print tareWidth (line4 c .tare)) ++ print codeWidth (line4 c .code)) ++ print weighingWidth (line4 c .weighing))
 to-weighing c =
-    printed 26 20 6 26 _ (to-code (c .before .before .before .before)) refl refl (lit≤ tt) (line4 c .weighing) (c .print-at4 .ensures)
+    printed figuresWidth weighingStart weighingWidth figuresWidth _ (to-code (c .before .before .before .before)) refl refl (lit≤ tt) (line4 c .weighing) (c .print-at4 .ensures)
 
 print-blanks-requires : tie.Need-print-blanks-requires
 print-blanks-requires c κs = search needs
 
 print-at-requires : tie.Need-print-at-requires
-print-at-requires c κs = ready 26 0 10 10 [] (blanked (c .before .before .before)) refl refl (lit≤ tt)
+print-at-requires c κs = ready figuresWidth tagStart tagWidth tareStart [] (blanked (c .before .before .before)) refl refl (lit≤ tt)
 
 print-at-requires-2 : tie.Need-print-at-requires-2
-print-at-requires-2 c κs = ready 26 10 6 16 _ (to-tag (c .before .before .before)) refl refl (lit≤ tt)
+print-at-requires-2 c κs = ready figuresWidth tareStart tareWidth codeStart _ (to-tag (c .before .before .before)) refl refl (lit≤ tt)
 
 print-at-requires-3 : tie.Need-print-at-requires-3
-print-at-requires-3 c κs = ready 26 16 4 20 _ (to-tare (c .before .before .before)) refl refl (lit≤ tt)
+print-at-requires-3 c κs = ready figuresWidth codeStart codeWidth weighingStart _ (to-tare (c .before .before .before)) refl refl (lit≤ tt)
 
 print-at-requires-4 : tie.Need-print-at-requires-4
-print-at-requires-4 c κs = ready 26 20 6 26 _ (to-code (c .before .before .before)) refl refl (lit≤ tt)
+print-at-requires-4 c κs = ready figuresWidth weighingStart weighingWidth figuresWidth _ (to-code (c .before .before .before)) refl refl (lit≤ tt)
 
 same-length : tie.Need-same-length
 same-length c = search needs
 
 returns : tie.Need-returns
 unfolding figures
-returns c = to-weighing (c .before .before) ∙ padded-full 26 _ refl
+returns c = to-weighing (c .before .before) ∙ padded-full figuresWidth _ refl
 
 pub write-figures-spec : {M : Type 1} → statement M
 write-figures-spec =

@@ -9,15 +9,16 @@ use borrow.Author.Needs.{needs}
 use Rattle.columns.proofs.Put.{set-last}
 use Rattle.buckets.specs.declared.Line.{Line}
 use Rattle.buckets.specs.ListLine.{figures, printLine}
+use Rattle.buckets.specs.Lengths.{newline, figuresWidth, lineLength}
 use Rattle.buckets.proofs.ListLines.{length-figures}
 use Rattle.buckets.proofs.lines.write_line.Statement.{statement}
 use Rattle.buckets.proofs.lines.write_line.Tie as tie
 
-ended : (d : List ℕ) (l : Line) {last : List ℕ} → length d ≡ 27 → last ≡ figures l → set (last ++ drop 26 d) 26 10 ≡ printLine l
+ended : (d : List ℕ) (l : Line) {last : List ℕ} → length d ≡ lineLength → last ≡ figures l → set (last ++ drop figuresWidth d) figuresWidth newline ≡ printLine l
 unfolding printLine
 ended d l h e =
-    let one : length (drop 26 d) ≡ 1 = simp length-drop (omega arith) in
-    rw e (set-last (figures l) (drop 26 d) 26 10 (length-figures l) one)
+    let one : length (drop figuresWidth d) ≡ 1 = simp length-drop (omega arith) in
+    rw e (set-last (figures l) (drop figuresWidth d) figuresWidth newline (length-figures l) one)
 
 sub-write-figures : tie.Need-sub-write-figures
 sub-write-figures c = search needs

@@ -5,6 +5,7 @@ use mathlib.Core.Option.{none, some}
 use borrow.Author.Needs.{needs}
 use Rattle.buckets.specs.Bucket.{columns}
 use Rattle.buckets.specs.Columns.{numberWithin, readBlankPair}
+use Rattle.buckets.specs.Lengths.{placeWidth, distanceStart}
 use Rattle.buckets.proofs.Answers.{number-found, number-none}
 use Rattle.buckets.proofs.reader.read_blank_pair.Statement.{statement}
 use Rattle.buckets.proofs.reader.read_blank_pair.Tie as tie
@@ -12,17 +13,17 @@ use Rattle.buckets.proofs.reader.read_blank_pair.Tie as tie
 abbrev start : tie.After-six-within → tie.Start
 start c = c .before .before .before
 
-no-distance : (c : tie.After-enum-told) → numberWithin 1 (start (c .before .before) .args .n) (columns 10 6 (start (c .before .before) .args .part .now)) ≡ none
+no-distance : (c : tie.After-enum-told) → numberWithin 1 (start (c .before .before) .args .n) (columns distanceStart placeWidth (start (c .before .before) .args .part .now)) ≡ none
 unfolding columns
 no-distance c = number-none _ (sym (c .before .before .six-within .ensures) ∙ c .enum-told .given .1)
 
-distance-read : (c : tie.After-known-told) → numberWithin 1 (start (c .before .before .before) .args .n) (columns 10 6 (start (c .before .before .before) .args .part .now)) ≡ some (c .before .distance .given .0 .0)
+distance-read : (c : tie.After-known-told) → numberWithin 1 (start (c .before .before .before) .args .n) (columns distanceStart placeWidth (start (c .before .before .before) .args .part .now)) ≡ some (c .before .distance .given .0 .0)
 unfolding columns
 distance-read c = number-found _ (sym (c .before .before .before .six-within .ensures) ∙ c .before .distance .given .1)
 
 returns : tie.Need-returns
 unfolding readBlankPair
-returns c = rw (no-distance c)
+returns c = rw (no-distance (c .before)) (c .no-pair .ensures)
 
 returns-2 : tie.Need-returns-2
 unfolding readBlankPair
@@ -38,5 +39,6 @@ read-blank-pair-spec =
     (λ c κs. search needs)
     (λ c. search needs)
     (λ c. search needs)
+    (λ c κs. search needs)
     returns
     returns-2)

@@ -11,6 +11,7 @@ use Rattle.buckets.specs.declared.Head.{Head}
 use Rattle.buckets.specs.Bucket.{readBucket}
 use Rattle.buckets.specs.Held.{asReading}
 use Rattle.buckets.specs.Columns.{readHead, readIndex, readData, readByLetter, readFields}
+use Rattle.buckets.specs.Lengths.{newline, letterIndex, letterData, letterColumn, bucketEnd, bucketLength}
 use Rattle.buckets.proofs.Answers.{head-found, head-none}
 use Rattle.buckets.proofs.ByField.{head-bounds, read-bucket-fields}
 use Rattle.buckets.proofs.reader.read_bucket.Statement.{statement}
@@ -19,36 +20,36 @@ use Rattle.buckets.proofs.reader.read_bucket.Tie as tie
 -- ---- the stages of the definition
 
 module _ (s : List ℕ) where
-  wrong-length : (length s ≡ 240 → ⊥) → readBucket s ≡ none
+  wrong-length : (length s ≡ bucketLength → ⊥) → readBucket s ≡ none
   unfolding readFields
-  wrong-length h = read-bucket-fields s ∙ rw (ne-eqb (length s) 240 h)
+  wrong-length h = read-bucket-fields s ∙ rw (ne-eqb (length s) bucketLength h)
 
-  module _ (long : length s ≡ 240) where
-    no-newline : (getD s 239 0 ≡ 10 → ⊥) → readBucket s ≡ none
+  module _ (long : length s ≡ bucketLength) where
+    no-newline : (getD s bucketEnd 0 ≡ newline → ⊥) → readBucket s ≡ none
     unfolding readFields
-    no-newline h = read-bucket-fields s ∙ rw (eq-eqb (length s) 240 long, ne-eqb (getD s 239 0) 10 h)
+    no-newline h = read-bucket-fields s ∙ rw (eq-eqb (length s) bucketLength long, ne-eqb (getD s bucketEnd 0) newline h)
 
-    module _ (newline : getD s 239 0 ≡ 10) where
+    module _ (ended : getD s bucketEnd 0 ≡ newline) where
       no-head : readHead s ≡ none → readBucket s ≡ none
       unfolding readFields
-      no-head e = read-bucket-fields s ∙ rw (eq-eqb (length s) 240 long, eq-eqb (getD s 239 0) 10 newline, e)
+      no-head e = read-bucket-fields s ∙ rw (eq-eqb (length s) bucketLength long, eq-eqb (getD s bucketEnd 0) newline ended, e)
 
       module _ (h : Head) (head : readHead s ≡ some h) where
-        by-letter : readBucket s ≡ readByLetter (getD s 24 0) h s
+        by-letter : readBucket s ≡ readByLetter (getD s letterColumn 0) h s
         unfolding readFields
-        by-letter = read-bucket-fields s ∙ rw (eq-eqb (length s) 240 long, eq-eqb (getD s 239 0) 10 newline, head)
+        by-letter = read-bucket-fields s ∙ rw (eq-eqb (length s) bucketLength long, eq-eqb (getD s bucketEnd 0) newline ended, head)
 
-        by-index : getD s 24 0 ≡ 73 → readBucket s ≡ readIndex h s
+        by-index : getD s letterColumn 0 ≡ letterIndex → readBucket s ≡ readIndex h s
         unfolding readByLetter
-        by-index i = by-letter ∙ rw (eq-eqb (getD s 24 0) 73 i)
+        by-index i = by-letter ∙ rw (eq-eqb (getD s letterColumn 0) letterIndex i)
 
-        by-data : (getD s 24 0 ≡ 73 → ⊥) → getD s 24 0 ≡ 68 → readBucket s ≡ readData h s
+        by-data : (getD s letterColumn 0 ≡ letterIndex → ⊥) → getD s letterColumn 0 ≡ letterData → readBucket s ≡ readData h s
         unfolding readByLetter
-        by-data i d = by-letter ∙ rw (ne-eqb (getD s 24 0) 73 i, eq-eqb (getD s 24 0) 68 d)
+        by-data i d = by-letter ∙ rw (ne-eqb (getD s letterColumn 0) letterIndex i, eq-eqb (getD s letterColumn 0) letterData d)
 
-        no-letter : (getD s 24 0 ≡ 73 → ⊥) → (getD s 24 0 ≡ 68 → ⊥) → readBucket s ≡ none
+        no-letter : (getD s letterColumn 0 ≡ letterIndex → ⊥) → (getD s letterColumn 0 ≡ letterData → ⊥) → readBucket s ≡ none
         unfolding readByLetter
-        no-letter i d = by-letter ∙ rw (ne-eqb (getD s 24 0) 73 i, ne-eqb (getD s 24 0) 68 d)
+        no-letter i d = by-letter ∙ rw (ne-eqb (getD s letterColumn 0) letterIndex i, ne-eqb (getD s letterColumn 0) letterData d)
 
 -- ---- the answers
 
@@ -66,7 +67,7 @@ tested c = c .before .before .before .before
 abbrev bytes : tie.Else2 → List ℕ
 bytes c = c .before .before .before .before .args .part .now
 
-long : (c : tie.Else2) → length (bytes c) ≡ 240
+long : (c : tie.Else2) → length (bytes c) ≡ bucketLength
 long c = c .before .before .if1 .left
 
 head-read : (c : tie.After-known-told) → readHead (bytes (tested c)) ≡ some (c .before .head .given .0 .0)

@@ -8,6 +8,7 @@ use native.Mathlib.Omega.{arith}
 use borrow.Author.Needs.{needs}
 use Rattle.buckets.specs.Bucket.{columns}
 use Rattle.buckets.specs.Columns.{numberWithin, readEntry}
+use Rattle.buckets.specs.Lengths.{tagWidth, tagStart, tagMost, placeWidth, distanceStart}
 use Rattle.buckets.proofs.Answers.{number-found, number-none}
 use Rattle.buckets.proofs.Bounds.{answer-low, answer-high, answer-within}
 use Rattle.buckets.proofs.reader.read_entry.Statement.{statement}
@@ -26,23 +27,23 @@ passed c = c .before .before
 abbrev bytes : tie.After-read-ten → List ℕ
 bytes c = start c .args .part .now
 
-low-tag : (c : tie.Then1) → numberWithin (start (c .before) .args .low) 4294967295 (columns 0 10 (bytes (c .before))) ≡ none
+low-tag : (c : tie.Then1) → numberWithin (start (c .before) .args .low) tagMost (columns tagStart tagWidth (bytes (c .before))) ≡ none
 unfolding columns
 low-tag c = answer-low _ _ _ _ (c .before .read-ten .ensures) (c .if1 .taken)
 
-high-tag : (c : tie.Then2) → numberWithin (start (c .before .before) .args .low) 4294967295 (columns 0 10 (bytes (c .before .before))) ≡ none
+high-tag : (c : tie.Then2) → numberWithin (start (c .before .before) .args .low) tagMost (columns tagStart tagWidth (bytes (c .before .before))) ≡ none
 unfolding columns
 high-tag c = answer-high _ _ _ _ (c .before .before .read-ten .ensures) (c .before .if1 .left) (c .if2 .taken)
 
-tag-read : (c : tie.Else2) → numberWithin (start (first c) .args .low) 4294967295 (columns 0 10 (bytes (first c))) ≡ some (first c .read-ten .result)
+tag-read : (c : tie.Else2) → numberWithin (start (first c) .args .low) tagMost (columns tagStart tagWidth (bytes (first c))) ≡ some (first c .read-ten .result)
 unfolding columns
 tag-read c = answer-within _ _ _ _ (first c .read-ten .ensures) (omega arith) (c .before .if1 .left) (c .if2 .left)
 
-no-distance : (c : tie.After-enum-told) → numberWithin 1 (start (first (passed (c .before .before))) .args .n) (columns 10 6 (bytes (first (passed (c .before .before))))) ≡ none
+no-distance : (c : tie.After-enum-told) → numberWithin 1 (start (first (passed (c .before .before))) .args .n) (columns distanceStart placeWidth (bytes (first (passed (c .before .before))))) ≡ none
 unfolding columns
 no-distance c = number-none _ (sym (c .before .before .six-within .ensures) ∙ c .enum-told .given .1)
 
-distance-read : (c : tie.After-known-told) → numberWithin 1 (start (first (passed (c .before .before .before))) .args .n) (columns 10 6 (bytes (first (passed (c .before .before .before))))) ≡ some (c .before .distance .given .0 .0)
+distance-read : (c : tie.After-known-told) → numberWithin 1 (start (first (passed (c .before .before .before))) .args .n) (columns distanceStart placeWidth (bytes (first (passed (c .before .before .before))))) ≡ some (c .before .distance .given .0 .0)
 unfolding columns
 distance-read c = number-found _ (sym (c .before .before .before .six-within .ensures) ∙ c .before .distance .given .1)
 

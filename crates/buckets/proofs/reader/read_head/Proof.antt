@@ -8,6 +8,7 @@ use native.Mathlib.Omega.{arith}
 use borrow.Author.Needs.{needs}
 use Rattle.buckets.specs.Bucket.{columns}
 use Rattle.buckets.specs.Columns.{numberWithin, readHead}
+use Rattle.buckets.specs.Lengths.{placeWidth, positionStart, toCycleStart, toSegmentStart, bucketsMost}
 use Rattle.buckets.proofs.Answers.{number-found, number-none}
 use Rattle.buckets.proofs.Within.{field-only}
 use Rattle.buckets.proofs.reader.read_head.Statement.{statement}
@@ -32,44 +33,44 @@ position c = c .before .position .given .0 .0
 abbrev cycle : tie.After-known-told2 → ℕ
 cycle c = c .before .to-cycle .given .0 .0
 
-position-read : (c : tie.After-known-told) → numberWithin 0 99999 (columns 0 6 (bytes (up1 c))) ≡ some (position c)
+position-read : (c : tie.After-known-told) → numberWithin 0 bucketsMost (columns positionStart placeWidth (bytes (up1 c))) ≡ some (position c)
 unfolding columns
 position-read c = number-found _ (sym (c .before .before .before .six-within .ensures) ∙ c .before .position .given .1)
 
 cycle-read : (c : tie.After-known-told2)
-    → numberWithin 1 (99999 - position (up2 c)) (columns 6 6 (bytes (up1 (up2 c)))) ≡ some (cycle c)
+    → numberWithin 1 (bucketsMost - position (up2 c)) (columns toCycleStart placeWidth (bytes (up1 (up2 c)))) ≡ some (cycle c)
 unfolding columns
 cycle-read c = number-found _ (sym (c .before .before .before .six-within2 .ensures) ∙ c .before .to-cycle .given .1)
 
 segment-read : (c : tie.After-known-told3)
-    → numberWithin 1 (position (up2 (up3 c)) + cycle (up3 c)) (columns 12 6 (bytes (up1 (up2 (up3 c)))))
+    → numberWithin 1 (position (up2 (up3 c)) + cycle (up3 c)) (columns toSegmentStart placeWidth (bytes (up1 (up2 (up3 c)))))
     ≡ some (c .before .to-segment .given .0 .0)
 unfolding columns
 segment-read c = number-found _ (sym (c .before .before .before .six-within3 .ensures) ∙ c .before .to-segment .given .1)
 
 -- the bounds that keep sums and differences in range
-position-small : (c : tie.After-known-told) → position c ≤ 99999
-position-small c = field-only 0 99999 0 6 (bytes (up1 c)) (omega (arith, up1 c .pre)) (position-read c) .most
+position-small : (c : tie.After-known-told) → position c ≤ bucketsMost
+position-small c = field-only 0 bucketsMost positionStart placeWidth (bytes (up1 c)) (omega (arith, up1 c .pre)) (position-read c) .most
 
-cycle-small : (c : tie.After-known-told2) → cycle c ≤ 99999
+cycle-small : (c : tie.After-known-told2) → cycle c ≤ bucketsMost
 cycle-small c =
     let s = bytes (up1 (up2 c)) in
     omega
-    (arith, field-only 1 (99999 - position (up2 c)) 6 6 s (omega (arith, up1 (up2 c) .pre)) (cycle-read c) .most)
+    (arith, field-only 1 (bucketsMost - position (up2 c)) toCycleStart placeWidth s (omega (arith, up1 (up2 c) .pre)) (cycle-read c) .most)
 
-no-position : (c : tie.After-enum-told) → numberWithin 0 99999 (columns 0 6 (bytes (c .before .before .before .before .before))) ≡ none
+no-position : (c : tie.After-enum-told) → numberWithin 0 bucketsMost (columns positionStart placeWidth (bytes (c .before .before .before .before .before))) ≡ none
 unfolding columns
 no-position c = number-none _ (sym (c .before .before .six-within .ensures) ∙ c .enum-told .given .1)
 
 no-cycle : (c : tie.After-enum-told2) →
     let one = c .before .before .before .before in
-    numberWithin 1 (99999 - position one) (columns 6 6 (bytes (up1 one))) ≡ none
+    numberWithin 1 (bucketsMost - position one) (columns toCycleStart placeWidth (bytes (up1 one))) ≡ none
 unfolding columns
 no-cycle c = number-none _ (sym (c .before .before .six-within2 .ensures) ∙ c .enum-told2 .given .1)
 
 no-segment : (c : tie.After-enum-told3) →
     let two = c .before .before .before .before in
-    numberWithin 1 (position (up2 two) + cycle two) (columns 12 6 (bytes (up1 (up2 two)))) ≡ none
+    numberWithin 1 (position (up2 two) + cycle two) (columns toSegmentStart placeWidth (bytes (up1 (up2 two)))) ≡ none
 unfolding columns
 no-segment c = number-none _ (sym (c .before .before .six-within3 .ensures) ∙ c .enum-told3 .given .1)
 

@@ -7,8 +7,10 @@ use mathlib.Core.List.{List}
 use borrow.Author.Needs.{needs}
 use borrow.Author.Tests.{eq-eqb, ne-eqb}
 use Rattle.buckets.specs.Bucket.{columns}
-use Rattle.buckets.specs.Columns.{allBlank, readBlankPair, readPrintedPair, readPair}
+use Rattle.columns.specs.PrintedNumbers.{allBlank}
+use Rattle.buckets.specs.Columns.{readBlankPair, readPrintedPair, readPair}
 use Rattle.buckets.specs.Read.{asPairRead}
+use Rattle.buckets.specs.Lengths.{tagWidth, tagStart}
 use Rattle.buckets.proofs.reader.read_pair.Statement.{statement}
 use Rattle.buckets.proofs.reader.read_pair.Tie as tie
 
@@ -16,11 +18,11 @@ later : (n i : ℕ) (s : List ℕ) → (i ≡ 0 → ⊥) → readPair n i s ≡ 
 unfolding readPair
 later n i s h = rw (ne-eqb i 0 h)
 
-first-blank : (n i : ℕ) (s : List ℕ) → i ≡ 0 → allBlank (columns 0 10 s) ≡ true → readPair n i s ≡ readBlankPair n s
+first-blank : (n i : ℕ) (s : List ℕ) → i ≡ 0 → allBlank (columns tagStart tagWidth s) ≡ true → readPair n i s ≡ readBlankPair n s
 unfolding readPair
 first-blank n i s h b = rw (eq-eqb i 0 h, b)
 
-first-printed : (n i : ℕ) (s : List ℕ) → i ≡ 0 → allBlank (columns 0 10 s) ≡ false → readPair n i s ≡ readPrintedPair n s
+first-printed : (n i : ℕ) (s : List ℕ) → i ≡ 0 → allBlank (columns tagStart tagWidth s) ≡ false → readPair n i s ≡ readPrintedPair n s
 unfolding readPair
 first-printed n i s h b = rw (eq-eqb i 0 h, b)
 

@@ -19,7 +19,7 @@ entry-read c = entry-found _ (sym (c .before .before .before .read-entry .ensure
 
 returns : tie.Need-returns
 unfolding readPrintedPair
-returns c = rw (no-entry c)
+returns c = rw (no-entry (c .before)) (c .no-pair .ensures)
 
 returns-2 : tie.Need-returns-2
 unfolding readPrintedPair
@@ -27,4 +27,5 @@ returns-2 c = rw (entry-read c)
 
 pub read-printed-pair-spec : {M : Type 1} → statement M
 read-printed-pair-spec =
-    tie.close (tie.spec (λ c κs. search needs) (λ c. search needs) (λ c. search needs) returns returns-2)
+    tie.close
+    (tie.spec (λ c κs. search needs) (λ c. search needs) (λ c. search needs) (λ c κs. search needs) returns returns-2)

@@ -16,7 +16,9 @@ use Rattle.columns.proofs.FromTheRight.{length-blanks}
 use Rattle.columns.proofs.Printed.{length-padded}
 use Rattle.columns.proofs.Padded.{padded-nil, lent-blank, back-padded}
 use Rattle.buckets.specs.Bucket.{Pair, printPair}
-use Rattle.buckets.proofs.Pages.{headColumns, pairColumns, pairsFrom, index-front, front-started}
+use Rattle.buckets.specs.Lengths.{newline, letterIndex, positionStart, headWidth, entryWidth, bucketEnd, bucketLength}
+use Rattle.buckets.specs.Lengths.{pairsStart, pairsWidth, entriesStart}
+use Rattle.buckets.proofs.Pages.{frontOf, pairColumns, pairsFrom, index-front, front-started}
 use Rattle.buckets.proofs.writer.start_index.Statement.{statement}
 use Rattle.buckets.proofs.writer.start_index.Tie as tie
 
@@ -35,65 +37,65 @@ held s = pairsFrom (s .args .blank) (s .args .pairs) (s .args .tags .now) (s .ar
 
 -- what fills the columns after each part
 abbrev front1 : tie.Start → List ℕ
-front1 s = headColumns (s .args .head) 0 73 (s .args .pairs) (s .args .count)
+front1 s = frontOf (s .args .head) 0 letterIndex (s .args .pairs) (s .args .count)
 
 abbrev front2 : tie.Start → List ℕ
 front2 s = front1 s ++ pairColumns (held s)
 
 -- the columns themselves
 abbrev columns0 : tie.After-print-blanks → List ℕ
-columns0 c = c .print-blanks .last .0 ++ drop 240 (start0 c .args .part .now)
+columns0 c = c .print-blanks .last .0 ++ drop bucketLength (start0 c .args .part .now)
 
 abbrev columns1 : tie.After-write-head → List ℕ
-columns1 c = c .write-head .last .0 ++ drop 29 (columns0 (blank1 c))
+columns1 c = c .write-head .last .0 ++ drop pairsStart (columns0 (blank1 c))
 
 abbrev columns2 : tie.After-write-pairs → List ℕ
-columns2 c = take 29 (columns1 (head2 c)) ++ (c .write-pairs .last .0 ++ drop 64 (drop 29 (columns1 (head2 c))))
+columns2 c = take pairsStart (columns1 (head2 c)) ++ (c .write-pairs .last .0 ++ drop pairsWidth (drop pairsStart (columns1 (head2 c))))
 
 -- columns d that s fills to column a: a part of w behind it is blank, and has room for count items
-module _ {d : List ℕ} (a w : ℕ) (s : List ℕ) (e : d ≡ padded 240 s) (h : length s ≡ a) (f : a + w ≤ 240) where
+module _ {d : List ℕ} (a w : ℕ) (s : List ℕ) (e : d ≡ padded bucketLength s) (h : length s ≡ a) (f : a + w ≤ bucketLength) where
   lent-wide : length (take w (drop a d)) ≡ w
-  lent-wide = ap length (lent-blank 240 a w s e h f) ∙ length-blanks w
+  lent-wide = ap length (lent-blank bucketLength a w s e h f) ∙ length-blanks w
 
-  lent-ready : (count : ℕ) (ts ds : List ℕ) → 16 * count ≤ w → count ≤ length ts → count ≤ length ds →
+  lent-ready : (count : ℕ) (ts ds : List ℕ) → entryWidth * count ≤ w → count ≤ length ts → count ≤ length ds →
       (take w (drop a d) ≡ blanks (length (take w (drop a d)))) ×
-      ((16 * count ≤ length (take w (drop a d))) × ((count ≤ length ts) × (count ≤ length ds)))
+      ((entryWidth * count ≤ length (take w (drop a d))) × ((count ≤ length ts) × (count ≤ length ds)))
   lent-ready count ts ds r t g =
-      (lent-blank 240 a w s e h f ∙ ap blanks (sym lent-wide), (omega (arith, lent-wide), (t, g)))
+      (lent-blank bucketLength a w s e h f ∙ ap blanks (sym lent-wide), (omega (arith, lent-wide), (t, g)))
 
-all-blank : (d last : List ℕ) → length d ≡ 240 → last ≡ blanks (length (take 240 d)) → last ++ drop 240 d ≡ padded 240 []
+all-blank : (d last : List ℕ) → length d ≡ bucketLength → last ≡ blanks (length (take bucketLength d)) → last ++ drop bucketLength d ≡ padded bucketLength []
 all-blank d last h e =
-    let none : drop 240 d ≡ [] = rw (← h) (drop-length d) in
-    let all : length (take 240 d) ≡ 240 = length-part d 0 240 (omega arith) in
-    rw (none, e, all) (append-nil (blanks 240) ∙ sym (padded-nil 240))
+    let none : drop bucketLength d ≡ [] = ap (λ (k : ℕ). drop k d) (sym h) ∙ drop-length d in
+    let all : length (take bucketLength d) ≡ bucketLength = length-part d 0 bucketLength (omega arith) in
+    rw (none, e, all) (append-nil (blanks bucketLength) ∙ sym (padded-nil bucketLength))
 
-blanked : (c : tie.After-print-blanks) → columns0 c ≡ padded 240 []
+blanked : (c : tie.After-print-blanks) → columns0 c ≡ padded bucketLength []
 blanked c = all-blank (start0 c .args .part .now) (c .print-blanks .last .0) (start0 c .pre .0) (c .print-blanks .ensures)
 
-filled1 : (c : tie.After-write-head) → columns1 c ≡ padded 240 (front1 (start0 (blank1 c)))
-filled1 c = back-padded 240 0 29 [] (blanked (blank1 c)) refl (lit≤ tt) (front1 (start0 (blank1 c))) (c .write-head .ensures) refl
+filled1 : (c : tie.After-write-head) → columns1 c ≡ padded bucketLength (front1 (start0 (blank1 c)))
+filled1 c = back-padded bucketLength positionStart headWidth [] (blanked (blank1 c)) refl (lit≤ tt) (front1 (start0 (blank1 c))) (c .write-head .ensures) refl
 
 -- the pairs
 abbrev start2 : tie.After-write-pairs → tie.Start
 start2 c = start0 (blank1 (head2 c))
 
-room2 : (c : tie.After-write-pairs) → length (take 64 (drop 29 (columns1 (head2 c)))) ≡ 64
-room2 c = lent-wide 29 64 (front1 (start2 c)) (filled1 (head2 c)) refl (lit≤ tt)
+room2 : (c : tie.After-write-pairs) → length (take pairsWidth (drop pairsStart (columns1 (head2 c)))) ≡ pairsWidth
+room2 c = lent-wide pairsStart pairsWidth (front1 (start2 c)) (filled1 (head2 c)) refl (lit≤ tt)
 
 pairs-are : (c : tie.After-write-pairs) → c .write-pairs .last .0 ≡ pairColumns (held (start2 c))
 pairs-are c = c .write-pairs .ensures ∙ ap (λ (k : ℕ). padded k (joined printPair (held (start2 c)))) (room2 c)
 
-pairs-wide : (c : tie.After-write-pairs) → length (pairColumns (held (start2 c))) ≡ 64
+pairs-wide : (c : tie.After-write-pairs) → length (pairColumns (held (start2 c))) ≡ pairsWidth
 pairs-wide c = sym (ap length (pairs-are c)) ∙ c .write-pairs .kept .0 ∙ room2 c
 
-filled2 : (c : tie.After-write-pairs) → columns2 c ≡ padded 240 (front2 (start2 c))
+filled2 : (c : tie.After-write-pairs) → columns2 c ≡ padded bucketLength (front2 (start2 c))
 filled2 c =
-    back-padded 240 29 64 (front1 (start2 c)) (filled1 (head2 c)) refl (lit≤ tt) (pairColumns (held (start2 c))) (pairs-are c) (pairs-wide c)
+    back-padded bucketLength pairsStart pairsWidth (front1 (start2 c)) (filled1 (head2 c)) refl (lit≤ tt) (pairColumns (held (start2 c))) (pairs-are c) (pairs-wide c)
 
-front-wide : (c : tie.After-write-pairs) → length (front2 (start2 c)) ≡ 93
-front-wide c = length-append (front1 (start2 c)) (pairColumns (held (start2 c))) ∙ ap (λ (k : ℕ). 29 + k) (pairs-wide c)
+front-wide : (c : tie.After-write-pairs) → length (front2 (start2 c)) ≡ entriesStart
+front-wide c = length-append (front1 (start2 c)) (pairColumns (held (start2 c))) ∙ ap (λ (k : ℕ). headWidth + k) (pairs-wide c)
 
-whole : (c : tie.After-write-pairs) → set (columns2 c) 239 10 ≡ padded 239 (front2 (start2 c)) ++ 10 ∷ []
+whole : (c : tie.After-write-pairs) → set (columns2 c) bucketEnd newline ≡ padded bucketEnd (front2 (start2 c)) ++ newline ∷ []
 whole c = front-started (front2 (start2 c)) (front-wide c) (filled2 c)
 
 sub-print-blanks : tie.Need-sub-print-blanks
@@ -118,7 +120,7 @@ part-write-head-end : tie.Need-part-write-head-end
 part-write-head-end c = search needs
 
 write-head-requires : tie.Need-write-head-requires
-write-head-requires c κs = lent-blank 240 0 29 [] (blanked (c .before .before .before)) refl (lit≤ tt)
+write-head-requires c κs = lent-blank bucketLength positionStart headWidth [] (blanked (c .before .before .before)) refl (lit≤ tt)
 
 sub-write-pairs : tie.Need-sub-write-pairs
 sub-write-pairs c = search needs
@@ -133,7 +135,7 @@ write-pairs-requires : tie.Need-write-pairs-requires
 write-pairs-requires c κs =
     let p = c .before .before .before in
     let s = start0 (blank1 p) in
-    lent-ready 29 64 (front1 s) (filled1 p) refl (lit≤ tt) (s .args .pairs) (s .args .tags .now) (s .args .distances .now)
+    lent-ready pairsStart pairsWidth (front1 s) (filled1 p) refl (lit≤ tt) (s .args .pairs) (s .args .tags .now) (s .args .distances .now)
     (omega (arith, s .pre .1 .0)) (s .pre .1 .1 .0) (s .pre .1 .1 .1)
 
 slice-write-part : tie.Need-slice-write-part
@@ -142,9 +144,9 @@ slice-write-part c = search needs
 same-length : tie.Need-same-length
 same-length c =
     let p = c .before .before in
-    let wide : length (padded 239 (front2 (start2 p))) ≡ 239 = length-padded 239 (front2 (start2 p)) (omega (arith, front-wide p)) in
+    let wide : length (padded bucketEnd (front2 (start2 p))) ≡ bucketEnd = length-padded bucketEnd (front2 (start2 p)) (omega (arith, front-wide p)) in
     ap length (whole p)
-    ∙ length-append (padded 239 (front2 (start2 p))) (10 ∷ [])
+    ∙ length-append (padded bucketEnd (front2 (start2 p))) (newline ∷ [])
     ∙ ap (λ (k : ℕ). k + 1) wide
     ∙ sym (start2 p .pre .0)
 
@@ -153,7 +155,7 @@ returns c =
     let p = c .before .before in
     let s = start2 p in
     whole p
-    ∙ ap (λ (t : List ℕ). padded 239 t ++ 10 ∷ [])
+    ∙ ap (λ (t : List ℕ). padded bucketEnd t ++ newline ∷ [])
     (index-front (s .args .head) (s .args .blank) (s .args .pairs) (s .args .tags .now) (s .args .distances .now) (s .args .count) (s .pre .1 .1 .0)
     (s .pre .1 .1 .1))
 

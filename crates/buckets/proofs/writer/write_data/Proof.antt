@@ -11,8 +11,10 @@ use Rattle.columns.specs.PrintedNumbers.{blanks}
 use Rattle.columns.proofs.FromTheRight.{length-blanks}
 use Rattle.columns.proofs.Padded.{padded-nil, lent-blank, back-padded}
 use Rattle.buckets.specs.ListLine.{figures, listLines}
+use Rattle.buckets.specs.Lengths.{newline, letterData, lineLength, positionStart, headWidth, bucketEnd, bucketLength}
+use Rattle.buckets.specs.Lengths.{linesStart, linesWidth}
 use Rattle.buckets.proofs.Lists.{length-listLines}
-use Rattle.buckets.proofs.Pages.{headColumns, data-parts, newline-filled}
+use Rattle.buckets.proofs.Pages.{frontOf, data-parts, newline-filled}
 use Rattle.buckets.proofs.writer.write_data.Statement.{statement}
 use Rattle.buckets.proofs.writer.write_data.Tie as tie
 
@@ -31,41 +33,41 @@ start2 c = start0 (blank1 (head2 c))
 
 -- what fills the columns after each part
 abbrev front1 : tie.Start → List ℕ
-front1 s = headColumns (s .args .head) (s .args .follow-on) 68 0 (length (s .args .lines .now) / 27)
+front1 s = frontOf (s .args .head) (s .args .follow-on) letterData 0 (length (s .args .lines .now) / lineLength)
 
 abbrev lineColumns : tie.Start → List ℕ
-lineColumns s = padded 210 (joined figures (listLines (s .args .lines .now)))
+lineColumns s = padded linesWidth (joined figures (listLines (s .args .lines .now)))
 
 abbrev front2 : tie.Start → List ℕ
 front2 s = front1 s ++ lineColumns s
 
 -- the columns themselves
 abbrev columns1 : tie.After-write-head → List ℕ
-columns1 c = c .write-head .last .0 ++ drop 29 (blank1 c .print-blanks .last .0)
+columns1 c = c .write-head .last .0 ++ drop linesStart (blank1 c .print-blanks .last .0)
 
 abbrev columns2 : tie.After-write-lines → List ℕ
-columns2 c = take 29 (columns1 (head2 c)) ++ (c .write-lines .last .0 ++ drop 210 (drop 29 (columns1 (head2 c))))
+columns2 c = take linesStart (columns1 (head2 c)) ++ (c .write-lines .last .0 ++ drop linesWidth (drop linesStart (columns1 (head2 c))))
 
-blanked : (c : tie.After-print-blanks) → c .print-blanks .last .0 ≡ padded 240 []
-blanked c = c .print-blanks .ensures ∙ ap blanks (start0 c .pre .0) ∙ sym (padded-nil 240)
+blanked : (c : tie.After-print-blanks) → c .print-blanks .last .0 ≡ padded bucketLength []
+blanked c = c .print-blanks .ensures ∙ ap blanks (start0 c .pre .0) ∙ sym (padded-nil bucketLength)
 
-filled1 : (c : tie.After-write-head) → columns1 c ≡ padded 240 (front1 (start0 (blank1 c)))
-filled1 c = back-padded 240 0 29 [] (blanked (blank1 c)) refl (lit≤ tt) (front1 (start0 (blank1 c))) (c .write-head .ensures) refl
+filled1 : (c : tie.After-write-head) → columns1 c ≡ padded bucketLength (front1 (start0 (blank1 c)))
+filled1 c = back-padded bucketLength positionStart headWidth [] (blanked (blank1 c)) refl (lit≤ tt) (front1 (start0 (blank1 c))) (c .write-head .ensures) refl
 
-lent2 : (c : tie.After-write-head) → take 210 (drop 29 (columns1 c)) ≡ blanks 210
-lent2 c = lent-blank 240 29 210 (front1 (start0 (blank1 c))) (filled1 c) refl (lit≤ tt)
+lent2 : (c : tie.After-write-head) → take linesWidth (drop linesStart (columns1 c)) ≡ blanks linesWidth
+lent2 c = lent-blank bucketLength linesStart linesWidth (front1 (start0 (blank1 c))) (filled1 c) refl (lit≤ tt)
 
-lines-wide : (c : tie.After-write-lines) → length (lineColumns (start2 c)) ≡ 210
-lines-wide c = sym (ap length (c .write-lines .ensures)) ∙ c .write-lines .kept .0 ∙ ap length (lent2 (head2 c)) ∙ length-blanks 210
+lines-wide : (c : tie.After-write-lines) → length (lineColumns (start2 c)) ≡ linesWidth
+lines-wide c = sym (ap length (c .write-lines .ensures)) ∙ c .write-lines .kept .0 ∙ ap length (lent2 (head2 c)) ∙ length-blanks linesWidth
 
-filled2 : (c : tie.After-write-lines) → columns2 c ≡ padded 240 (front2 (start2 c))
+filled2 : (c : tie.After-write-lines) → columns2 c ≡ padded bucketLength (front2 (start2 c))
 filled2 c =
-    back-padded 240 29 210 (front1 (start2 c)) (filled1 (head2 c)) refl (lit≤ tt) (lineColumns (start2 c)) (c .write-lines .ensures) (lines-wide c)
+    back-padded bucketLength linesStart linesWidth (front1 (start2 c)) (filled1 (head2 c)) refl (lit≤ tt) (lineColumns (start2 c)) (c .write-lines .ensures) (lines-wide c)
 
-to-newline : (c : tie.After-write-lines) → length (front2 (start2 c)) ≡ 239
-to-newline c = length-append (front1 (start2 c)) (lineColumns (start2 c)) ∙ ap (λ (k : ℕ). 29 + k) (lines-wide c)
+to-newline : (c : tie.After-write-lines) → length (front2 (start2 c)) ≡ bucketEnd
+to-newline c = length-append (front1 (start2 c)) (lineColumns (start2 c)) ∙ ap (λ (k : ℕ). headWidth + k) (lines-wide c)
 
-whole : (c : tie.After-write-lines) → set (columns2 c) 239 10 ≡ front2 (start2 c) ++ 10 ∷ []
+whole : (c : tie.After-write-lines) → set (columns2 c) bucketEnd newline ≡ front2 (start2 c) ++ newline ∷ []
 whole c = newline-filled (front2 (start2 c)) (filled2 c) (to-newline c)
 
 print-blanks-requires : tie.Need-print-blanks-requires
@@ -81,7 +83,7 @@ part-write-head-end : tie.Need-part-write-head-end
 part-write-head-end c = search needs
 
 write-head-requires : tie.Need-write-head-requires
-write-head-requires c κs = lent-blank 240 0 29 [] (blanked (c .before .before .before)) refl (lit≤ tt)
+write-head-requires c κs = lent-blank bucketLength positionStart headWidth [] (blanked (c .before .before .before)) refl (lit≤ tt)
 
 sub-write-lines : tie.Need-sub-write-lines
 sub-write-lines c = search needs
@@ -101,14 +103,14 @@ slice-write-part c = search needs
 same-length : tie.Need-same-length
 same-length c =
     let p = c .before .before in
-    ap length (whole p) ∙ length-append (front2 (start2 p)) (10 ∷ []) ∙ ap (λ (k : ℕ). k + 1) (to-newline p) ∙ sym (start2 p .pre .0)
+    ap length (whole p) ∙ length-append (front2 (start2 p)) (newline ∷ []) ∙ ap (λ (k : ℕ). k + 1) (to-newline p) ∙ sym (start2 p .pre .0)
 
 returns : tie.Need-returns
 returns c =
     let p = c .before .before in
     let s = start2 p in
     whole p
-    ∙ data-parts (s .args .head) (s .args .follow-on) (length (s .args .lines .now) / 27) (listLines (s .args .lines .now))
+    ∙ data-parts (s .args .head) (s .args .follow-on) (length (s .args .lines .now) / lineLength) (listLines (s .args .lines .now))
     (length-listLines (s .args .lines .now))
 
 pub write-data-spec : {M : Type 1} → statement M

@@ -9,6 +9,7 @@ use Rattle.columns.specs.Lists.{put, padded}
 use Rattle.columns.specs.PrintedNumbers.{print, blanks}
 use Rattle.columns.proofs.Printed.{length-padded}
 use Rattle.columns.proofs.Padded.{padded-nil, ready, printed}
+use Rattle.buckets.specs.Lengths.{tagWidth, placeWidth, distanceStart, entryWidth}
 use Rattle.buckets.proofs.Fronts.{Room, entriesTo, length-entries-to, entry-written}
 use Rattle.buckets.proofs.writer.write_entries.Statement.{statement}
 use Rattle.buckets.proofs.writer.write_entries.Tie as tie
@@ -20,40 +21,40 @@ record Front (n count : ℕ) (ts ds part : List ℕ) (i : ℕ) : Type 0 where
 
 -- the first i entries and the next one's tag
 abbrev behind-tag : List ℕ → List ℕ → ℕ → List ℕ
-behind-tag ts ds i = entriesTo ts ds i ++ print 10 (getD ts i 0)
+behind-tag ts ds i = entriesTo ts ds i ++ print tagWidth (getD ts i 0)
 
 -- a turn: the next tag, and behind it the next distance
 module _ (n count : ℕ) (ts ds part : List ℕ) (i : ℕ) (r : Room n count ts ds) (o : Front n count ts ds part i) (h : i < count) where
-  wide : length (entriesTo ts ds i) ≡ i * 16
+  wide : length (entriesTo ts ds i) ≡ i * entryWidth
   wide = length-entries-to ts ds i (omega (arith, r .tags)) (omega (arith, r .distances))
 
-  tag-ready : (i * 16 ≤ i * 16 + 10) × ((i * 16 + 10 ≤ length part) × (take (i * 16 + 10 - i * 16) (drop (i * 16) part) ≡ blanks (i * 16 + 10 - i * 16)))
-  tag-ready = ready n (i * 16) 10 (i * 16 + 10) (entriesTo ts ds i) (o .is) wide refl (omega (arith, r .columns))
+  tag-ready : (i * entryWidth ≤ i * entryWidth + distanceStart) × ((i * entryWidth + distanceStart ≤ length part) × (take (i * entryWidth + distanceStart - i * entryWidth) (drop (i * entryWidth) part) ≡ blanks (i * entryWidth + distanceStart - i * entryWidth)))
+  tag-ready = ready n (i * entryWidth) tagWidth (i * entryWidth + distanceStart) (entriesTo ts ds i) (o .is) wide refl (omega (arith, r .columns))
 
-  tag-printed : {last : List ℕ} → last ≡ put part (i * 16) (print (i * 16 + 10 - i * 16) (getD ts i 0)) → last ≡ padded n (behind-tag ts ds i)
-  tag-printed e = printed n (i * 16) 10 (i * 16 + 10) (entriesTo ts ds i) (o .is) wide refl (omega (arith, r .columns)) (getD ts i 0) e
+  tag-printed : {last : List ℕ} → last ≡ put part (i * entryWidth) (print (i * entryWidth + distanceStart - i * entryWidth) (getD ts i 0)) → last ≡ padded n (behind-tag ts ds i)
+  tag-printed e = printed n (i * entryWidth) tagWidth (i * entryWidth + distanceStart) (entriesTo ts ds i) (o .is) wide refl (omega (arith, r .columns)) (getD ts i 0) e
 
-  wider : length (behind-tag ts ds i) ≡ i * 16 + 10
-  wider = length-append (entriesTo ts ds i) (print 10 (getD ts i 0)) ∙ ap (λ (k : ℕ). k + 10) wide
+  wider : length (behind-tag ts ds i) ≡ i * entryWidth + distanceStart
+  wider = length-append (entriesTo ts ds i) (print tagWidth (getD ts i 0)) ∙ ap (λ (k : ℕ). k + distanceStart) wide
 
   distance-ready : {d : List ℕ} → d ≡ padded n (behind-tag ts ds i) →
-      (i * 16 + 10 ≤ i * 16 + 16) × ((i * 16 + 16 ≤ length d) × (take (i * 16 + 16 - (i * 16 + 10)) (drop (i * 16 + 10) d) ≡ blanks (i * 16 + 16 - (i * 16 + 10))))
-  distance-ready e = ready n (i * 16 + 10) 6 (i * 16 + 16) (behind-tag ts ds i) e wider (omega arith) (omega (arith, r .columns))
+      (i * entryWidth + distanceStart ≤ i * entryWidth + entryWidth) × ((i * entryWidth + entryWidth ≤ length d) × (take (i * entryWidth + entryWidth - (i * entryWidth + distanceStart)) (drop (i * entryWidth + distanceStart) d) ≡ blanks (i * entryWidth + entryWidth - (i * entryWidth + distanceStart))))
+  distance-ready e = ready n (i * entryWidth + distanceStart) placeWidth (i * entryWidth + entryWidth) (behind-tag ts ds i) e wider (omega arith) (omega (arith, r .columns))
 
   distance-printed : {d last : List ℕ} → d ≡ padded n (behind-tag ts ds i) →
-      last ≡ put d (i * 16 + 10) (print (i * 16 + 16 - (i * 16 + 10)) (getD ds i 0)) → Front n count ts ds last (i + 1)
+      last ≡ put d (i * entryWidth + distanceStart) (print (i * entryWidth + entryWidth - (i * entryWidth + distanceStart)) (getD ds i 0)) → Front n count ts ds last (i + 1)
   distance-printed e p =
       record {
         within = omega arith;
         is =
-            printed n (i * 16 + 10) 6 (i * 16 + 16) (behind-tag ts ds i) e wider (omega arith) (omega (arith, r .columns)) (getD ds i 0) p
+            printed n (i * entryWidth + distanceStart) placeWidth (i * entryWidth + entryWidth) (behind-tag ts ds i) e wider (omega arith) (omega (arith, r .columns)) (getD ds i 0) p
             ∙ ap (padded n) (entry-written ts ds i (omega (arith, r .tags)) (omega (arith, r .distances)));
       }
 
 -- the columns stay as many
 long : (n count : ℕ) (ts ds part : List ℕ) (i : ℕ) → Room n count ts ds → Front n count ts ds part i → length part ≡ n
 long n count ts ds part i r o =
-    let wide : length (entriesTo ts ds i) ≡ i * 16 = length-entries-to ts ds i (omega (arith, r .tags, o .within)) (omega (arith, r .distances, o .within)) in
+    let wide : length (entriesTo ts ds i) ≡ i * entryWidth = length-entries-to ts ds i (omega (arith, r .tags, o .within)) (omega (arith, r .distances, o .within)) in
     ap length (o .is) ∙ length-padded n (entriesTo ts ds i) (omega (arith, r .columns, o .within))
 
 abbrev Inv-loop : tie.InvT-loop
@@ -69,7 +70,7 @@ room : (s : tie.Start Inv-loop μ-loop) → Room (length (s .args .part .now)) (
 room s = record { columns = s .pre .1 .0; tags = s .pre .1 .1 .0; distances = s .pre .1 .1 .1 }
 
 -- a turn's end fits a number
-fits : (c : tie.In-loop Inv-loop μ-loop) → c .before .loop .i * 16 + 16 < 18446744073709551616
+fits : (c : tie.In-loop Inv-loop μ-loop) → c .before .loop .i * entryWidth + entryWidth < 18446744073709551616
 fits c = let s = start (c .before) in omega (arith, s .good .0 .0, s .pre .1 .0, c .loop-test .taken)
 
 -- the turn, seen from each place

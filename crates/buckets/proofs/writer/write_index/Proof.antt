@@ -7,6 +7,7 @@ use lib.ListN.{length}
 use borrow.Author.Needs.{needs}
 use Rattle.columns.specs.Lists.{padded}
 use Rattle.buckets.specs.Held.{indexFront}
+use Rattle.buckets.specs.Lengths.{entriesStart}
 use Rattle.buckets.proofs.Pages.{pairsIn, entriesPrinted, front-wide, index-parts, front-room, front-blank, front-filled}
 use Rattle.buckets.proofs.writer.write_index.Statement.{statement}
 use Rattle.buckets.proofs.writer.write_index.Tie as tie
@@ -14,7 +15,7 @@ use Rattle.buckets.proofs.writer.write_index.Tie as tie
 abbrev start : tie.After-start-index → tie.Start
 start c = c .before .before .before .before .before .before .before .before
 
-wide : (c : tie.After-start-index) → length (indexFront (start c .args .head) (pairsIn (start c .args .t3)) (start c .args .t3 .entries)) ≡ 93
+wide : (c : tie.After-start-index) → length (indexFront (start c .args .head) (pairsIn (start c .args .t3)) (start c .args .t3 .entries)) ≡ entriesStart
 wide c =
     let x = start c .args .t3 in
     front-wide (start c .args .head) (x .blank) (x .pairs) (x .«pair_tags») (x .«pair_distances») (start c .args .t3 .entries) (start c .pre .1 .0)

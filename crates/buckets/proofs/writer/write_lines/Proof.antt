@@ -13,34 +13,35 @@ use Rattle.columns.proofs.Put.{length-part}
 use Rattle.columns.proofs.Padded.{padded-nil, back-padded}
 use Rattle.buckets.specs.declared.Line.{Line}
 use Rattle.buckets.specs.ListLine.{figures, printLine, spelled, listLines}
+use Rattle.buckets.specs.Lengths.{figuresWidth, lineLength, bucketLinesMost, linesWidth}
 use Rattle.buckets.proofs.ListLines.{length-figures}
 use Rattle.buckets.proofs.Lists.{length-listLines, print-of-list}
 use Rattle.buckets.proofs.Fronts.{linesTo, length-lines-to, line-written, figures-at}
 use Rattle.buckets.proofs.writer.write_lines.Statement.{statement}
 use Rattle.buckets.proofs.writer.write_lines.Tie as tie
 
--- s is a printed list of at most 8 lines
+-- s is a printed list of at most as many lines as a bucket has
 record Printed (s : List ℕ) : Type 0 where
   is : s ≡ joined printLine (listLines s)
-  count : length s ≡ length (listLines s) * 27
-  few : length s ≤ 216
+  count : length s ≡ length (listLines s) * lineLength
+  few : length s ≤ bucketLinesMost * lineLength
 
 -- the first i lines of s stand in the columns, and the next are to come from `from` to `at`
 record Front (s part : List ℕ) (from at : ℕ) : Type 0 where
   i : ℕ
   within : i ≤ length (listLines s)
-  source : from ≡ i * 27
-  place : at ≡ i * 26
-  is : part ≡ padded 210 (linesTo (listLines s) i)
+  source : from ≡ i * lineLength
+  place : at ≡ i * figuresWidth
+  is : part ≡ padded linesWidth (linesTo (listLines s) i)
 
 module _ (s part : List ℕ) (from at : ℕ) (l : Printed s) (o : Front s part from at) where
   wide : length (linesTo (listLines s) (o .i)) ≡ at
   wide = length-lines-to (listLines s) (o .i) (o .within) ∙ sym (o .place)
 
-  long : length part ≡ 210
-  long = ap length (o .is) ∙ length-padded 210 (linesTo (listLines s) (o .i)) (omega (arith, wide, o .place, o .within, l .count, l .few))
+  long : length part ≡ linesWidth
+  long = ap length (o .is) ∙ length-padded linesWidth (linesTo (listLines s) (o .i)) (omega (arith, wide, o .place, o .within, l .count, l .few))
 
-  done : length s ≤ from → part ≡ padded 210 (joined figures (listLines s))
+  done : length s ≤ from → part ≡ padded linesWidth (joined figures (listLines s))
   done h =
       let end : o .i ≡ length (listLines s) = omega (arith, o .within, o .source, l .count) in
       o .is ∙ rw (end, take-length (listLines s))
@@ -50,36 +51,36 @@ module _ (s part : List ℕ) (from at : ℕ) (l : Printed s) (o : Front s part f
   more : o .i < length (listLines s)
   more = omega (arith, o .source, l .count)
 
-  source-end : from + 26 ≤ length s
+  source-end : from + figuresWidth ≤ length s
   source-end = omega (arith, o .source, l .count)
 
-  place-end : at + 26 ≤ 210
+  place-end : at + figuresWidth ≤ linesWidth
   place-end = omega (arith, more, o .place, l .count, l .few)
 
-  six-and-twenty : (k : ℕ) → k + 26 - k ≡ 26
-  six-and-twenty k = omega arith
+  lent-width : (k : ℕ) → k + figuresWidth - k ≡ figuresWidth
+  lent-width k = omega arith
 
-  as-wide : length (take (from + 26 - from) (drop from s)) ≡ length (take (at + 26 - at) (drop at part))
+  as-wide : length (take (from + figuresWidth - from) (drop from s)) ≡ length (take (at + figuresWidth - at) (drop at part))
   as-wide =
-      rw (six-and-twenty from, six-and-twenty at)
-      (length-part s from 26 source-end ∙ sym (length-part part at 26 (omega (arith, long s part from at l o, place-end))))
+      rw (lent-width from, lent-width at)
+      (length-part s from figuresWidth source-end ∙ sym (length-part part at figuresWidth (omega (arith, long s part from at l o, place-end))))
 
-  next : {last : List ℕ} → last ≡ take (from + 26 - from) (drop from s) →
-      Front s (take at part ++ (last ++ drop (at + 26 - at) (drop at part))) (from + 27) (at + 26)
+  next : {last : List ℕ} → last ≡ take (from + figuresWidth - from) (drop from s) →
+      Front s (take at part ++ (last ++ drop (at + figuresWidth - at) (drop at part))) (from + lineLength) (at + figuresWidth)
   next {last} e =
       let none : Line = spelled [] in
       let line : last ≡ figures (getD (listLines s) (o .i) none) =
-      e ∙ rw (six-and-twenty from, o .source) (figures-at s (listLines s) none (o .i) (l .is) more) in
+      e ∙ rw (lent-width from, o .source) (figures-at s (listLines s) none (o .i) (l .is) more) in
       record {
         i = o .i + 1;
         within = omega (arith, more);
         source = omega (arith, o .source);
         place = omega (arith, o .place);
         is =
-            rw (six-and-twenty at)
-            (back-padded 210 at 26 (linesTo (listLines s) (o .i)) (o .is) (wide s part from at l o) place-end (figures (getD (listLines s) (o .i) none))
+            rw (lent-width at)
+            (back-padded linesWidth at figuresWidth (linesTo (listLines s) (o .i)) (o .is) (wide s part from at l o) place-end (figures (getD (listLines s) (o .i) none))
             line (length-figures (getD (listLines s) (o .i) none)))
-            ∙ ap (padded 210) (line-written (listLines s) none (o .i) more);
+            ∙ ap (padded linesWidth) (line-written (listLines s) none (o .i) more);
       }
 
 abbrev Inv-loop : tie.InvT-loop
@@ -102,10 +103,10 @@ printed s =
 
 -- where a turn's line ends
 record Ends (s part : List ℕ) (from at : ℕ) : Type 0 where
-  source : from + 27 ≤ length s
-  few : length s ≤ 216
-  place : at + 26 ≤ 210
-  long : length part ≡ 210
+  source : from + lineLength ≤ length s
+  few : length s ≤ bucketLinesMost * lineLength
+  place : at + figuresWidth ≤ linesWidth
+  long : length part ≡ linesWidth
 
 ends : (c : tie.In-loop Inv-loop μ-loop) →
     Ends (start (c .before) .args .lines .now) (c .before .loop .part) (c .before .loop .from) (c .before .loop .at)
@@ -120,7 +121,7 @@ ends c =
     }
 
 loop-holds : tie.Need-loop-holds Inv-loop μ-loop
-loop-holds c = record { i = 0; within = omega arith; source = refl; place = refl; is = c .before .before .pre .0 ∙ sym (padded-nil 210) }
+loop-holds c = record { i = 0; within = omega arith; source = refl; place = refl; is = c .before .before .pre .0 ∙ sym (padded-nil linesWidth) }
 
 add-copy-columns : tie.Need-add-copy-columns Inv-loop μ-loop
 add-copy-columns c = omega (arith, ends c)
@@ -168,7 +169,7 @@ loop-again c =
 same-length : tie.Need-same-length Inv-loop μ-loop
 same-length c =
     let s = start (c .before) in
-    long _ _ _ _ (printed s) (c .before .loop .inv) ∙ sym (ap length (s .pre .0) ∙ length-blanks 210)
+    long _ _ _ _ (printed s) (c .before .loop .inv) ∙ sym (ap length (s .pre .0) ∙ length-blanks linesWidth)
 
 returns : tie.Need-returns Inv-loop μ-loop
 returns c = done _ _ _ _ (printed (start (c .before))) (c .before .loop .inv) (c .loop-test .left)

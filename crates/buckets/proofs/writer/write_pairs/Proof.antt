@@ -15,6 +15,7 @@ use Rattle.columns.proofs.Put.{to-the-end}
 use Rattle.columns.proofs.Padded.{padded-nil, padded-full, padded-on, padded-rest, padded-behind, back-padded, ready, printed}
 use Rattle.buckets.specs.Bucket.{Entry, printPair}
 use Rattle.buckets.specs.Held.{entriesOf, pairsOf}
+use Rattle.buckets.specs.Lengths.{tagWidth, placeWidth, distanceStart, entryWidth}
 use Rattle.buckets.proofs.Fronts.{Room, entriesTo, entryAt, length-entries-to, entries-first, pairs-printed, pairs-blank}
 use Rattle.buckets.proofs.writer.write_pairs.Statement.{statement}
 use Rattle.buckets.proofs.writer.write_pairs.Tie as tie
@@ -25,38 +26,38 @@ pairsTo blank ts ds count = joined printPair (pairsOf blank (take count (entries
 
 -- a first pair with a blank tag
 abbrev firstPair : ℕ → List ℕ
-firstPair x = blanks 10 ++ print 6 x
+firstPair x = blanks tagWidth ++ print placeWidth x
 
-length-first : (x : ℕ) → length (firstPair x) ≡ 16
+length-first : (x : ℕ) → length (firstPair x) ≡ entryWidth
 unfolding blanks
 length-first x = refl
 
-blank-front : (n : ℕ) → 10 ≤ n → (part : List ℕ) → part ≡ blanks n → part ≡ padded n (blanks 10)
-blank-front n h part e = e ∙ sym (padded-nil n) ∙ padded-on n 0 [] refl 10 h
+blank-front : (n : ℕ) → tagWidth ≤ n → (part : List ℕ) → part ≡ blanks n → part ≡ padded n (blanks tagWidth)
+blank-front n h part e = e ∙ sym (padded-nil n) ∙ padded-on n 0 [] refl tagWidth h
 
--- the columns d, which the first pair's distance fills to column 16, and what is written behind
+-- the columns d, which the first pair's distance ends, and what is written behind
 module _ (n count : ℕ) (ts ds d : List ℕ) (r : Room n count ts ds) (p : 0 < count) (e : d ≡ padded n (firstPair (getD ds 0 0))) where
   abbrev first : List ℕ
   first = firstPair (getD ds 0 0)
 
-  sixteen : length first ≡ 16
-  sixteen = length-first (getD ds 0 0)
+  pair-wide : length first ≡ entryWidth
+  pair-wide = length-first (getD ds 0 0)
 
   wide : length d ≡ n
-  wide = ap length e ∙ length-padded n first (omega (arith, r .columns, sixteen))
+  wide = ap length e ∙ length-padded n first (omega (arith, r .columns, pair-wide))
 
-  lent : take (length d - 16) (drop 16 d) ≡ blanks (n - 16)
-  lent = to-the-end d 16 (omega (arith, wide, r .columns)) ∙ ap (drop 16) e ∙ padded-rest n 16 first sixteen (omega (arith, r .columns))
+  lent : take (length d - entryWidth) (drop entryWidth d) ≡ blanks (n - entryWidth)
+  lent = to-the-end d entryWidth (omega (arith, wide, r .columns)) ∙ ap (drop entryWidth) e ∙ padded-rest n entryWidth first pair-wide (omega (arith, r .columns))
 
-  lent-wide : length (take (length d - 16) (drop 16 d)) ≡ n - 16
-  lent-wide = ap length lent ∙ length-blanks (n - 16)
+  lent-wide : length (take (length d - entryWidth) (drop entryWidth d)) ≡ n - entryWidth
+  lent-wide = ap length lent ∙ length-blanks (n - entryWidth)
 
   tail-long : (s : List ℕ) → count ≤ length s → count - 1 ≤ length (take (length s - 1) (drop 1 s))
   tail-long s h = rw (to-the-end s 1 (omega arith)) (simp length-drop (omega arith))
 
   entries-ready :
-      (take (length d - 16) (drop 16 d) ≡ blanks (length (take (length d - 16) (drop 16 d)))) ×
-      ((16 * (count - 1) ≤ length (take (length d - 16) (drop 16 d))) ×
+      (take (length d - entryWidth) (drop entryWidth d) ≡ blanks (length (take (length d - entryWidth) (drop entryWidth d)))) ×
+      ((entryWidth * (count - 1) ≤ length (take (length d - entryWidth) (drop entryWidth d))) ×
       ((count - 1 ≤ length (take (length ts - 1) (drop 1 ts))) × (count - 1 ≤ length (take (length ds - 1) (drop 1 ds)))))
   entries-ready = (
     lent ∙ ap blanks (sym lent-wide),
@@ -64,18 +65,18 @@ module _ (n count : ℕ) (ts ds d : List ℕ) (r : Room n count ts ds) (p : 0 < 
   )
 
   back : {last : List ℕ} →
-      last ≡ padded (length (take (length d - 16) (drop 16 d))) (entriesTo (take (length ts - 1) (drop 1 ts)) (take (length ds - 1) (drop 1 ds)) (count - 1)) →
-      (blank : Bool) → blank ≡ true → take 16 d ++ (last ++ drop (length d - 16) (drop 16 d)) ≡ padded n (pairsTo blank ts ds count)
+      last ≡ padded (length (take (length d - entryWidth) (drop entryWidth d))) (entriesTo (take (length ts - 1) (drop 1 ts)) (take (length ds - 1) (drop 1 ds)) (count - 1)) →
+      (blank : Bool) → blank ≡ true → take entryWidth d ++ (last ++ drop (length d - entryWidth) (drop entryWidth d)) ≡ padded n (pairsTo blank ts ds count)
   back {last} w blank t =
       let es = entriesTo (drop 1 ts) (drop 1 ds) (count - 1) in
-      let es-wide : length es ≡ (count - 1) * 16 =
+      let es-wide : length es ≡ (count - 1) * entryWidth =
       length-entries-to (drop 1 ts) (drop 1 ds) (count - 1) (simp length-drop (omega (arith, r .tags))) (simp length-drop (omega (arith, r .distances))) in
-      let fit : length (padded (n - 16) es) ≡ n - 16 = length-padded (n - 16) es (omega (arith, r .columns)) in
-      let got : last ≡ padded (n - 16) es = w ∙ rw (lent-wide, to-the-end ts 1 (omega (arith, r .tags)), to-the-end ds 1 (omega (arith, r .distances))) in
-      let all : length (first ++ padded (n - 16) es) ≡ n = length-append first (padded (n - 16) es) ∙ omega (arith, sixteen, fit, r .columns) in
-      rw wide (back-padded n 16 (n - 16) first e sixteen (omega (arith, r .columns)) (padded (n - 16) es) got fit)
-      ∙ padded-full n (first ++ padded (n - 16) es) all
-      ∙ padded-behind n 16 first sixteen es (omega (arith, r .columns))
+      let fit : length (padded (n - entryWidth) es) ≡ n - entryWidth = length-padded (n - entryWidth) es (omega (arith, r .columns)) in
+      let got : last ≡ padded (n - entryWidth) es = w ∙ rw (lent-wide, to-the-end ts 1 (omega (arith, r .tags)), to-the-end ds 1 (omega (arith, r .distances))) in
+      let all : length (first ++ padded (n - entryWidth) es) ≡ n = length-append first (padded (n - entryWidth) es) ∙ omega (arith, pair-wide, fit, r .columns) in
+      rw wide (back-padded n entryWidth (n - entryWidth) first e pair-wide (omega (arith, r .columns)) (padded (n - entryWidth) es) got fit)
+      ∙ padded-full n (first ++ padded (n - entryWidth) es) all
+      ∙ padded-behind n entryWidth first pair-wide es (omega (arith, r .columns))
       ∙ ap (padded n)
       (sym (pairs-blank (entryAt ts ds 0) (take (count - 1) (entriesOf (drop 1 ts) (drop 1 ds))))
       ∙ ap (λ (l : List Entry). joined printPair (pairsOf true l)) (sym (entries-first ts ds count p (r .tags) (r .distances)))
@@ -105,14 +106,14 @@ start1 c = c .before .before .before .before .before .before .before .before
 some : (s : tie.Start) → (s .args .count ≡ 0 → ⊥) → 0 < s .args .count
 some s n = omega (arith, n)
 
-ten-blank : (s : tie.Start) → (s .args .count ≡ 0 → ⊥) → s .args .part .now ≡ padded (length (s .args .part .now)) (blanks 10)
-ten-blank s n = blank-front _ (omega (arith, some s n, s .pre .1 .0)) _ (s .pre .0)
+tag-blank : (s : tie.Start) → (s .args .count ≡ 0 → ⊥) → s .args .part .now ≡ padded (length (s .args .part .now)) (blanks tagWidth)
+tag-blank s n = blank-front _ (omega (arith, some s n, s .pre .1 .0)) _ (s .pre .0)
 
 after-first : (c : tie.After-print-at) → c .print-at .last .0 ≡ padded (length (start1 c .args .part .now)) (firstPair (getD (start1 c .args .distances .now) 0 0))
 after-first c =
     let s = start1 c in
     let n = c .before .before .before .before .if1 .left in
-    printed _ 10 6 16 (blanks 10) (ten-blank s n) (length-blanks 10) refl (omega (arith, some s n, s .pre .1 .0)) (getD (s .args .distances .now) 0 0) (c .print-at .ensures)
+    printed _ distanceStart placeWidth entryWidth (blanks tagWidth) (tag-blank s n) (length-blanks tagWidth) refl (omega (arith, some s n, s .pre .1 .0)) (getD (s .args .distances .now) 0 0) (c .print-at .ensures)
 
 returns : tie.Need-returns
 returns c = no-pair (c .before .before .before .before) (c .if1 .taken)
@@ -124,7 +125,7 @@ print-at-requires : tie.Need-print-at-requires
 print-at-requires c κs =
     let s = c .before .before .before .before .before .before .before in
     let n = c .before .before .before .if1 .left in
-    ready _ 10 6 16 (blanks 10) (ten-blank s n) (length-blanks 10) refl (omega (arith, some s n, s .pre .1 .0))
+    ready _ distanceStart placeWidth entryWidth (blanks tagWidth) (tag-blank s n) (length-blanks tagWidth) refl (omega (arith, some s n, s .pre .1 .0))
 
 sub-write-entries : tie.Need-sub-write-entries
 sub-write-entries c = search needs

@@ -8,6 +8,7 @@ use native.Mathlib.Nat.{mul-le-mul}
 use native.Mathlib.Omega.{arith}
 use borrow.Author.Tests.{ne-eqb, eq-eqb}
 use Rattle.columns.specs.Lists.{pick}
+use Rattle.buckets.specs.Lengths.{tagWidth, lineLength, linesMost}
 use Rattle.cycle.specs.Held.{planOf, firstPlace, tagAt}
 use Rattle.cycle.specs.declared.Figures.{Figures}
 use Rattle.cycle.specs.declared.Source.the-variants.{List as InList}
@@ -29,9 +30,9 @@ returns c =
 record Lines (f : Figures) (list : List ℕ) (line : ℕ) : Type 0 where
   some : 1 ≤ line
   within : line < f .lines
-  few : f .lines ≤ 40000
-  whole : length list ≡ 27 * f .lines
-  before : 27 * line - 27 ≡ 27 * (line - 1)
+  few : f .lines ≤ linesMost
+  whole : length list ≡ lineLength * f .lines
+  before : lineLength * line - lineLength ≡ lineLength * (line - 1)
 
 lines : (c : tie.After-struct-known2) →
     Lines (c .before .before .before .before .args .f) (c .before .before .before .before .args .list .now)
@@ -83,9 +84,9 @@ returns-2 c =
     let list : List ℕ = s .args .list .now in
     let line : ℕ = (s .args .q + 1) * f .p in
     let tag : ℕ → ℕ = tagAt f InList list in
-    let told : take 10 (drop (27 * line - 27) list) ≡ take 10 (drop (27 * line) list) = c .before .before .same-tags .ensures .yes (c .before .if2 .taken) in
+    let told : take tagWidth (drop (lineLength * line - lineLength) list) ≡ take tagWidth (drop (lineLength * line) list) = c .before .before .same-tags .ensures .yes (c .before .if2 .taken) in
     let same : tag line ≡ tag (line - 1) =
-    sym (same-columns f list (s .pre .0) (line - 1) line (omega (arith, l)) (l .within) (ap (λ k. take 10 (drop k list)) (sym (l .before)) ∙ told)) in
+    sym (same-columns f list (s .pre .0) (line - 1) line (omega (arith, l)) (l .within) (ap (λ k. take tagWidth (drop k list)) (sym (l .before)) ∙ told)) in
     ap (λ z. z - s .args .x) (c .data-place .ensures)
     ∙ sym
     (follow-next f (s .pre .0 .ready) InList list (s .args .q) (s .args .x) (s .pre .2)
@@ -100,8 +101,8 @@ returns-3 c =
     let list : List ℕ = s .args .list .now in
     let line : ℕ = (s .args .q + 1) * f .p in
     let tag : ℕ → ℕ = tagAt f InList list in
-    let differ : take 10 (drop (27 * (line - 1)) list) ≡ take 10 (drop (27 * line) list) → ⊥ =
-    λ e. c .before .same-tags .ensures .no (c .if2 .left) (ap (λ k. take 10 (drop k list)) (l .before) ∙ e) in
+    let differ : take tagWidth (drop (lineLength * (line - 1)) list) ≡ take tagWidth (drop (lineLength * line) list) → ⊥ =
+    λ e. c .before .same-tags .ensures .no (c .if2 .left) (ap (λ k. take tagWidth (drop k list)) (l .before) ∙ e) in
     sym
     (follow-next f (s .pre .0 .ready) InList list (s .args .q) (s .args .x) (s .pre .2)
     (omega (arith, s .pre .1, c .before .before .before .if1 .left))

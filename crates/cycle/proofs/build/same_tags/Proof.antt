@@ -8,19 +8,20 @@ use native.Mathlib.Omega.{arith}
 use lib.ListN.{length, take, drop, getD}
 use lib.Seq.{getD-take, getD-drop, ext-getD}
 use Rattle.columns.proofs.Put.{length-part}
+use Rattle.buckets.specs.Lengths.{tagWidth}
 use Rattle.cycle.proofs.Deciding.{decides-no, decides-yes}
 use Rattle.cycle.proofs.build.same_tags.Statement.{statement}
 use Rattle.cycle.proofs.build.same_tags.Tie as tie
 
 abbrev Inv-loop : tie.InvT-loop
-Inv-loop list a b i₀ i = (i ≤ 10) × ((k : ℕ) → i ≤ k → k < 10 → getD list (a + k) 0 ≡ getD list (b + k) 0)
+Inv-loop list a b i₀ i = (i ≤ tagWidth) × ((k : ℕ) → i ≤ k → k < tagWidth → getD list (a + k) 0 ≡ getD list (b + k) 0)
 
 abbrev μ-loop : tie.MeasureT-loop
 μ-loop list a b i₀ i = i
 
 -- column k of a tag
-column : (s : List ℕ) (a k : ℕ) → k < 10 → getD (take 10 (drop a s)) k 0 ≡ getD s (a + k) 0
-column s a k h = getD-take 10 (drop a s) k 0 h ∙ getD-drop a s k 0
+column : (s : List ℕ) (a k : ℕ) → k < tagWidth → getD (take tagWidth (drop a s)) k 0 ≡ getD s (a + k) 0
+column s a k h = getD-take tagWidth (drop a s) k 0 h ∙ getD-drop a s k 0
 
 loop-holds : tie.Need-loop-holds Inv-loop μ-loop
 loop-holds c = (omega arith, λ k l h. absurd (omega arith))
@@ -45,7 +46,7 @@ returns c =
     let l = c .before .before .before .before .loop in
     let s = c .before .before .before .before .before in
     let k : ℕ = l .i - 1 in
-    let small : k < 10 = omega (arith, l .inv .0, c .before .before .before .loop-test .taken) in
+    let small : k < tagWidth = omega (arith, l .inv .0, c .before .before .before .loop-test .taken) in
     decides-no
     (λ e.
     c .if1 .taken
@@ -76,11 +77,11 @@ returns-2 c =
     let list : List ℕ = s .args .list .now in
     let a : ℕ = s .args .a in
     let b : ℕ = s .args .b in
-    let wide : length (take 10 (drop a list)) ≡ 10 = length-part list a 10 (s .pre .0) in
+    let wide : length (take tagWidth (drop a list)) ≡ tagWidth = length-part list a tagWidth (s .pre .0) in
     decides-yes
-    (ext-getD 0 (take 10 (drop a list)) (take 10 (drop b list)) (wide ∙ sym (length-part list b 10 (s .pre .1)))
+    (ext-getD 0 (take tagWidth (drop a list)) (take tagWidth (drop b list)) (wide ∙ sym (length-part list b tagWidth (s .pre .1)))
     (λ k h.
-    let small : k < 10 = omega arith in
+    let small : k < tagWidth = omega arith in
     column list a k small ∙ l .inv .1 k (omega (arith, c .loop-test .left)) small ∙ sym (column list b k small)))
 
 pub same-tags-spec : {M : Type 1} → statement M

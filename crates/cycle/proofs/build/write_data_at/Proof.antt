@@ -7,6 +7,7 @@ use mathlib.Core.List.{[], _∷_}
 use lib.ListN.{length}
 use borrow.Author.Needs.{needs}
 use Rattle.columns.proofs.Put.{length-part}
+use Rattle.buckets.specs.Lengths.{lineLength, linesMost, bucketLinesMost, bucketLength}
 use Rattle.cycle.specs.Layouts.{slot}
 use Rattle.cycle.specs.Held.{planOf, Stand}
 use Rattle.cycle.proofs.Readiness.{data-high}
@@ -37,13 +38,13 @@ start c = c .before .before .before .before .before .before
 
 text : (c : tie.After-lesser) →
     DataText (start c .args .f) (start c .args .list .now) (start c .pre .0 .sending) (start c .args .q)
-    (27 * (start c .args .q * start c .args .f .p)) (27 * c .lesser .result)
+    (lineLength * (start c .args .q * start c .args .f .p)) (lineLength * c .lesser .result)
 text c =
     data-text (start c .args .f) (start c .args .list .now) (start c .pre .0 .sending) (start c .args .q)
-    (27 * (start c .args .q * start c .args .f .p)) (27 * c .lesser .result) (in-data (start c)) refl (ap (λ m. 27 * m) (c .lesser .ensures))
+    (lineLength * (start c .args .q * start c .args .f .p)) (lineLength * c .lesser .result) (in-data (start c)) refl (ap (λ m. lineLength * m) (c .lesser .ensures))
 
 -- the same before that
-small : (s : tie.Start) → (s .args .q * s .args .f .p ≤ 40000) × ((s .args .q + 1) * s .args .f .p ≤ 40008)
+small : (s : tie.Start) → (s .args .q * s .args .f .p ≤ linesMost) × ((s .args .q + 1) * s .args .f .p ≤ linesMost + bucketLinesMost)
 small s =
     let t = data-text (s .args .f) (s .args .list .now) (s .pre .0 .sending) (s .args .q) _ _ (in-data s) refl refl in
     (omega (arith, t .low, t .few-all), t .next)
@@ -98,9 +99,9 @@ write-data-requires c κs =
     let call = c .before .before .before in
     let s = start call in
     let t = text call in
-    let room : 240 * s .args .x + 240 ≤ length (s .args .image .now) = omega (arith, seated s, below s, s .pre .0 .roomy) in
-    let wide : 240 * s .args .x + 240 - 240 * s .args .x ≡ 240 = omega arith in
-    (length-part (s .args .image .now) (240 * s .args .x) _ (omega (arith, room, wide)) ∙ wide, (t .whole-lines, (t .few, t .printed)))
+    let room : bucketLength * s .args .x + bucketLength ≤ length (s .args .image .now) = omega (arith, seated s, below s, s .pre .0 .roomy) in
+    let wide : bucketLength * s .args .x + bucketLength - bucketLength * s .args .x ≡ bucketLength = omega arith in
+    (length-part (s .args .image .now) (bucketLength * s .args .x) _ (omega (arith, room, wide)) ∙ wide, (t .whole-lines, (t .few, t .printed)))
 
 returns : tie.Need-returns
 returns c =
@@ -109,8 +110,8 @@ returns c =
     let call = head .before .before in
     let s = start call in
     let t = text call in
-    let room : 240 * s .args .x + 240 ≤ length (s .args .image .now) = omega (arith, seated s, below s, s .pre .0 .roomy) in
-    lent-written (s .args .image .now) (240 * s .args .x) 240 _ _ room (wrote .write-data .kept .0) (wrote .write-data .ensures)
+    let room : bucketLength * s .args .x + bucketLength ≤ length (s .args .image .now) = omega (arith, seated s, below s, s .pre .0 .roomy) in
+    lent-written (s .args .image .now) (bucketLength * s .args .x) bucketLength _ _ room (wrote .write-data .kept .0) (wrote .write-data .ensures)
     ∙ data-written (s .args .f) (s .args .list .now) (s .pre .0 .sending) (s .args .x) (omega (arith, seated s, below s))
     (s .args .image .now) (s .pre .0 .roomy) _ (head .head-at .ensures) (s .args .q) _ _ (stands s)
     (call .before .before .before .list-follow-on .ensures) (t .lines-are)

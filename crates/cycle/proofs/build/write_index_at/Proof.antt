@@ -5,12 +5,13 @@ use borrow.Author.Needs.{needs}
 use Rattle.cycle.proofs.Written.{lent-written}
 use Rattle.cycle.proofs.build.write_index_at.Statement.{statement}
 use Rattle.cycle.proofs.build.write_index_at.Tie as tie
+use Rattle.buckets.specs.Lengths.{bucketLength}
 
 returns : tie.Need-returns
 returns c =
     let call = c .before .before in
     let start = call .before .before .before in
-    lent-written (start .args .image .now) (240 * start .args .x) 240 _ _ (start .pre .0) (call .write-index .kept .0) (call .write-index .ensures)
+    lent-written (start .args .image .now) (bucketLength * start .args .x) bucketLength _ _ (start .pre .0) (call .write-index .kept .0) (call .write-index .ensures)
 
 pub write-index-at-spec : {M : Type 1} → statement M
 write-index-at-spec =

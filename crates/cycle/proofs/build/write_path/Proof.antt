@@ -6,6 +6,7 @@ use Prim.Native.Nat.{_+_, _-_, _≤_, _<_, max}
 use native.Mathlib.Omega.{arith}
 use lib.ListN.{length}
 use Rattle.buckets.specs.declared.Index.{Index}
+use Rattle.buckets.specs.Lengths.{pairsMost, entriesMost}
 use Rattle.cycle.specs.Held.{planIn, written}
 use Rattle.cycle.specs.declared.Source.the-variants.{List as InList}
 use Rattle.cycle.proofs.SegmentParts.{Seated, path-size, path-layout, path-few}
@@ -78,8 +79,8 @@ write-index-at-requires c κs =
     let at = loop .loop .inv .2 in (
       omega (arith, seated s, path-end s, turn .if1 .taken, loop .loop .inv, long loop, s .pre .roomy),
       omega (arith, seated s, path-end s, turn .if1 .taken, loop .loop .inv),
-      subst (λ (i : Index). i .pairs ≤ 4) (sym is) (rw (← at) at (held .few-pairs)),
-      subst (λ (i : Index). i .entries ≤ 8) (sym is) (rw (← at) at (held .few-entries)),
+      subst (λ (i : Index). i .pairs ≤ pairsMost) (sym is) (rw (← at) at (held .few-pairs)),
+      subst (λ (i : Index). i .entries ≤ entriesMost) (sym is) (rw (← at) at (held .few-entries)),
     )
 
 add-x : tie.Need-add-x Inv-loop μ-loop

@@ -7,8 +7,9 @@ use native.Mathlib.Omega.{arith}
 use lib.ListN.{length}
 use mathlib.Core.List.{[]}
 use Rattle.columns.specs.Lists.{up}
+use Rattle.buckets.specs.Lengths.{entriesMost}
 use Rattle.cycle.specs.Tree.{children}
-use Rattle.cycle.specs.Held.{planOf}
+use Rattle.cycle.specs.Held.{planOf, spanMost}
 use Rattle.cycle.proofs.Readiness.{Reached}
 use Rattle.cycle.proofs.TreeLaws.{up-least, le-up}
 use Rattle.cycle.proofs.Children.{bucket, first-small, children-count}
@@ -18,7 +19,7 @@ use Rattle.cycle.proofs.index.child_count.Tie as tie
 at : (c : tie.Start) → Reached (c .args .f) (c .args .e) (c .args .j)
 at c = bucket (c .args .f) (c .pre .0) (c .args .e) (c .args .j) (c .pre .1) (c .pre .2)
 
-small : (c : tie.Start) → c .args .j * c .args .f .n ≤ 320000
+small : (c : tie.Start) → c .args .j * c .args .f .n ≤ spanMost
 small c = first-small (c .args .f) (c .pre .0) (c .args .e) (c .args .j) (c .pre .1) (c .pre .2)
 
 -- the data buckets under a full child
@@ -49,8 +50,8 @@ add-if1 c = let s = c .before .before .before in omega (arith, small s, s .pre .
 mul-if1 : tie.Need-mul-if1
 mul-if1 c =
     let s = c .before .before .before in
-    let m : (s .args .j * s .args .f .n + s .args .f .n) * span s ≤ 320008 * 320000 =
-    mul-le-mul {n₂ = 320008} {m₂ = 320000} (omega (arith, small s, s .pre .0 .shaped .n-high)) (at s .small (s .args .e - 1) (omega arith)) in
+    let m : (s .args .j * s .args .f .n + s .args .f .n) * span s ≤ (spanMost + entriesMost) * spanMost =
+    mul-le-mul {n₂ = spanMost + entriesMost} {m₂ = spanMost} (omega (arith, small s, s .pre .0 .shaped .n-high)) (at s .small (s .args .e - 1) (omega arith)) in
     rw (c .before .power .ensures) (omega arith)
 
 returns : tie.Need-returns

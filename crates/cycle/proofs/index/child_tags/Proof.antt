@@ -7,6 +7,7 @@ use native.Mathlib.Omega.{arith}
 use lib.ListN.{length}
 use Rattle.columns.specs.Lists.{span}
 use Rattle.buckets.specs.Held.{filled}
+use Rattle.buckets.specs.Lengths.{entriesMost}
 use Rattle.cycle.specs.Tree.{children, largestTag}
 use Rattle.cycle.specs.Held.{planOf, planIn, linesHeld, childTags}
 use Rattle.cycle.proofs.Filled.{fill-turn}
@@ -17,7 +18,7 @@ use Rattle.cycle.proofs.index.child_tags.Tie as tie
 
 abbrev Inv-loop : tie.InvT-loop
 Inv-loop text f source e j count below from tags₀ i₀ tags i =
-    (i ≤ count) × (tags ≡ filled 8 (map (largestTag (planIn f source text) (suc (f .k + 1 - e))) (span (j * f .n) i)))
+    (i ≤ count) × (tags ≡ filled entriesMost (map (largestTag (planIn f source text) (suc (f .k + 1 - e))) (span (j * f .n) i)))
 
 abbrev μ-loop : tie.MeasureT-loop
 μ-loop text f source e j count below from tags₀ i₀ tags i = count - i
@@ -81,7 +82,7 @@ loop-again c =
     let level : f .k + 1 - (s .args .e - 1) ≡ suc (f .k + 1 - s .args .e) =
     omega (arith, high f (s .pre .0) (s .args .e) (s .args .j) (s .pre .3) (s .pre .4)) in (
       omega arith,
-      fill-turn 8 (largestTag t (suc (f .k + 1 - s .args .e))) a i (c .largest-tag .result) (l .tags) (l .inv .1)
+      fill-turn entriesMost (largestTag t (suc (f .k + 1 - s .args .e))) a i (c .largest-tag .result) (l .tags) (l .inv .1)
           (c .largest-tag .ensures ∙ ap (λ z. largestTag t z (a + i)) level)
           (few f (s .pre .0) (s .args .e) (s .args .j) (s .pre .3) (s .pre .4) i (omega (arith, s .pre .5))),
     )
@@ -97,8 +98,8 @@ returns c =
     let a : ℕ = s .args .j * f .n in
     let all : l .i ≡ length (children (planOf f []) (f .k + 1 - s .args .e) (s .args .j)) = omega (arith, s .pre .5) in
     l .inv .1
-    ∙ ap (λ z. filled 8 (map g (span a z))) all
-    ∙ ap (λ cs. filled 8 (map g cs))
+    ∙ ap (λ z. filled entriesMost (map g (span a z))) all
+    ∙ ap (λ cs. filled entriesMost (map g cs))
     (sym (children-row f (s .pre .0) (s .args .e) (s .args .j) (s .pre .3) (s .pre .4)) ∙ children-shape f [] ls (f .k + 1 - s .args .e) (s .args .j))
 
 pub child-tags-spec : {M : Type 1} → statement M

@@ -5,7 +5,8 @@ use mathlib.Core.List.{[]}
 use Prim.Native.Nat.{ℕ, _+_, _-_, _/_, _≤_, _<_}
 use native.Mathlib.Omega.{arith}
 use Rattle.columns.specs.Lists.{up}
-use Rattle.cycle.specs.Tree.{width}
+use Rattle.buckets.specs.Lengths.{pairsMost}
+use Rattle.cycle.specs.Tree.{width, levelsMost}
 use Rattle.cycle.specs.Held.{planOf, firstPlace}
 use Rattle.cycle.proofs.Readiness.{Reached, reached}
 use Rattle.cycle.proofs.Children.{size-slots, first-high}
@@ -18,7 +19,7 @@ at : (c : tie.Start) → Reached (c .args .f) (c .args .f .k + 1 - c .args .leve
 at c = reached (c .args .f) (c .args .f .k + 1 - c .args .level) (c .args .place) (c .pre .0 .shaped) (c .pre .5)
 
 -- the figures' bounds
-bounds : (c : tie.Start) → (c .args .f .copies ≤ 4) × (c .args .f .copies + 1 ≤ c .args .f .k) × (c .args .f .k ≤ 16)
+bounds : (c : tie.Start) → (c .args .f .copies ≤ pairsMost) × (c .args .f .copies + 1 ≤ c .args .f .k) × (c .args .f .k ≤ levelsMost)
 bounds c = few-copies (c .args .f) (c .pre .0) (c .pre .2)
 
 -- a place is at most N

@@ -6,7 +6,8 @@ use Prim.Native.Nat.{ℕ, suc, _+_, _-_, _%_, _≤_, _<_}
 use native.Mathlib.Omega.{arith}
 use Rattle.columns.specs.Lists.{range}
 use Rattle.buckets.specs.Held.{filled}
-use Rattle.cycle.specs.Tree.{width}
+use Rattle.buckets.specs.Lengths.{pairsMost}
+use Rattle.cycle.specs.Tree.{width, levelsMost}
 use Rattle.cycle.specs.declared.Figures.{Figures}
 use Rattle.cycle.specs.Held.{planOf, Ready, OnPath, firstPlace, placeOver, pairReach, pairDistances}
 use Rattle.cycle.proofs.Filled.{fill-turn-behind}
@@ -23,7 +24,7 @@ Inv-loop f b i x distances₀ level₀ distances level =
     (2 ≤ level)
     × (level ≤ i + 1)
     × (distances
-    ≡ filled 4 ((f .size - x) ∷ map (λ j. pairReach (planOf f []) (f .size) x j (placeOver (planOf f []) b j)) (range 2 level)))
+    ≡ filled pairsMost ((f .size - x) ∷ map (λ j. pairReach (planOf f []) (f .size) x j (placeOver (planOf f []) b j)) (range 2 level)))
 
 abbrev μ-loop : tie.MeasureT-loop
 μ-loop f b i x distances₀ level₀ distances level = i + 1 - level
@@ -32,7 +33,7 @@ one : (c : tie.Start Inv-loop μ-loop) → c .args .f .layout ≡ 1
 unfolding planOf
 one c = c .pre .3 .distributed
 
-bounds : (c : tie.Start Inv-loop μ-loop) → (c .args .f .copies ≤ 4) × (c .args .f .copies + 1 ≤ c .args .f .k) × (c .args .f .k ≤ 16)
+bounds : (c : tie.Start Inv-loop μ-loop) → (c .args .f .copies ≤ pairsMost) × (c .args .f .copies + 1 ≤ c .args .f .k) × (c .args .f .k ≤ levelsMost)
 bounds c = few-copies (c .args .f) (c .pre .0) (one c)
 
 high : (c : tie.Start Inv-loop μ-loop) → c .args .i ≤ c .args .f .copies
@@ -122,7 +123,7 @@ loop-again c =
     let level : ℕ = l .level in (
       omega arith,
       omega arith,
-      fill-turn-behind 4 (λ j. pairReach t (f .size) (s .args .x) j (placeOver t (s .args .b) j)) (f .size - s .args .x) level (c .pair-distance .result) (l .distances) (l .inv .2)
+      fill-turn-behind pairsMost (λ j. pairReach t (f .size) (s .args .x) j (placeOver t (s .args .b) j)) (f .size - s .args .x) level (c .pair-distance .result) (l .distances) (l .inv .2)
           (c .pair-distance .ensures
           ∙ ap (pairReach t (f .size) (s .args .x) level)
           (place-over f (s .pre .0) (one s) level (omega arith) (omega (arith, high s)) [] (s .args .b) (c .before .power .result) (c .before .power .ensures)))
@@ -138,7 +139,7 @@ returns c =
     let t = planOf f [] in
     let all : l .level ≡ s .args .i + 1 = omega arith in
     l .inv .2
-    ∙ ap (λ z. filled 4 ((f .size - s .args .x) ∷ map (λ j. pairReach t (f .size) (s .args .x) j (placeOver t (s .args .b) j)) (range 2 z))) all
+    ∙ ap (λ z. filled pairsMost ((f .size - s .args .x) ∷ map (λ j. pairReach t (f .size) (s .args .x) j (placeOver t (s .args .b) j)) (range 2 z))) all
 
 pub pair-distances-spec : {M : Type 1} → statement M
 pair-distances-spec =

@@ -6,7 +6,8 @@ use Prim.Native.Nat.{ℕ, _+_, _-_, _≤_}
 use native.Mathlib.Omega.{arith}
 use Rattle.columns.specs.Lists.{range}
 use Rattle.buckets.specs.Held.{filled}
-use Rattle.cycle.specs.Tree.{largestTag}
+use Rattle.buckets.specs.Lengths.{pairsMost}
+use Rattle.cycle.specs.Tree.{largestTag, levelsMost}
 use Rattle.cycle.specs.Held.{planIn, linesHeld, InTree, placeOver, pairTags}
 use Rattle.cycle.proofs.Filled.{fill-turn-behind}
 use Rattle.cycle.proofs.PathFigures.{few-copies, power-some, place-over, over-inside}
@@ -17,12 +18,12 @@ abbrev Inv-loop : tie.InvT-loop
 Inv-loop text f source b i first tags₀ level₀ tags level =
     (2 ≤ level)
     × (level ≤ i + 1)
-    × (tags ≡ filled 4 (first ∷ map (λ j. largestTag (planIn f source text) j (placeOver (planIn f source text) b j)) (range 2 level)))
+    × (tags ≡ filled pairsMost (first ∷ map (λ j. largestTag (planIn f source text) j (placeOver (planIn f source text) b j)) (range 2 level)))
 
 abbrev μ-loop : tie.MeasureT-loop
 μ-loop text f source b i first tags₀ level₀ tags level = i + 1 - level
 
-bounds : (c : tie.Start Inv-loop μ-loop) → (c .args .f .copies ≤ 4) × (c .args .f .copies + 1 ≤ c .args .f .k) × (c .args .f .k ≤ 16)
+bounds : (c : tie.Start Inv-loop μ-loop) → (c .args .f .copies ≤ pairsMost) × (c .args .f .copies + 1 ≤ c .args .f .k) × (c .args .f .k ≤ levelsMost)
 bounds c = few-copies (c .args .f) (c .pre .0) (c .pre .3)
 
 loop-holds : tie.Need-loop-holds Inv-loop μ-loop
@@ -91,7 +92,7 @@ loop-again c =
     let same : f .k + 1 - (f .k + 1 - level) ≡ level = omega (arith, s .pre .5, bounds s .1) in (
       omega arith,
       omega arith,
-      fill-turn-behind 4 (λ j. largestTag t j (placeOver t (s .args .b) j)) (s .args .first) level (c .largest-tag .result) (l .tags) (l .inv .2)
+      fill-turn-behind pairsMost (λ j. largestTag t j (placeOver t (s .args .b) j)) (s .args .first) level (c .largest-tag .result) (l .tags) (l .inv .2)
           (c .largest-tag .ensures
           ∙ ap₂ (largestTag t) same
           (place-over f (s .pre .0) (s .pre .3) level (omega arith) (omega (arith, s .pre .5)) (linesHeld f (s .args .source) (s .args .text .now)) (s .args .b)
@@ -107,7 +108,7 @@ returns c =
     let t = planIn (s .args .f) (s .args .source) (s .args .text .now) in
     let all : l .level ≡ s .args .i + 1 = omega arith in
     l .inv .2
-    ∙ ap (λ z. filled 4 (s .args .first ∷ map (λ j. largestTag t j (placeOver t (s .args .b) j)) (range 2 z))) all
+    ∙ ap (λ z. filled pairsMost (s .args .first ∷ map (λ j. largestTag t j (placeOver t (s .args .b) j)) (range 2 z))) all
 
 pub pair-tags-spec : {M : Type 1} → statement M
 pair-tags-spec =

@@ -9,8 +9,10 @@ use Rattle.cycle.proofs.PathFigures.{path-inside, few-copies, power-som
 use Rattle.cycle.proofs.PathBuckets.{path-low, path-some, path-on, path-before, path-held}
 use Rattle.cycle.proofs.index.path_index.Statement.{statement}
 use Rattle.cycle.proofs.index.path_index.Tie as tie
+use Rattle.cycle.specs.Tree.{levelsMost}
+use Rattle.buckets.specs.Lengths.{pairsMost}
 
-bounds : (s : tie.Start) → (s .args .f .copies ≤ 4) × (s .args .f .copies + 1 ≤ s .args .f .k) × (s .args .f .k ≤ 16)
+bounds : (s : tie.Start) → (s .args .f .copies ≤ pairsMost) × (s .args .f .copies + 1 ≤ s .args .f .k) × (s .args .f .k ≤ levelsMost)
 bounds s = few-copies (s .args .f) (s .pre .0) (s .pre .3)
 
 low : (s : tie.Start) → 1 ≤ s .args .i
@@ -100,12 +102,7 @@ far-distances-requires c κs =
     let p = c .before .before .before .before in
     let s = p .before .before .before .before .before .before in (
       s .pre .0,
-      some s,
-      omega (arith, s .pre .5, bounds s .1),
-      inside (p .before .before),
-      (λ more. (s .pre .3, omega (arith, s .pre .5, bounds s .1))),
-      p .child-count .ensures,
-      before s,
+      (s .pre .3, (omega (arith, s .pre .5, bounds s .1), (omega (arith, s .pre .5, bounds s .1), (inside (p .before .before), (p .child-count .ensures, before s))))),
     )
 
 returns : tie.Need-returns

@@ -12,6 +12,7 @@ use Rattle.cycle.proofs.Readiness.{Block, block, BlockTrees, block-tree
 use Rattle.cycle.proofs.DataHeld.{data-in-block}
 use Rattle.cycle.proofs.places.distributed_data_place.Statement.{statement}
 use Rattle.cycle.proofs.places.distributed_data_place.Tie as tie
+use Rattle.buckets.specs.Lengths.{linesMost, bucketsMost}
 
 -- what is known at the start
 known : (c : tie.Start) → Block (c .args .f)
@@ -24,8 +25,8 @@ trees c = block-trees (c .args .f) (c .pre .0 .shaped) (c .pre .0 .trees) (c .pr
 record Sum (f : Figures) (q b : ℕ) : Type 0 where
   among : b < segmentCount (planOf f [])
   low : b ≤ q
-  few : q < 40000
-  place : firstPlace (planOf f []) (f .k + 1) q < 100000
+  few : q < linesMost
+  place : firstPlace (planOf f []) (f .k + 1) q < bucketsMost + 1
   is :
       firstPlace (planOf f []) (f .k + 1) q
       ≡ q + b * f .full + length (treeAt (planOf f []) (f .k - f .copies) b) + climbs (f .n) (f .copies) (b + 1)

@@ -9,6 +9,7 @@ use Rattle.cycle.proofs.Readiness.{Parts, parts, whole-last}
 use Rattle.cycle.proofs.DataHeld.{InPart, data-in-part}
 use Rattle.cycle.proofs.places.one_m_data_place.Statement.{statement}
 use Rattle.cycle.proofs.places.one_m_data_place.Tie as tie
+use Rattle.buckets.specs.Lengths.{linesMost}
 
 -- what is known at the start
 known : (c : tie.Start) → Parts (c .args .f)
@@ -24,11 +25,11 @@ add-part : tie.Need-add-part
 add-part c = omega (arith, known c .some)
 
 -- the product that the code divides
-product : (c : tie.Start) → (1 ≤ (c .args .q + 1) * c .args .f .copies) × ((c .args .q + 1) * c .args .f .copies ≤ 40000 * 40000)
+product : (c : tie.Start) → (1 ≤ (c .args .q + 1) * c .args .f .copies) × ((c .args .q + 1) * c .args .f .copies ≤ linesMost * linesMost)
 product c =
     let k = known c in
     let low : 1 * 1 ≤ (c .args .q + 1) * c .args .f .copies = mul-le-mul {n₁ = 1} {m₁ = 1} (omega arith) (k .parted) in
-    (omega arith, mul-le-mul {n₂ = 40000} {m₂ = 40000} (omega (arith, k .some)) (k .few))
+    (omega arith, mul-le-mul {n₂ = linesMost} {m₂ = linesMost} (omega (arith, k .some)) (k .few))
 
 mul-part : tie.Need-mul-part
 mul-part c = omega (arith, product (c .before) .1)

@@ -4,6 +4,7 @@ use borrow.Author.Needs.{needs}
 use mathlib.Core.Path.{ap, _∙_}
 use lib.ListN.{length, take, drop}
 use Rattle.columns.specs.PrintedNumbers.{value}
+use Rattle.buckets.specs.Lengths.{tagWidth}
 use Rattle.cycle.specs.Held.{tagAt}
 use Rattle.cycle.proofs.LinesHeld.{line-fits}
 use Rattle.cycle.proofs.places.tag_of.Statement.{statement}
@@ -22,7 +23,7 @@ returns : tie.Need-returns
 unfolding tagAt
 returns c =
     c .spelled-tag .ensures
-    ∙ ap (λ x. value 0 (take 10 (drop x (c .before .before .before .args .text .now)))) (c .before .line-place .ensures)
+    ∙ ap (λ x. value 0 (take tagWidth (drop x (c .before .before .before .args .text .now)))) (c .before .line-place .ensures)
 
 pub tag-of-spec : {M : Type 1} → statement M
 tag-of-spec = tie.close (tie.spec line-place-requires spelled-tag-requires returns)

@@ -15,10 +15,12 @@ use Rattle.buckets.specs.declared.Kind.the-variants.{Index as KindIndex, Data a
 use Rattle.buckets.specs.declared.Reading.{Reading}
 use Rattle.buckets.specs.Bucket.{Bucket, readBucket, followOn}
 use Rattle.buckets.specs.Held.{headOf, asReading}
+use Rattle.buckets.specs.Lengths.{bucketLinesMost, bucketLength, bucketsMost}
 use Rattle.cycle.specs.Tree.{lastTag}
 use Rattle.cycle.specs.declared.Source.the-variants.{Image as InImage}
 use Rattle.cycle.specs.Held.{planOf, planIn, cycleBucket}
-use Rattle.cycle.specs.Comparing.{Decides, bucketBytes, RisesAt, MatchesAt}
+use Rattle.cycle.specs.Cycle.{bucketAt}
+use Rattle.cycle.specs.Comparing.{Decides, RisesAt, MatchesAt}
 use Rattle.cycle.proofs.TreeLaws.{up-lt}
 use Rattle.cycle.proofs.SegmentParts.{Seated}
 use Rattle.cycle.proofs.TreePlaces.{head-asked, data-in}
@@ -35,7 +37,7 @@ seated c = seats (c .args .f) (c .args .image .now) (c .args .s) (c .pre .0)
 below : (c : tie.Start) → c .args .x < c .args .s .end
 below c = omega (arith, data-below (c .args .f) (c .args .image .now) (c .args .s) (c .pre .0) (c .args .q) (c .pre .1) (c .pre .2), c .pre .3)
 
-room : (c : tie.Start) → (240 * c .args .x + 240 ≤ length (c .args .image .now)) × (c .args .x ≤ 99999)
+room : (c : tie.Start) → (bucketLength * c .args .x + bucketLength ≤ length (c .args .image .now)) × (c .args .x ≤ bucketsMost)
 room c = room-at (c .args .f) (c .args .image .now) (c .args .s) (c .pre .0) (c .args .x) (below c)
 
 in-d : (c : tie.Start) → c .args .q < c .args .f .d
@@ -49,7 +51,7 @@ lines-low c =
 -- ---- what is read
 
 abbrev seen : tie.After-read-bucket → Option Bucket
-seen c = readBucket (bucketBytes (c .before .before .before .args .image .now) (c .before .before .before .args .x))
+seen c = readBucket (bucketAt (c .before .before .before .args .image .now) (c .before .before .before .args .x))
 
 read-is : (c : tie.After-read-bucket) → c .read-bucket .result ≡ asReading (seen c)
 read-is c = c .read-bucket .ensures ∙ ap (λ s. asReading (readBucket s)) (part-bytes _ _)
@@ -58,7 +60,7 @@ read-is c = c .read-bucket .ensures ∙ ap (λ s. asReading (readBucket s)) (par
 abbrev wanted : tie.Start → Head → ℕ → ℕ → Bool → Type 0
 wanted c head count follow r =
     Decides
-    (DataFacts (asReading (readBucket (bucketBytes (c .args .image .now) (c .args .x)))) head count follow
+    (DataFacts (asReading (readBucket (bucketAt (c .args .image .now) (c .args .x)))) head count follow
     × RisesAt (planIn (c .args .f) InImage (c .args .image .now)) (c .args .q)) r →
     Decides (MatchesAt (planIn (c .args .f) InImage (c .args .image .now)) (c .args .image .now) (c .args .x)) r
 
@@ -137,7 +139,7 @@ told c = headed (c .before .before .before .before)
 
 some-lines : (c : tie.Else2) →
     let r = met (told c .before) .read-bucket .result in
-    (1 ≤ r .lines) × (r .lines ≤ 8)
+    (1 ≤ r .lines) × (r .lines ≤ bucketLinesMost)
 some-lines c =
     let s = entry (met (told c .before)) in
     let shaped = s .pre .0 .holding .ready .shaped in

@@ -10,6 +10,7 @@ use lib.Dec.{eqb}
 use lib.ListN.{length, take, drop}
 use Rattle.columns.specs.Lists.{pick}
 use Rattle.columns.specs.PrintedNumbers.{value}
+use Rattle.buckets.specs.Lengths.{tagWidth, bucketLength, linesStart, bucketsMost}
 use Rattle.cycle.specs.declared.Source.the-variants.{Image as InImage}
 use Rattle.cycle.specs.Held.{planOf, planIn, firstPlace}
 use Rattle.cycle.specs.Comparing.{Decides, Followed}
@@ -34,7 +35,7 @@ next c = omega (arith, in-d (start1 c), c .if1 .left)
 -- the next data bucket is in the image
 room : (c : tie.After-next-data) →
     let s = start1 (c .before) in
-    (240 * c .next-data .result + 240 ≤ length (s .args .image .now)) × (c .next-data .result ≤ 99999)
+    (bucketLength * c .next-data .result + bucketLength ≤ length (s .args .image .now)) × (c .next-data .result ≤ bucketsMost)
 room c =
     let s = start1 (c .before) in
     let holding = s .pre .0 .holding in
@@ -45,10 +46,10 @@ room c =
 first-is : (c : tie.After-spelled-tag) →
     let s = start1 (c .before .before) in
     c .spelled-tag .result
-    ≡ value 0 (take 10 (drop (240 * firstPlace (planOf (s .args .f) []) (s .args .f .k + 1) (s .args .q + 1) + 29) (s .args .image .now)))
+    ≡ value 0 (take tagWidth (drop (bucketLength * firstPlace (planOf (s .args .f) []) (s .args .f .k + 1) (s .args .q + 1) + linesStart) (s .args .image .now)))
 first-is c =
     let s = start1 (c .before .before) in
-    c .spelled-tag .ensures ∙ ap (λ z. value 0 (take 10 (drop (240 * z + 29) (s .args .image .now)))) (c .before .next-data .ensures)
+    c .spelled-tag .ensures ∙ ap (λ z. value 0 (take tagWidth (drop (bucketLength * z + linesStart) (s .args .image .now)))) (c .before .next-data .ensures)
 
 -- the follow-on decides
 decided : (c : tie.Else2) (want : ℕ) →

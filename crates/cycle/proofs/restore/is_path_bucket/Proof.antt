@@ -5,7 +5,9 @@ use Prim.Native.Nat.{_+_, _-_, _≤_, _<_}
 use native.Mathlib.Omega.{arith}
 use borrow.Author.Needs.{needs}
 use Rattle.buckets.specs.declared.Index.{Index}
-use Rattle.cycle.specs.Comparing.{Decides, bucketBytes}
+use Rattle.buckets.specs.Lengths.{pairsMost, entriesMost}
+use Rattle.cycle.specs.Cycle.{bucketAt}
+use Rattle.cycle.specs.Comparing.{Decides}
 use Rattle.cycle.proofs.SegmentParts.{Seated, path-layout}
 use Rattle.cycle.proofs.TreePlaces.{head-asked}
 use Rattle.cycle.proofs.Comparisons.{seats, placed-in, room-at, path-below, path-held, path-decided}
@@ -45,7 +47,7 @@ write-index-requires c κs =
     let held = path-held (start .args .f) (start .args .image .now) (start .args .s) (start .pre .0) (start .args .i) (start .args .x) (start .pre .1) (start .pre .2) (start .pre .3) in
     let is = call .path-index .ensures in (
       refl,
-      (subst (λ (i : Index). i .pairs ≤ 4) (sym is) (held .few-pairs), subst (λ (i : Index). i .entries ≤ 8) (sym is) (held .few-entries)),
+      (subst (λ (i : Index). i .pairs ≤ pairsMost) (sym is) (held .few-pairs), subst (λ (i : Index). i .entries ≤ entriesMost) (sym is) (held .few-entries)),
     )
 
 is-at-requires : tie.Need-is-at-requires
@@ -62,7 +64,7 @@ returns c =
     let start = call .before .before in
     path-decided (start .args .f) (start .args .image .now) (start .args .s) (start .pre .0) (start .args .i) (start .args .x)
     (start .pre .1) (start .pre .2) (start .pre .3) (head .head-at .result) (call .path-index .result) (c .is-at .result) (head .head-at .ensures) (call .path-index .ensures)
-    (subst (λ b. Decides (bucketBytes (start .args .image .now) (start .args .x) ≡ b) (c .is-at .result)) (c .before .before .before .write-index .ensures) (c .is-at .ensures))
+    (subst (λ b. Decides (bucketAt (start .args .image .now) (start .args .x) ≡ b) (c .is-at .result)) (c .before .before .before .write-index .ensures) (c .is-at .ensures))
 
 pub is-path-bucket-spec : {M : Type 1} → statement M
 is-path-bucket-spec =

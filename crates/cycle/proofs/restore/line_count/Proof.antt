@@ -9,33 +9,34 @@ use native.Mathlib.Omega.{arith}
 use lib.ListN.{length, drop, getD}
 use borrow.Author.Tests.{eq-eqb, ne-eqb, lt-ltb, le-ltb}
 use Rattle.columns.specs.Lists.{parts}
+use Rattle.buckets.specs.Lengths.{letterData, letterColumn, itemDigitColumn, bucketLinesMost, bucketLength, bucketsMost}
 use Rattle.cycle.specs.Comparing.{linesBy, countedFrom, counted}
 use Rattle.cycle.proofs.LineCount.{counted-bucket}
 use Rattle.cycle.proofs.restore.line_count.Statement.{statement}
 use Rattle.cycle.proofs.restore.line_count.Tie as tie
 
 record Counting (image : List ℕ) (p count x d last : ℕ) : Type 0 where
-  count-is : count ≡ length image / 240
+  count-is : count ≡ length image / bucketLength
   within : x ≤ count
   few : d ≤ x
   small : last < 256
-  rest : counted p image ≡ countedFrom p d last (parts (count - x) 240 (drop (240 * x) image))
+  rest : counted p image ≡ countedFrom p d last (parts (count - x) bucketLength (drop (bucketLength * x) image))
 
 -- a bucket with the letter of a data bucket, and one without
 data-turn :
-    (image : List ℕ) (p count x d last : ℕ) → Counting image p count x d last → x < count → getD image (240 * x + 24) 0 ≡ 68 →
-    getD image (240 * x + 28) 0 < 256 → Counting image p count (x + 1) (d + 1) (getD image (240 * x + 28) 0)
+    (image : List ℕ) (p count x d last : ℕ) → Counting image p count x d last → x < count → getD image (bucketLength * x + letterColumn) 0 ≡ letterData →
+    getD image (bucketLength * x + itemDigitColumn) 0 < 256 → Counting image p count (x + 1) (d + 1) (getD image (bucketLength * x + itemDigitColumn) 0)
 data-turn image p count x d last o h e b =
     record {
       count-is = o .count-is;
       within = omega arith;
       few = omega (arith, o .few);
       small = b;
-      rest = o .rest ∙ (counted-bucket image p d last count x h ∙ rw (eq-eqb (getD image (240 * x + 24) 0) 68 e));
+      rest = o .rest ∙ (counted-bucket image p d last count x h ∙ rw (eq-eqb (getD image (bucketLength * x + letterColumn) 0) letterData e));
     }
 
 other-turn :
-    (image : List ℕ) (p count x d last : ℕ) → Counting image p count x d last → x < count → (getD image (240 * x + 24) 0 ≡ 68 → ⊥) →
+    (image : List ℕ) (p count x d last : ℕ) → Counting image p count x d last → x < count → (getD image (bucketLength * x + letterColumn) 0 ≡ letterData → ⊥) →
     Counting image p count (x + 1) d last
 other-turn image p count x d last o h e =
     record {
@@ -43,15 +44,15 @@ other-turn image p count x d last o h e =
       within = omega arith;
       few = omega (arith, o .few);
       small = o .small;
-      rest = o .rest ∙ (counted-bucket image p d last count x h ∙ rw (ne-eqb (getD image (240 * x + 24) 0) 68 e));
+      rest = o .rest ∙ (counted-bucket image p d last count x h ∙ rw (ne-eqb (getD image (bucketLength * x + letterColumn) 0) letterData e));
     }
 
 ended : (image : List ℕ) (p count x d last : ℕ) → Counting image p count x d last → count ≤ x → counted p image ≡ linesBy p d last
 ended image p count x d last o h = let e : count - x ≡ 0 = omega arith in o .rest ∙ rw e
 
-opened : (image : List ℕ) (p : ℕ) → counted p image ≡ countedFrom p 0 48 (parts (length image / 240 - 0) 240 (drop (240 * 0) image))
+opened : (image : List ℕ) (p : ℕ) → counted p image ≡ countedFrom p 0 48 (parts (length image / bucketLength - 0) bucketLength (drop (bucketLength * 0) image))
 unfolding counted
-opened image p = let e : length image / 240 - 0 ≡ length image / 240 = omega arith in rw e
+opened image p = let e : length image / bucketLength - 0 ≡ length image / bucketLength = omega arith in rw e
 
 by-none : (p d last : ℕ) → d ≡ 0 → linesBy p d last ≡ 0
 unfolding linesBy
@@ -108,7 +109,7 @@ loop-again c =
     ⊎-elim
     (λ w.
     rw (w .2, w .3)
-    (data-turn _ _ _ _ _ _ o (known .before .loop-test .taken) (w .0 .taken) (omega (arith, w .1 .given (240 * x + 28)))))
+    (data-turn _ _ _ _ _ _ o (known .before .loop-test .taken) (w .0 .taken) (omega (arith, w .1 .given (bucketLength * x + itemDigitColumn)))))
     (λ w. rw (w .1, w .2) (other-turn _ _ _ _ _ _ o (known .before .loop-test .taken) (w .0 .left)))
     (c .if1 .came)
 
@@ -129,8 +130,8 @@ mul-result : tie.Need-mul-result Inv-loop μ-loop
 mul-result c =
     let start = c .before .before .before .before in
     let o = c .before .before .before .loop .inv in
-    let b : (c .before .before .before .loop .d - 1) * start .args .p ≤ 99999 * 8 =
-    mul-le-mul {n₂ = 99999} {m₂ = 8} (omega (arith, o .few, o .within, o .count-is, start .pre .0)) (start .pre .1) in
+    let b : (c .before .before .before .loop .d - 1) * start .args .p ≤ bucketsMost * bucketLinesMost =
+    mul-le-mul {n₂ = bucketsMost} {m₂ = bucketLinesMost} (omega (arith, o .few, o .within, o .count-is, start .pre .0)) (start .pre .1) in
     omega arith
 
 cast-result : tie.Need-cast-result Inv-loop μ-loop
@@ -140,8 +141,8 @@ add-result : tie.Need-add-result Inv-loop μ-loop
 add-result c =
     let start = c .before .before .before .before in
     let o = c .before .before .before .loop .inv in
-    let b : (c .before .before .before .loop .d - 1) * start .args .p ≤ 99999 * 8 =
-    mul-le-mul {n₂ = 99999} {m₂ = 8} (omega (arith, o .few, o .within, o .count-is, start .pre .0)) (start .pre .1) in
+    let b : (c .before .before .before .loop .d - 1) * start .args .p ≤ bucketsMost * bucketLinesMost =
+    mul-le-mul {n₂ = bucketsMost} {m₂ = bucketLinesMost} (omega (arith, o .few, o .within, o .count-is, start .pre .0)) (start .pre .1) in
     omega (arith, o .small)
 
 returns-3 : tie.Need-returns-3 Inv-loop μ-loop

@@ -1,6 +1,6 @@
 -- `cycle::restore::read_back` meets its contract: 1 and 11, then 13, 7 and the list.
 -- Assumes nothing.
-use mathlib.Core.Path.{_≡_, sym, ap, _∙_, subst}
+use mathlib.Core.Path.{_≡_, sym, ap, _∙_}
 use mathlib.Core.Bool.{true, false}
 use mathlib.Core.List.{List}
 use Prim.Native.Nat.{ℕ, _≤_}
@@ -8,21 +8,23 @@ use native.Mathlib.Omega.{arith}
 use lib.ListN.{length}
 use borrow.Author.Needs.{needs}
 use borrow.Author.Tests.{not-true, not-false}
+use Rattle.columns.specs.Lists.{onto}
 use Rattle.cycle.specs.Tree.{Settings, settings}
 use Rattle.cycle.specs.Building.{settingsFit}
-use Rattle.cycle.specs.ReadingBack.{wholeBuckets, settingsOut, imageOut, noList, ReadsBack}
+use Rattle.cycle.specs.ReadingBack.{wholeBuckets, numbers, Outcome, readBack}
 use Rattle.cycle.specs.declared.Restored.{Restored}
 use Rattle.cycle.specs.declared.Restored.the-variants.{Refused}
 use Rattle.cycle.specs.Comparing.{counted}
 use Rattle.cycle.proofs.Accepted.{settings-fit}
 use Rattle.cycle.proofs.Answering.{any-copies}
-use Rattle.cycle.proofs.Restoring.{buckets-whole, image-empty, image-torn, image-long, refused, many-refused}
+use Rattle.cycle.proofs.Demand2.{refuses-1, refuses-11, every-read-back}
+use Rattle.cycle.proofs.Restoring.{buckets-whole, image-empty, image-torn, image-long, refuses, many-refused}
 use Rattle.cycle.proofs.restore.read_back.Statement.{statement}
 use Rattle.cycle.proofs.restore.read_back.Tie as tie
 
-same-settings :
-    {s z : Settings} {b d o : List ℕ} {r : Restored} → s ≡ z → ReadsBack s b d o r → ReadsBack z b d o r
-same-settings {b = b} {d = d} {o = o} {r = r} e h = subst (λ y. ReadsBack y b d o r) e h
+-- an answer and its buffer, by numbers
+numbered : {A : Type 0} {a b : Restored} → (a ≡ b) × A → (numbers a ≡ numbers b) × A
+numbered h = (ap numbers (h .0), h .1)
 
 abbrev bytes : tie.Start → List ℕ
 bytes c = c .args .image .now
@@ -48,8 +50,12 @@ fit : (c : tie.Else1) → settingsFit (set (start1 c)) ≡ true
 fit c = tested (c .before) ∙ not-false _ (c .if1 .left)
 
 image-refused : (c : tie.Else1) → wholeBuckets (length (bytes (start1 c))) ≡ false →
-    ReadsBack (set (start1 c)) (bytes (start1 c)) (start1 c .args .out .now) (start1 c .args .out .now) (Refused 11 0)
-image-refused c h = refused (set (start1 c)) (bytes (start1 c)) (start1 c .args .out .now) (imageOut (fit c) h)
+    let s = start1 c in
+    let o : Outcome = readBack (set s) (bytes s) (length (s .args .out .now)) in
+    (numbers (Refused 11 0) ≡ numbers (o .answer)) × (s .args .out .now ≡ onto (o .output) (s .args .out .now))
+image-refused c h =
+    let s = start1 c in
+    numbered (refuses 11 0 _ (s .args .out .now) (refuses-11 (set s) (bytes s) (length (s .args .out .now)) (fit c) h))
 
 some-bytes : (c : tie.Else4) → 1 ≤ length (bytes (start4 c))
 some-bytes c = omega (arith, c .before .before .if2 .left)
@@ -57,7 +63,9 @@ some-bytes c = omega (arith, c .before .before .if2 .left)
 returns : tie.Need-returns
 returns c =
     let s = c .before .before .before .before in
-    refused (set s) (bytes s) (s .args .out .now) (settingsOut (tested (c .before) ∙ not-true _ (c .if1 .taken)))
+    numbered
+    (refuses 1 0 _ (s .args .out .now)
+    (refuses-1 (set s) (bytes s) (length (s .args .out .now)) (tested (c .before) ∙ not-true _ (c .if1 .taken))))
 
 returns-2 : tie.Need-returns-2
 returns-2 c = image-refused (c .before) (image-empty _ (c .if2 .taken))
@@ -66,7 +74,7 @@ returns-3 : tie.Need-returns-3
 returns-3 c = image-refused (c .before .before) (image-torn _ (c .if3 .taken))
 
 returns-4 : tie.Need-returns-4
-returns-4 c = image-refused (c .before .before .before) (image-long _ (c .if4 .taken))
+returns-4 c = image-refused (c .before .before .before) (image-long _ (omega (arith, c .if4 .taken)))
 
 line-count-requires : tie.Need-line-count-requires
 line-count-requires c κs =
@@ -78,15 +86,17 @@ returns-5 : tie.Need-returns-5
 returns-5 c =
     let whole = c .before .before in
     let s = start4 whole in
-    refused (set s) (bytes s) (s .args .out .now)
-    (noList (fit (whole .before .before .before)) (buckets-whole _ (some-bytes whole) (whole .before .if3 .left) (whole .if4 .left))
-    (many-refused (set s) (bytes s) (omega (arith, c .if5 .taken, c .before .line-count .ensures))))
+    numbered
+    (refuses 13 0 _ (s .args .out .now)
+    (every-read-back (set s) (bytes s) (length (s .args .out .now)) .refuses-13 (fit (whole .before .before .before))
+    (buckets-whole _ (some-bytes whole) (whole .before .if3 .left) (whole .if4 .left))
+    (many-refused (set s) (bytes s) (omega (arith, c .if5 .taken, c .before .line-count .ensures)))))
 
 figures-of-requires : tie.Need-figures-of-requires
 figures-of-requires c κs =
     let whole = c .before .before in
     let told = settings-fit (set (start4 whole)) (fit (whole .before .before .before)) in
-    (told .n-low, told .n-high, told .p-low, told .p-high, told .layout-low, told .layout-high, c .if5 .left)
+    (told .n-low, told .n-high, told .p-low, told .p-high, told .layout-low, told .layout-high, omega (arith, c .if5 .left))
 
 restore-figures-requires : tie.Need-restore-figures-requires
 restore-figures-requires c κs =
@@ -109,7 +119,10 @@ returns-6 c =
     let is = made .figures-of .ensures in
     let same : settings (made .figures-of .result .n) (made .figures-of .result .p) (made .figures-of .result .layout) (made .figures-of .result .copies) ≡ set s =
     λ i. settings (is .1 i) (is .2 i) (is .3 i) (is .4 i) in
-    same-settings same (answer .restore-figures .ensures)
+    let d = s .args .out .now in
+    let told = answer .restore-figures .ensures in
+    let moved = ap (λ y. readBack y (bytes s) (length d)) same in
+    numbered (told .0 ∙ ap (λ o. o .answer) moved, told .1 ∙ ap (λ o. onto (o .output) d) moved)
 
 pub read-back-spec : {M : Type 1} → statement M
 read-back-spec =

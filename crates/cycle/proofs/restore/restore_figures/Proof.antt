@@ -10,14 +10,14 @@ use borrow.Author.Needs.{needs}
 use borrow.Author.Tests.{not-true, not-false}
 use Rattle.cycle.specs.Tree.{Settings, settings}
 use Rattle.cycle.specs.Building.{copiesFit, settingsFit}
-use Rattle.cycle.specs.ReadingBack.{wholeBuckets, Builds, noList, ReadsBack}
-use Rattle.cycle.specs.declared.Restored.the-variants.{Refused}
+use Rattle.cycle.specs.ReadingBack.{wholeBuckets, refused, readBack, NoneBuilds}
 use Rattle.cycle.specs.Held.{planOf}
 use Rattle.cycle.specs.Comparing.{counted, Holding}
 use Rattle.cycle.proofs.Deciding.{decides-told}
 use Rattle.cycle.proofs.HeldImage.{Figured}
+use Rattle.cycle.proofs.Demand2.{every-read-back}
 use Rattle.cycle.proofs.Restoring
-use Rattle.cycle.proofs.Restoring.{Sized, shaped-fits, buckets-whole, refused, copies-refused, size-refused, cycle-refused, room-refused, list-written, holding}
+use Rattle.cycle.proofs.Restoring.{Sized, shaped-fits, buckets-whole, refuses, copies-refused, size-refused, cycle-refused, room-refused, list-written, holding}
 use Rattle.cycle.proofs.restore.restore_figures.Statement.{statement}
 use Rattle.cycle.proofs.restore.restore_figures.Tie as tie
 
@@ -38,8 +38,11 @@ figured : (c : tie.Start) → Figured (set c) (c .args .f)
 figured c =
     record { shaped = c .pre .0; n-is = refl; p-is = refl; layout-is = refl; copies-is = refl }
 
-none-builds : (c : tie.Start) → ((list : List ℕ) → Builds (set c) list (bytes c) → ⊥) → ReadsBack (set c) (bytes c) (c .args .out .now) (c .args .out .now) (Refused 13 0)
-none-builds c h = refused (set c) (bytes c) (c .args .out .now) (noList (fit c) (whole c) h)
+-- 13
+none-builds :
+    (c : tie.Start) → NoneBuilds (set c) (bytes c) →
+    readBack (set c) (bytes c) (length (c .args .out .now)) ≡ refused 13 0
+none-builds c h = every-read-back (set c) (bytes c) (length (c .args .out .now)) .refuses-13 (fit c) (whole c) h
 
 -- ---- with their size
 
@@ -64,8 +67,9 @@ held c =
 returns : tie.Need-returns
 returns c =
     let s = c .before .before .before .before in
-    none-builds s
-    (copies-refused (set s) (s .args .f) (bytes s) (figured s) (s .pre .4) (sym (c .before .copies-fit .ensures) ∙ not-true _ (c .if1 .taken)))
+    refuses 13 0 _ (s .args .out .now)
+    (none-builds s
+    (copies-refused (set s) (s .args .f) (bytes s) (figured s) (s .pre .4) (sym (c .before .copies-fit .ensures) ∙ not-true _ (c .if1 .taken))))
 
 with-size-requires : tie.Need-with-size-requires
 with-size-requires c κs = (c .before .before .before .before .pre .0, copies-are c)
@@ -74,8 +78,9 @@ returns-2 : tie.Need-returns-2
 returns-2 c =
     let sized = c .before .before in
     let s = entry sized in
-    none-builds s
-    (size-refused (set s) (s .args .f) (bytes s) (figured s) (s .pre .4) (λ e. c .if2 .taken (sizes sized .same-size ∙ e)))
+    refuses 13 0 _ (s .args .out .now)
+    (none-builds s
+    (size-refused (set s) (s .args .f) (bytes s) (figured s) (s .pre .4) (λ e. c .if2 .taken (sizes sized .same-size ∙ e))))
 
 is-cycle-requires : tie.Need-is-cycle-requires
 is-cycle-requires c κs = held c
@@ -84,9 +89,10 @@ returns-3 : tie.Need-returns-3
 returns-3 c =
     let sized = c .before .before .before .before in
     let s = entry sized in
-    none-builds s
+    refuses 13 0 _ (s .args .out .now)
+    (none-builds s
     (cycle-refused (set s) (sized .with-size .result) (bytes s) (sizes sized .figured) (count sized) (sizes sized .size-is)
-    (c .before .is-cycle .ensures .no (not-true _ (c .if3 .taken))))
+    (c .before .is-cycle .ensures .no (not-true _ (c .if3 .taken)))))
 
 mul-if4 : tie.Need-mul-if4
 mul-if4 c =
@@ -98,15 +104,15 @@ returns-4 c =
     let same = c .before .before in
     let sized = same .before .before .before .before in
     let s = entry sized in
-    refused (set s) (bytes s) (s .args .out .now)
-    (room-refused (set s) (sized .with-size .result) (bytes s) (fit s) (whole s) (sizes sized .figured) (held (same .before .before))
-    (decides-told (same .if3 .left) (same .before .is-cycle .ensures)) (length (s .args .out .now)) (c .if4 .taken))
+    refuses 7 0 _ (s .args .out .now)
+    (room-refused (set s) (sized .with-size .result) (bytes s) (fit s) (sizes sized .figured) (held (same .before .before))
+    (decides-told (same .if3 .left) (same .before .is-cycle .ensures)) (length (s .args .out .now)) (omega (arith, c .if4 .taken)))
 
 write-list-requires : tie.Need-write-list-requires
 write-list-requires c κs =
     let roomy = c .before in
     let matched = roomy .before .before .before .before in
-    (held matched, roomy .if4 .left)
+    (held matched, omega (arith, roomy .if4 .left))
 
 returns-5 : tie.Need-returns-5
 returns-5 c =
@@ -115,8 +121,8 @@ returns-5 c =
     let same = roomy .before .before in
     let sized = same .before .before .before .before in
     let s = entry sized in
-    list-written (set s) (sized .with-size .result) (bytes s) (fit s) (whole s) (sizes sized .figured) (held (same .before .before))
-    (decides-told (same .if3 .left) (same .before .is-cycle .ensures)) (s .args .out .now) _ (roomy .if4 .left) (wrote .write-list .ensures)
+    list-written (set s) (sized .with-size .result) (bytes s) (fit s) (sizes sized .figured) (held (same .before .before))
+    (decides-told (same .if3 .left) (same .before .is-cycle .ensures)) (s .args .out .now) _ (omega (arith, roomy .if4 .left)) (wrote .write-list .ensures)
 
 pub restore-figures-spec : {M : Type 1} → statement M
 restore-figures-spec =

@@ -12,12 +12,13 @@ use Rattle.cycle.specs.Comparing.{Decides}
 use Rattle.cycle.proofs.Deciding.{decides-yes, decides-by, decides-both, decides-eqb}
 use Rattle.cycle.proofs.restore.same_bucket.Statement.{statement}
 use Rattle.cycle.proofs.restore.same_bucket.Tie as tie
+use Rattle.buckets.specs.Lengths.{bucketLength}
 
 abbrev Inv-loop : tie.InvT-loop
-Inv-loop a b same₀ i₀ same i = (i ≤ 240) × Decides ((k : ℕ) → k < i → getD a k 0 ≡ getD b k 0) same
+Inv-loop a b same₀ i₀ same i = (i ≤ bucketLength) × Decides ((k : ℕ) → k < i → getD a k 0 ≡ getD b k 0) same
 
 abbrev μ-loop : tie.MeasureT-loop
-μ-loop a b same₀ i₀ same i = 240 - i
+μ-loop a b same₀ i₀ same i = bucketLength - i
 
 loop-holds : tie.Need-loop-holds Inv-loop μ-loop
 loop-holds c = (omega arith, decides-yes (λ k h. absurd (omega arith)))

@@ -9,6 +9,7 @@ use native.Mathlib.Omega.{arith}
 use lib.ListN.{length}
 use Rattle.columns.specs.Lists.{put}
 use Rattle.columns.proofs.Put.{put-nil}
+use Rattle.buckets.specs.Lengths.{lineLength, bucketLength, bucketsMost}
 use Rattle.cycle.specs.Held.{planOf, firstPlace}
 use Rattle.cycle.specs.Comparing.{listText}
 use Rattle.cycle.proofs.TreePlaces.{data-in, d-high}
@@ -25,7 +26,7 @@ Inv-loop out₀ image f s x₀ q₀ out x q =
     (s .first ≤ q)
     × (q ≤ s .last)
     × (x ≡ s .«data_at» + (q - s .first))
-    × (out ≡ put out₀ (27 * (s .first * f .p)) (listText f image (s .first * f .p) (min (f .lines) (q * f .p))))
+    × (out ≡ put out₀ (lineLength * (s .first * f .p)) (listText f image (s .first * f .p) (min (f .lines) (q * f .p))))
 
 abbrev μ-loop : tie.MeasureT-loop
 μ-loop out₀ image f s x₀ q₀ out x q = s .last - q
@@ -56,7 +57,7 @@ loop-holds c =
       omega arith,
       s .pre .0 .placed [] .first-last,
       omega arith,
-      sym (ap (put (s .args .out .now) (27 * a)) (text-none f (s .args .image .now) (s .pre .0 .holding) a (min (f .lines) a) (omega arith)) ∙ put-nil (s .args .out .now) (27 * a)),
+      sym (ap (put (s .args .out .now) (lineLength * a)) (text-none f (s .args .image .now) (s .pre .0 .holding) a (min (f .lines) a) (omega arith)) ∙ put-nil (s .args .out .now) (lineLength * a)),
     )
 
 -- data bucket q
@@ -74,7 +75,7 @@ low c =
     full-lines (s .args .f) (s .pre .0 .holding .ready .shaped) (loop-of c .loop .q) (in-d c)
 
 room : (c : tie.Then1 Inv-loop μ-loop) →
-    (240 * loop-of c .loop .x + 240 ≤ length (start (loop-of c) .args .image .now)) × (loop-of c .loop .x ≤ 99999)
+    (bucketLength * loop-of c .loop .x + bucketLength ≤ length (start (loop-of c) .args .image .now)) × (loop-of c .loop .x ≤ bucketsMost)
 room c =
     let loop = loop-of c in
     let s = start loop in
@@ -158,7 +159,7 @@ returns c =
     let f = s .args .f in
     let a : ℕ = s .args .s .first * f .p in
     let all : loop .loop .q ≡ s .args .s .last = omega (arith, c .if1 .left, loop .loop .inv .1) in
-    loop .loop .inv .3 ∙ ap (λ q. put (s .args .out .now) (27 * a) (listText f (s .args .image .now) a (min (f .lines) (q * f .p)))) all
+    loop .loop .inv .3 ∙ ap (λ q. put (s .args .out .now) (lineLength * a) (listText f (s .args .image .now) a (min (f .lines) (q * f .p)))) all
 
 pub write-lines-spec : {M : Type 1} → statement M
 write-lines-spec =

@@ -15,6 +15,7 @@ use Rattle.cycle.proofs.Readiness.{Block, block, BlockTrees, block-tree
 use Rattle.cycle.proofs.PlacedBlocks.{blockAt, block-room, block-first, block-grows, placed-block}
 use Rattle.cycle.proofs.segments.distributed_segment.Statement.{statement}
 use Rattle.cycle.proofs.segments.distributed_segment.Tie as tie
+use Rattle.buckets.specs.Lengths.{bucketsMost}
 
 -- what is known at the start
 known : (c : tie.Start) → Block (c .args .f)
@@ -32,7 +33,7 @@ record Room (f : Figures) (b : ℕ) : Type 0 where
   ends :
       blockAt f b + (f .copies + 1 - pathTop (f .n) (f .copies) b) + length (treeAt (planOf f []) (f .k - f .copies) b)
       + (min (f .d) ((b + 1) * f .n ^ (f .k - f .copies)) - b * f .n ^ (f .k - f .copies))
-      ≤ 99999
+      ≤ bucketsMost
 
 room : (c : tie.Start) → Room (c .args .f) (c .args .b)
 room c =

@@ -5,13 +5,14 @@ use mathlib.Core.List.{[]}
 use Prim.Native.Nat.{_+_, _-_, _*_, _^_, _≤_}
 use native.Mathlib.Nat.{mul-le-mul}
 use native.Mathlib.Omega.{arith}
-use Rattle.cycle.specs.Held.{planOf, fullSize, InTree}
+use Rattle.cycle.specs.Held.{planOf, fullSize, InTree, spanMost}
 use Rattle.cycle.proofs.PathSizes.{climbs, climbs-small, length-paths}
 use Rattle.cycle.proofs.SegmentSizes.{length-blocks}
 use Rattle.cycle.proofs.Readiness.{Block, block, BlockTrees, block-trees, Reached, reached}
 use Rattle.cycle.proofs.Segmented.{block-in}
 use Rattle.cycle.proofs.segments.distributed_start.Statement.{statement}
 use Rattle.cycle.proofs.segments.distributed_start.Tie as tie
+use Rattle.buckets.specs.Lengths.{linesMost, pairsMost}
 
 -- what is known at the start
 known : (c : tie.Start) → Block (c .args .f)
@@ -26,11 +27,11 @@ inside c =
     reached f (f .k - f .copies) (c .args .b) (c .pre .0 .shaped) (block-in f (c .args .b) (c .pre .0) (c .pre .1) (c .pre .2))
 
 -- a full segment's tree and data buckets, and those of the segments before
-wide : (c : tie.Start) → c .args .f .span + c .args .f .full ≤ 640000
+wide : (c : tie.Start) → c .args .f .span + c .args .f .full ≤ 2 * spanMost
 wide c = let k = known c in let t = trees c in omega (arith, k .power-high, k .full-high, t .span, t .full)
 
-small : (c : tie.Start) → c .args .b * (c .args .f .span + c .args .f .full) ≤ 40000 * 640000
-small c = mul-le-mul {n₂ = 40000} {m₂ = 640000} (inside c .place) (wide c)
+small : (c : tie.Start) → c .args .b * (c .args .f .span + c .args .f .full) ≤ linesMost * (2 * spanMost)
+small c = mul-le-mul {n₂ = linesMost} {m₂ = 2 * spanMost} (inside c .place) (wide c)
 
 add-result : tie.Need-add-result
 add-result c = omega (arith, wide (c .before))
@@ -45,7 +46,7 @@ paths-before-requires c κs = let start = c .before in (start .pre .0 .shaped, s
 climbed :
     (c : tie.After-paths-before) →
     (c .paths-before .result ≡ climbs (c .before .before .args .f .n) (c .before .before .args .f .copies) (c .before .before .args .b))
-    × (c .paths-before .result ≤ 160000)
+    × (c .paths-before .result ≤ pairsMost * linesMost)
 unfolding planOf
 climbed c =
     let start = c .before .before in
@@ -53,7 +54,7 @@ climbed c =
     let k = known start in
     let e : c .paths-before .result ≡ climbs (f .n) (f .copies) (start .args .b) =
     c .paths-before .ensures ∙ length-paths (planOf f []) (k .pos) (start .args .b) in
-    let s = climbs-small (f .n) (k .pos) (f .copies) (start .args .b) 40000 (inside start .place) in
+    let s = climbs-small (f .n) (k .pos) (f .copies) (start .args .b) linesMost (inside start .place) in
     (e, omega (arith, k .few))
 
 add-result-2 : tie.Need-add-result-2

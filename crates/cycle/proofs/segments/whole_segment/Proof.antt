@@ -13,6 +13,7 @@ use Rattle.cycle.proofs.Readiness.{Parts, parts, whole-last}
 use Rattle.cycle.proofs.PlacedParts.{wholeTree, partFrom, whole-room, placed-whole}
 use Rattle.cycle.proofs.segments.whole_segment.Statement.{statement}
 use Rattle.cycle.proofs.segments.whole_segment.Tie as tie
+use Rattle.buckets.specs.Lengths.{linesMost, bucketsMost}
 
 -- what is known at the start
 known : (c : tie.Start) → Parts (c .args .f)
@@ -25,10 +26,10 @@ tree c = whole-last (c .args .f) (c .pre .0 .shaped) (c .pre .0 .trees) (λ e. o
 record Room (f : Figures) (i : ℕ) : Type 0 where
   grows : partFrom f i ≤ partFrom f (suc i)
   next : (i + 1) * f .d / f .copies ≡ partFrom f (suc i)
-  data-before : i * f .d ≤ 40000 * 40000
-  data-behind : (i + 1) * f .d ≤ 40001 * 40000
-  trees : i * wholeTree f ≤ 99999
-  ends : i * wholeTree f + partFrom f i + wholeTree f + (partFrom f (suc i) - partFrom f i) ≤ 99999
+  data-before : i * f .d ≤ linesMost * linesMost
+  data-behind : (i + 1) * f .d ≤ (linesMost + 1) * linesMost
+  trees : i * wholeTree f ≤ bucketsMost
+  ends : i * wholeTree f + partFrom f i + wholeTree f + (partFrom f (suc i) - partFrom f i) ≤ bucketsMost
 
 room : (c : tie.Start) → Room (c .args .f) (c .args .i)
 unfolding planOf
@@ -40,8 +41,8 @@ room c =
     record {
       grows = part-step (planOf f []) i (k .parted);
       next = ap (λ x. x * f .d / f .copies) (add-one i);
-      data-before = mul-le-mul {n₂ = 40000} {m₂ = 40000} (omega arith) (k .some);
-      data-behind = mul-le-mul {n₂ = 40001} {m₂ = 40000} (omega arith) (k .some);
+      data-before = mul-le-mul {n₂ = linesMost} {m₂ = linesMost} (omega arith) (k .some);
+      data-behind = mul-le-mul {n₂ = linesMost + 1} {m₂ = linesMost} (omega arith) (k .some);
       trees = omega arith;
       ends = ends;
     }

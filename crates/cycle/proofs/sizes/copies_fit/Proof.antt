@@ -13,6 +13,7 @@ use Rattle.cycle.proofs.Ranges.{le-or-lt}
 use Rattle.cycle.proofs.Readiness.{copies-distributed, copies-whole, same-ltb-leb, levels-are}
 use Rattle.cycle.proofs.sizes.copies_fit.Statement.{statement}
 use Rattle.cycle.proofs.sizes.copies_fit.Tie as tie
+use Rattle.buckets.specs.Lengths.{pairsMost}
 
 -- of one copy at least, and no data bucket
 one-test : (m : ℕ) → 1 ≤ m → eqb m 1 ≡ leb m (max 1 0)
@@ -26,14 +27,14 @@ returns : tie.Need-returns
 unfolding planOf
 returns c =
     let f = c .before .before .before .before .args .f in
-    sym (copies-distributed (planOf f []) (omega arith) ∙ lt-leb (f .copies) (min 4 (f .k - 1)) (omega arith))
+    sym (copies-distributed (planOf f []) (omega arith) ∙ lt-leb (f .copies) (min pairsMost (f .k - 1)) (omega arith))
 
 returns-2 : tie.Need-returns-2
 unfolding planOf
 returns-2 c =
     let f = c .before .before .before .before .before .args .f in
     let l = levels-are f (c .before .before .before .before .before .pre) in
-    same-ltb-leb (f .copies) (f .k) (f .copies) (min 4 (f .k - 1)) (λ h. omega (arith, l .low)) (λ h. omega (arith, l .low))
+    same-ltb-leb (f .copies) (f .k) (f .copies) (min pairsMost (f .k - 1)) (λ h. omega (arith, l .low)) (λ h. omega (arith, l .low))
     ∙ sym (copies-distributed (planOf f []) (omega arith))
 
 returns-3 : tie.Need-returns-3

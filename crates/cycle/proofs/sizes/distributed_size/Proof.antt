@@ -7,8 +7,9 @@ use native.Mathlib.Nat.{mul-le-mul}
 use native.Mathlib.Omega.{arith}
 use lib.ListN.{length}
 use Rattle.columns.specs.Lists.{up}
+use Rattle.buckets.specs.Lengths.{linesMost, pairsMost}
 use Rattle.cycle.specs.declared.Figures.{Figures}
-use Rattle.cycle.specs.Held.{planOf, treeAt}
+use Rattle.cycle.specs.Held.{planOf, treeAt, spanMost}
 use Rattle.cycle.proofs.TreeSizes.{tree-small}
 use Rattle.cycle.proofs.PathSizes.{LastPart, last-part, climbs, climbs-small, length-paths}
 use Rattle.cycle.proofs.SegmentSizes.{size-blocks, size-empty}
@@ -53,16 +54,16 @@ counted c =
     (last-part (f .d) (f .n ^ (f .k - f .copies)) (omega arith) (known start .power-low))
 
 -- the trees of the segments before the last, and the last
-before-last : (c : tie.After-up) → (c .up .result - 1) * figures c .full ≤ 40000 * 320000
+before-last : (c : tie.After-up) → (c .up .result - 1) * figures c .full ≤ linesMost * spanMost
 before-last c =
     let start = c .before .before .before in
     let b = known start in
-    mul-le-mul {n₂ = 40000} {m₂ = 320000} (omega (arith, counted c .few, b .some)) (omega (arith, trees start .full, b .full-high))
+    mul-le-mul {n₂ = linesMost} {m₂ = spanMost} (omega (arith, counted c .few, b .some)) (omega (arith, trees start .full, b .full-high))
 
 last-tree : (c : tie.After-up) → figures c .last ≡ length (treeAt (planOf (figures c) []) (figures c .k - figures c .copies) (c .up .result - 1))
 last-tree c = let n = counted c in trees (c .before .before .before) .last (c .up .result - 1) (omega (arith, n .starts)) (n .covers)
 
-last-small : (c : tie.After-up) → figures c .last ≤ 320000
+last-small : (c : tie.After-up) → figures c .last ≤ spanMost
 unfolding planOf
 last-small c =
     let f = figures c in
@@ -79,14 +80,14 @@ paths-before-requires c κs =
 climbed :
     (c : tie.After-paths-before) →
     (c .paths-before .result ≡ climbs (figures (c .before) .n) (figures (c .before) .copies) (c .before .up .result))
-    × (c .paths-before .result ≤ 160000)
+    × (c .paths-before .result ≤ pairsMost * linesMost)
 unfolding planOf
 climbed c =
     let f = figures (c .before) in
     let b = known (c .before .before .before .before) in
     let e : c .paths-before .result ≡ climbs (f .n) (f .copies) (c .before .up .result) =
     c .paths-before .ensures ∙ length-paths (planOf f []) (b .pos) (c .before .up .result) in
-    let s = climbs-small (f .n) (b .pos) (f .copies) (c .before .up .result) 40000 (omega (arith, counted (c .before) .few, b .some)) in
+    let s = climbs-small (f .n) (b .pos) (f .copies) (c .before .up .result) linesMost (omega (arith, counted (c .before) .few, b .some)) in
     (e, omega (arith, b .few))
 
 add-result : tie.Need-add-result

@@ -9,6 +9,7 @@ use Rattle.cycle.proofs.Powers.{power-high}
 use Rattle.cycle.proofs.Fulls.{full-next, full-below}
 use Rattle.cycle.proofs.sizes.full_size.Statement.{statement}
 use Rattle.cycle.proofs.sizes.full_size.Tie as tie
+use Rattle.buckets.specs.Lengths.{entriesMost}
 
 abbrev Inv-loop : tie.InvT-loop
 Inv-loop n h x₀ i₀ x i = (i ≤ h) × (x ≡ fullSize n i)
@@ -20,13 +21,13 @@ loop-holds : tie.Need-loop-holds Inv-loop μ-loop
 loop-holds c = (omega arith, refl)
 
 -- the size reached, times n
-small : (c : tie.In-loop Inv-loop μ-loop) → c .before .loop .x * c .before .before .args .n ≤ 2 ^ 48 * 8
+small : (c : tie.In-loop Inv-loop μ-loop) → c .before .loop .x * c .before .before .args .n ≤ 2 ^ 48 * entriesMost
 small c =
     let n = c .before .before .args .n in
     let l = c .before .loop in
     let p = power-high n (l .i) (omega arith) (omega arith) in
     let q = full-below n (l .i) (omega arith) in
-    mul-le-mul {n₂ = 2 ^ 48} {m₂ = 8} (omega (arith, l .inv .1)) (omega arith)
+    mul-le-mul {n₂ = 2 ^ 48} {m₂ = entriesMost} (omega (arith, l .inv .1)) (omega arith)
 
 mul-x : tie.Need-mul-x Inv-loop μ-loop
 mul-x c = let s = small c in omega arith

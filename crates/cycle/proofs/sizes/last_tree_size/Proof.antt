@@ -5,27 +5,29 @@ use mathlib.Core.List.{[]}
 use Prim.Native.Nat.{ℕ, suc, _+_, _-_, _*_, _^_, _≤_}
 use native.Mathlib.Omega.{arith}
 use Rattle.columns.specs.Lists.{up}
+use Rattle.buckets.specs.Lengths.{linesMost}
 use Rattle.cycle.specs.declared.Figures.{Figures}
-use Rattle.cycle.specs.Held.{planOf, Shaped, InTree}
+use Rattle.cycle.specs.Held.{planOf, Shaped, InTree, spanMost}
+use Rattle.cycle.specs.Tree.{levelsMost}
 use Rattle.cycle.proofs.TreeSizes.{lastRows, tree-last, tree-empty, row-fits}
 use Rattle.cycle.proofs.Readiness.{Reached, reached}
 use Rattle.cycle.proofs.sizes.last_tree_size.Statement.{statement}
 use Rattle.cycle.proofs.sizes.last_tree_size.Tie as tie
 
 abbrev Inv-loop : tie.InvT-loop
-Inv-loop f e j h₀ sum₀ h sum = (1 ≤ h) × (h ≤ e + 1) × (sum ≡ lastRows (f .n) (f .d) e j (h - 1)) × (sum ≤ 40000 * h)
+Inv-loop f e j h₀ sum₀ h sum = (1 ≤ h) × (h ≤ e + 1) × (sum ≡ lastRows (f .n) (f .d) e j (h - 1)) × (sum ≤ linesMost * h)
 
 abbrev μ-loop : tie.MeasureT-loop
 μ-loop f e j h₀ sum₀ h sum = (e + 1) - h
 
 -- one row: what the code reads, and what it adds
 record Row (f : Figures) (e j h : ℕ) : Type 0 where
-  height : e ≤ 16
+  height : e ≤ levelsMost
   low : 1 ≤ f .n ^ h
-  small : f .n ^ h ≤ 320000
-  few : f .d ≤ 40000
+  small : f .n ^ h ≤ spanMost
+  few : f .d ≤ linesMost
   starts : j * f .n ^ (e - h) ≤ up (f .d) (f .n ^ h)
-  ends : up (f .d) (f .n ^ h) ≤ 40000
+  ends : up (f .d) (f .n ^ h) ≤ linesMost
 
 row : (f : Figures) (e j h : ℕ) → Shaped f → InTree f e j → (f .d ≡ 0 → ⊥) → h ≤ e → Row f e j h
 unfolding InTree

@@ -9,7 +9,8 @@ use native.Mathlib.Omega.{arith}
 use lib.Dec.{leb}
 use borrow.Author.Tests.{le-leb, lt-leb}
 use Rattle.columns.specs.Lists.{least}
-use Rattle.cycle.specs.Tree.{levels}
+use Rattle.buckets.specs.Lengths.{linesMost, entriesMost}
+use Rattle.cycle.specs.Tree.{levels, levelsMost}
 use Rattle.cycle.proofs.Ranges.{le-or-lt}
 use Rattle.cycle.proofs.Least.{least-found, least-next}
 use Rattle.cycle.proofs.Powers.{power-reaches}
@@ -18,24 +19,24 @@ use Rattle.cycle.proofs.sizes.levels_of.Tie as tie
 
 -- the least level from k on
 abbrev rest : ℕ → ℕ → ℕ → ℕ
-rest n d k = least (17 - k) k (λ x. leb d (n ^ x))
+rest n d k = least (levelsMost + 1 - k) k (λ x. leb d (n ^ x))
 
 abbrev Inv-loop : tie.InvT-loop
 Inv-loop n d k₀ power₀ k power =
-    (1 ≤ k) × (k ≤ 16) × (power ≡ n ^ k) × (levels n d ≡ rest n d k)
+    (1 ≤ k) × (k ≤ levelsMost) × (power ≡ n ^ k) × (levels n d ≡ rest n d k)
 
 abbrev μ-loop : tie.MeasureT-loop
-μ-loop n d k₀ power₀ k power = 16 - k
+μ-loop n d k₀ power₀ k power = levelsMost - k
 
 -- one level more is looked at
-look : (n d k : ℕ) → 2 ≤ n → d ≤ 40000 → n ^ k + 1 ≤ d → (k + 1 ≤ 16) × (rest n d k ≡ rest n d (k + 1))
+look : (n d k : ℕ) → 2 ≤ n → d ≤ linesMost → n ^ k + 1 ≤ d → (k + 1 ≤ levelsMost) × (rest n d k ≡ rest n d (k + 1))
 look n d k low few l =
     ⊎-elim
-    (λ (g : 16 ≤ k). let r = power-reaches n k low g in absurd (omega arith))
-    (λ (g : k < 16).
-    let e : 17 - k ≡ suc (17 - suc k) = omega arith in
-    (omega arith, rw (e, add-one k) (least-next (17 - suc k) k (λ x. leb d (n ^ x)) (lt-leb d (n ^ k) (omega arith)))))
-    (le-or-lt 16 k)
+    (λ (g : levelsMost ≤ k). let r = power-reaches n k low g in absurd (omega arith))
+    (λ (g : k < levelsMost).
+    let e : levelsMost + 1 - k ≡ suc (levelsMost + 1 - suc k) = omega arith in
+    (omega arith, rw (e, add-one k) (least-next (levelsMost + 1 - suc k) k (λ x. leb d (n ^ x)) (lt-leb d (n ^ k) (omega arith)))))
+    (le-or-lt levelsMost k)
 
 loop-holds : tie.Need-loop-holds Inv-loop μ-loop
 unfolding levels
@@ -46,7 +47,7 @@ loop-holds c =
 
 mul-power : tie.Need-mul-power Inv-loop μ-loop
 mul-power c =
-    let m : c .before .loop .power * c .before .before .args .n ≤ 40000 * 8 = mul-le-mul {n₂ = 40000} {m₂ = 8} (omega arith) (omega arith) in
+    let m : c .before .loop .power * c .before .before .args .n ≤ linesMost * entriesMost = mul-le-mul {n₂ = linesMost} {m₂ = entriesMost} (omega arith) (omega arith) in
     omega arith
 
 abbrev restAt : tie.In-loop Inv-loop μ-loop → ℕ → ℕ
@@ -54,7 +55,7 @@ restAt c k = rest (c .before .before .args .n) (c .before .before .args .d) k
 
 turned :
     (c : tie.In-loop Inv-loop μ-loop) →
-    (c .before .loop .k + 1 ≤ 16) × (restAt c (c .before .loop .k) ≡ restAt c (c .before .loop .k + 1))
+    (c .before .loop .k + 1 ≤ levelsMost) × (restAt c (c .before .loop .k) ≡ restAt c (c .before .loop .k + 1))
 turned c = look (c .before .before .args .n) (c .before .before .args .d) (c .before .loop .k) (omega arith) (omega arith) (omega arith)
 
 add-k : tie.Need-add-k Inv-loop μ-loop
@@ -78,7 +79,7 @@ returns c =
     let d = c .before .before .args .d in
     let k = c .before .loop .k in
     let inv = c .before .loop .inv in
-    sym (inv .3 ∙ least-found (17 - k) k (λ x. leb d (n ^ x)) (le-leb d (n ^ k) (omega arith)))
+    sym (inv .3 ∙ least-found (levelsMost + 1 - k) k (λ x. leb d (n ^ x)) (le-leb d (n ^ k) (omega arith)))
 
 pub levels-of-spec : {M : Type 1} → statement M
 levels-of-spec =

@@ -6,11 +6,12 @@ use Prim.Native.Nat.{_+_, _*_, _≤_}
 use native.Mathlib.Nat.{mul-le-mul}
 use native.Mathlib.Omega.{arith}
 use lib.ListN.{length}
-use Rattle.cycle.specs.Held.{planOf, treeAt}
+use Rattle.cycle.specs.Held.{planOf, treeAt, spanMost}
 use Rattle.cycle.proofs.SegmentSizes.{size-wholes}
 use Rattle.cycle.proofs.Readiness.{Parts, parts, whole-last}
 use Rattle.cycle.proofs.sizes.one_m_size.Statement.{statement}
 use Rattle.cycle.proofs.sizes.one_m_size.Tie as tie
+use Rattle.buckets.specs.Lengths.{linesMost}
 
 -- what is known at the start
 known : (c : tie.Start) → Parts (c .args .f)
@@ -19,8 +20,8 @@ known c = parts (c .args .f) (c .pre .0) (λ e. omega arith) (c .pre .2)
 tree : (c : tie.Start) → c .args .f .last ≡ length (treeAt (planOf (c .args .f) []) (c .args .f .k) 0)
 tree c = whole-last (c .args .f) (c .pre .0) (c .pre .3) (λ e. omega arith)
 
-product : (c : tie.Start) → c .args .f .copies * c .args .f .last ≤ 40000 * 320000
-product c = mul-le-mul {n₂ = 40000} {m₂ = 320000} (omega (arith, known c .few)) (omega (arith, known c .tree, tree c))
+product : (c : tie.Start) → c .args .f .copies * c .args .f .last ≤ linesMost * spanMost
+product c = mul-le-mul {n₂ = linesMost} {m₂ = spanMost} (omega (arith, known c .few)) (omega (arith, known c .tree, tree c))
 
 mul-result : tie.Need-mul-result
 mul-result c = omega (arith, product (c .before))

@@ -7,6 +7,7 @@ use Prim.Native.Nat.{ℕ, suc, _+_, _-_, _*_, _≤_, _<_}
 use native.Mathlib.Nat.{add-zero, add-assoc, mul-le-mul-left}
 use native.Mathlib.Omega.{arith}
 use Rattle.columns.specs.Lists.{up}
+use Rattle.buckets.specs.Lengths.{linesMost, pairsMost}
 use Rattle.cycle.specs.Held.{planOf}
 use Rattle.cycle.proofs.TreeLaws.{up-least}
 use Rattle.cycle.proofs.PathSizes.{climbs, length-paths}
@@ -18,14 +19,14 @@ abbrev Inv-loop : tie.InvT-loop
 Inv-loop f b left₀ count₀ sum₀ left count sum =
     (1 ≤ left)
     × (climbs (f .n) (f .copies) b ≡ sum + climbs (f .n) (left - 1) (up count (f .n)))
-    × (count ≤ 40000)
-    × (sum + 40000 * (left - 1) ≤ 160000)
+    × (count ≤ linesMost)
+    × (sum + linesMost * (left - 1) ≤ pairsMost * linesMost)
 
 abbrev μ-loop : tie.MeasureT-loop
 μ-loop f b left₀ count₀ sum₀ left count sum = left
 
 -- copies is at most 4
-few : (c : tie.Start Inv-loop μ-loop) → c .args .f .copies ≤ 4
+few : (c : tie.Start Inv-loop μ-loop) → c .args .f .copies ≤ pairsMost
 unfolding planOf
 few c = path-facts (planOf (c .args .f) []) (c .pre .2) (c .pre .1) .0
 
@@ -61,7 +62,7 @@ up-requires : tie.Need-up-requires Inv-loop μ-loop
 up-requires c κs = let s = c .before .before .before .before .pre .0 in (omega (arith, s .n-low), omega (arith, s .n-high))
 
 -- what `up` gave is no more than there were
-counted : (c : tie.After-up Inv-loop μ-loop) → c .up .result ≤ 40000
+counted : (c : tie.After-up Inv-loop μ-loop) → c .up .result ≤ linesMost
 counted c =
     let n : ℕ = c .before .before .before .before .before .args .f .n in
     let count : ℕ = c .before .before .loop .count in

@@ -8,6 +8,7 @@ use Rattle.cycle.proofs.Powers.{power-high}
 use Rattle.cycle.proofs.Fulls.{power-next}
 use Rattle.cycle.proofs.sizes.power.Statement.{statement}
 use Rattle.cycle.proofs.sizes.power.Tie as tie
+use Rattle.buckets.specs.Lengths.{entriesMost}
 
 abbrev Inv-loop : tie.InvT-loop
 Inv-loop n h x₀ i₀ x i = (i ≤ h) × (x ≡ n ^ i)
@@ -23,7 +24,7 @@ mul-x c =
     let n = c .before .before .args .n in
     let l = c .before .loop in
     let s = power-high n (l .i) (omega arith) (omega arith) in
-    let m : l .x * n ≤ 2 ^ 48 * 8 = mul-le-mul {n₂ = 2 ^ 48} {m₂ = 8} (omega (arith, l .inv .1)) (omega arith) in
+    let m : l .x * n ≤ 2 ^ 48 * entriesMost = mul-le-mul {n₂ = 2 ^ 48} {m₂ = entriesMost} (omega (arith, l .inv .1)) (omega arith) in
     omega arith
 
 add-i : tie.Need-add-i Inv-loop μ-loop

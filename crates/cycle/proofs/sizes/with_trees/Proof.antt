@@ -7,7 +7,8 @@ use native.Mathlib.Nat.{one-le-pow}
 use native.Mathlib.Omega.{arith}
 use lib.ListN.{length}
 use Rattle.cycle.specs.declared.Figures.{Figures}
-use Rattle.cycle.specs.Held.{planOf, InTree, fullSize, treeAt, treeHeight, lastPlace, lastTree, sized}
+use Rattle.cycle.specs.Held.{planOf, InTree, fullSize, treeAt, treeHeight, lastPlace, lastTree, sized, spanMost}
+use Rattle.cycle.specs.Tree.{levelsMost}
 use Rattle.cycle.proofs.Powers.{power-below}
 use Rattle.cycle.proofs.Readiness.{levels-are, tree-height, last-starts}
 use Rattle.cycle.proofs.sizes.with_trees.Statement.{statement}
@@ -20,9 +21,9 @@ tree-height-requires c κs = (c .pre .0, c .pre .1)
 record Height (f : Figures) (h : ℕ) : Type 0 where
   low : 1 ≤ h
   high : h ≤ f .k
-  high-enough : f .k ≤ 16
+  high-enough : f .k ≤ levelsMost
   span-low : 1 ≤ f .n ^ h
-  span-high : f .n ^ h ≤ 320000
+  span-high : f .n ^ h ≤ spanMost
 
 known : (c : tie.After-tree-height) → Height (c .before .args .f) (c .tree-height .result)
 known c =

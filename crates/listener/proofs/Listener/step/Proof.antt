@@ -4,24 +4,27 @@ use mathlib.Core.Path.{sym, _∙_}
 use borrow.Author.Needs.{needs}
 use borrow.Author.Tests.{not-true, not-false}
 use Rattle.listener.proofs.States.{counts, step-ended, step-unfit, step-read}
+use Rattle.listener.proofs.Told.{step-tells}
 use Rattle.listener.proofs.Listener.step.Statement.{statement}
 use Rattle.listener.proofs.Listener.step.Tie as tie
 
 returns : tie.Need-returns
 returns c =
     let s = c .before .before .before .before in
-    c .refused-ended .ensures ∙
+    step-tells
+    (c .refused-ended .ensures ∙
     sym
-    (step-ended (s .args .self) (s .args .bucket .now) (sym (c .before .before .is-ended .ensures) ∙ c .before .if1 .taken))
+    (step-ended (s .args .self) (s .args .bucket .now) (sym (c .before .before .is-ended .ensures) ∙ c .before .if1 .taken)))
 
 returns-2 : tie.Need-returns-2
 returns-2 c =
     let s = c .before .before .before .before .before .before in
-    c .refused-ended2 .ensures ∙
+    step-tells
+    (c .refused-ended2 .ensures ∙
     sym
     (step-unfit (s .args .self) (s .args .bucket .now)
     (sym (c .before .before .before .before .is-ended .ensures) ∙ c .before .before .before .if1 .left)
-    (sym (c .before .before .counts-fit .ensures) ∙ not-true (c .before .before .counts-fit .result) (c .before .if2 .taken)))
+    (sym (c .before .before .counts-fit .ensures) ∙ not-true (c .before .before .counts-fit .result) (c .before .if2 .taken))))
 
 take-reading-requires : tie.Need-take-reading-requires
 take-reading-requires c κs =
@@ -34,11 +37,12 @@ take-reading-requires c κs =
 returns-3 : tie.Need-returns-3
 returns-3 c =
     let s = c .before .before .before .before .before .before .before in
-    c .take-reading .ensures (s .args .bucket .now) (c .before .read-bucket .ensures) ∙
+    step-tells
+    (c .take-reading .ensures (s .args .bucket .now) (c .before .read-bucket .ensures) ∙
     sym
     (step-read (s .args .self) (s .args .bucket .now)
     (sym (c .before .before .before .before .before .is-ended .ensures) ∙ c .before .before .before .before .if1 .left)
-    (sym (c .before .before .before .counts-fit .ensures) ∙ not-false (c .before .before .before .counts-fit .result) (c .before .before .if2 .left)))
+    (sym (c .before .before .before .counts-fit .ensures) ∙ not-false (c .before .before .before .counts-fit .result) (c .before .before .if2 .left))))
 
 pub step-spec : {M : Type 1} → statement M
 step-spec =

@@ -8,7 +8,7 @@ use Rattle.buckets.specs.Bucket.{Body, dataBody}
 use Rattle.buckets.specs.Held.{bucketWith}
 use Rattle.listener.specs.OnReading.{taggedLines}
 use Rattle.listener.specs.Listener.{awaited}
-use Rattle.listener.proofs.States.{take-tune-in, take-later, take-other}
+use Rattle.listener.proofs.States.{heed-tune-in, heed-later, heed-other}
 use Rattle.listener.proofs.Listener.take_data.Statement.{statement}
 use Rattle.listener.proofs.Listener.take_data.Tie as tie
 
@@ -21,7 +21,7 @@ returns c =
     let s = c .before .before .before in
     c .refused .ensures ∙
     sym
-    (take-other (s .args .self) (bucketWith (s .args .h) (body s))
+    (heed-other (s .args .self) (bucketWith (s .args .h) (body s))
     (sym (c .before .before .awaits .ensures (body s) refl) ∙
     not-true (c .before .before .awaits .result) (c .before .if1 .taken)))
 
@@ -41,7 +41,7 @@ returns-2 c =
     let s = start here in
     c .doze-by .ensures (body s) ∙
     sym
-    (take-tune-in (s .args .self) (bucketWith (s .args .h) (body s)) (as-awaited here)
+    (heed-tune-in (s .args .self) (bucketWith (s .args .h) (body s)) (as-awaited here)
     (sym (c .before .before .is-tune-in .ensures) ∙ c .before .if2 .taken))
 
 returns-3 : tie.Need-returns-3
@@ -51,7 +51,7 @@ returns-3 c =
     let s = start here in
     c .data-step .ensures ∙
     sym
-    (take-later (s .args .self) (bucketWith (s .args .h) (body s)) (as-awaited here)
+    (heed-later (s .args .self) (bucketWith (s .args .h) (body s)) (as-awaited here)
     (sym (c .before .before .is-tune-in .ensures) ∙ c .before .if2 .left))
 
 pub take-data-spec : {M : Type 1} → statement M

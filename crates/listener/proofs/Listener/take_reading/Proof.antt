@@ -2,7 +2,7 @@
 -- Assumes nothing.
 use mathlib.Core.Path.{sym, _∙_, ap}
 use borrow.Author.Needs.{needs}
-use Rattle.listener.specs.Listener.{takeRead}
+use Rattle.listener.specs.Listener.{heedRead}
 use Rattle.listener.proofs.Readings.{index-read, data-read, misprint-read}
 use Rattle.listener.proofs.Listener.take_reading.Statement.{statement}
 use Rattle.listener.proofs.Listener.take_reading.Tie as tie
@@ -35,7 +35,7 @@ returns-3 : tie.Need-returns-3
 returns-3 c bytes e =
     let s = c .before .before .before .before in
     c .refused .ensures ∙
-    ap (takeRead (s .args .self)) (sym (misprint-read bytes (s .args .r) e (c .before .enum-told3 .given .1)))
+    ap (heedRead (s .args .self)) (sym (misprint-read bytes (s .args .r) e (c .before .enum-told3 .given .1)))
 
 pub take-reading-spec : {M : Type 1} → statement M
 take-reading-spec =

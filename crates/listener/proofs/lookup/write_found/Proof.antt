@@ -3,15 +3,16 @@
 -- Assumes nothing.
 use mathlib.Core.Path.{_≡_, sym, _∙_, ap}
 use mathlib.Core.List.{[]}
-use Prim.Native.Nat.{ℕ, _<_}
+use Prim.Native.Nat.{ℕ}
 use native.Mathlib.Omega.{arith}
 use borrow.Author.Needs.{needs}
 use lib.ListN.{length}
 use Rattle.columns.specs.Lists.{put, joined}
 use Rattle.buckets.specs.ListLine.{printLine}
-use Rattle.listener.specs.OnRun.{runOn, gotBy}
+use Rattle.listener.specs.Lookup.{gotBy}
+use Rattle.listener.specs.OnRun.{runOn}
 use Rattle.listener.specs.declared.Answer.the-variants.{Doze}
-use Rattle.listener.proofs.Runs.{named-few, lines-few, doze-few, fewer-left, after, run-out}
+use Rattle.listener.proofs.Runs.{toGo, named-few, lines-few, doze-few, fewer-to-go, after-step}
 use Rattle.listener.proofs.WritingRuns.{Written, Writing, nothing-written, room-with, wrote-with, written-onward}
 use Rattle.listener.proofs.lookup.write_found.Statement.{statement}
 use Rattle.listener.proofs.lookup.write_found.Tie as tie
@@ -20,7 +21,7 @@ abbrev Inv-loop : tie.InvT-loop
 Inv-loop image count out₀ h₀ lines₀ out h lines = Written image count (runOn image count h₀ []) out₀ out h lines
 
 abbrev μ-loop : tie.MeasureT-loop
-μ-loop image count out₀ h₀ lines₀ out h lines = h .left
+μ-loop image count out₀ h₀ lines₀ out h lines = toGo h
 
 loop-holds : tie.Need-loop-holds Inv-loop μ-loop
 loop-holds c =
@@ -35,7 +36,7 @@ start c = c .before .before .before
 writing :
     (c : tie.At-loop Inv-loop μ-loop) →
     Writing (start c .args .image .now) (start c .args .count)
-    (runOn (start c .args .image .now) (start c .args .count) (start c .args .heard) [])
+    (runOn (start c .args .image .now) (start c .args .count) (start c .args .from) [])
     (start c .args .out .now)
     (c .loop .out)
     (c .loop .h)
@@ -67,33 +68,29 @@ kept-length c = copied c .copy-named .kept .1 .1 .1 .1 .0 ∙ at c .loop .inv .k
 
 -- ---- it dozes
 
-abbrev heard : tie.After-struct-known2 Inv-loop μ-loop → tie.After-struct-known Inv-loop μ-loop
-heard c = c .before .before .before .before
+abbrev heard : tie.After-known-told Inv-loop μ-loop → tie.After-struct-known Inv-loop μ-loop
+heard c = c .before .before .before
 
 dozed :
-    (c : tie.After-struct-known2 Inv-loop μ-loop) →
-    at (heard c) .loop .h .step .answer ≡ Doze (c .before .before .answer .given .0 .0)
-dozed c = c .before .before .answer .given .1
-
-more : (c : tie.Else1 Inv-loop μ-loop) → 0 < at (heard (c .before)) .loop .h .left
-more c = omega (arith, c .if1 .left)
+    (c : tie.After-known-told Inv-loop μ-loop) →
+    at (heard c) .loop .h .step .answer ≡ Doze (c .before .answer .given .0 .0)
+dozed c = c .before .answer .given .1
 
 hear-next-requires : tie.Need-hear-next-requires Inv-loop μ-loop
 hear-next-requires c κs =
-    let f = at (heard (c .before)) .loop .inv .so-far in
-    (start (at (heard (c .before))) .pre .0, (f .heard .inside, (more c, doze-few f (dozed (c .before)))))
+    let f = at (heard c) .loop .inv .so-far in
+    (start (at (heard c)) .pre .0, (f .heard .inside, doze-few f (dozed c)))
 
 loop-less : tie.Need-loop-less Inv-loop μ-loop
 loop-less c =
-    let here = c .before .before in
-    fewer-left (at (heard here) .loop .inv .so-far) (here .before .before .answer .given .0 .0) (more (c .before))
-    (c .hear-next .ensures)
+    let here = c .before in
+    fewer-to-go (at (heard here) .loop .inv .so-far) (here .before .answer .given .0 .0) (dozed here) (c .hear-next .ensures)
 
 loop-again : tie.Need-loop-again Inv-loop μ-loop
 loop-again c =
-    let here = c .before .before in
+    let here = c .before in
     let copy = copied (heard here) .copy-named in
-    written-onward (writing (at (heard here))) (here .before .before .answer .given .0 .0) (dozed here) (more (c .before))
+    written-onward (writing (at (heard here))) (here .before .answer .given .0 .0) (dozed here)
     (c .hear-next .ensures)
     (copy .kept .1 .1 .1 .1 .0)
     (copy .ensures)
@@ -102,31 +99,23 @@ loop-again c =
 
 returns : tie.Need-returns Inv-loop μ-loop
 returns c =
-    let here = c .before in
-    let a = run-out (at (heard here) .loop .inv .so-far) (dozed here) (c .if1 .taken) in
-    let f = start (at (heard here)) .pre .1 .1 .is in
-    let z : _≡_ {A = ℕ} 0 1 = cc in
-    absurd (omega arith)
+    let here = c .before .before in
+    wrote-with (writing (at here)) (copied here .copy-named .ensures) ∙
+    ap (λ got. put (start (at here) .args .out .now) 0 (joined printLine got))
+    (sym (ap gotBy (after-step (writing (at here) .written .so-far) (c .enum-told .given .1))))
 
 returns-2 : tie.Need-returns-2 Inv-loop μ-loop
 returns-2 c =
     let here = c .before .before in
-    wrote-with (writing (at here)) (copied here .copy-named .ensures) ∙
-    ap (λ got. put (start (at here) .args .out .now) 0 (joined printLine got))
-    (sym (ap gotBy (after (writing (at here) .written .so-far) (c .enum-told .given .1))))
-
-returns-3 : tie.Need-returns-3 Inv-loop μ-loop
-returns-3 c =
-    let here = c .before .before in
-    let a = after (at here .loop .inv .so-far) (c .enum-told2 .given .1) in
+    let a = after-step (at here .loop .inv .so-far) (c .enum-told2 .given .1) in
     let f = start (at here) .pre .1 .1 .is in
     let z : _≡_ {A = ℕ} 0 1 = cc in
     absurd (omega arith)
 
-returns-4 : tie.Need-returns-4 Inv-loop μ-loop
-returns-4 c =
+returns-3 : tie.Need-returns-3 Inv-loop μ-loop
+returns-3 c =
     let here = c .before .before in
-    let a = after (at here .loop .inv .so-far) (c .enum-told3 .given .1) in
+    let a = after-step (at here .loop .inv .so-far) (c .enum-told3 .given .1) in
     let f = start (at here) .pre .1 .1 .is in
     let z : _≡_ {A = ℕ} 0 1 = cc in
     absurd (omega arith)
@@ -141,17 +130,15 @@ write-found-spec =
     copy-named-requires
     add-lines
     (λ c. search needs)
-    (λ c. kept-length (heard (c .before)))
-    returns
     hear-next-requires
     loop-less
     loop-again
     (λ c. search needs)
     (λ c. kept-length (c .before .before))
+    returns
+    (λ c. search needs)
+    (λ c. kept-length (c .before .before))
     returns-2
     (λ c. search needs)
     (λ c. kept-length (c .before .before))
-    returns-3
-    (λ c. search needs)
-    (λ c. kept-length (c .before .before))
-    returns-4)
+    returns-3)
