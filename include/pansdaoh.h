@@ -2,16 +2,31 @@
  * Tare lists on air: the calls of libpansdaoh.a.
  *
  * A list is lines of 27 bytes, a cycle or image is buckets of 240 bytes, as
- * document 01 defines them. All numbers are unsigned; places count from 0.
+ * docs/ON-AIR.md tells. All numbers are unsigned; places count from 0.
  *
  * Buffers. Each buffer is a pointer and its length in bytes. A pointer is never
- * NULL, also where the length is 0. An input is only read. An output buffer
- * overlaps no input; it is written once the call is known to succeed, from its
- * first byte on. Bytes past the output keep their former content, and after a
- * refusal all bytes do. No call keeps a pointer, allocates memory or uses a
- * variable of its own, so calls on different buffers may run at the same time.
+ * NULL: a buffer of length 0 has some other address, which is not followed (the
+ * data() of an empty std::vector may be NULL). An input is only read. What a
+ * call writes, an output buffer or a state, overlaps nothing else that the call
+ * is given. Output is written once the call is known to succeed, from the
+ * buffer's first byte on; bytes past the output keep their former content, and
+ * after a refusal all bytes do. No call keeps a pointer, allocates memory or
+ * uses a variable of its own, so calls on different buffers may run at the same
+ * time.
  *
  * Any content of a list, setting, image, bucket, tag or state is answered.
+ *
+ * What a program needs. The library is machine code for x86-64 as every such
+ * processor runs it, with the calling convention of Linux (System V), in one
+ * ELF object. Of other libraries it needs memcpy at most. Code and constants
+ * take less than 48 KiB; linked with --gc-sections a program has only what it
+ * calls: one that only listens (start, step, heard, elapsed, line) less than 12 KiB.
+ * Each call's need of stack is given with it, at most, without what memcpy
+ * takes. There is no other memory behind the calls.
+ *
+ * On another processor the library cannot be linked: the toolchain compiles for
+ * x86-64 only. A display with such a processor has a listener of its own, written
+ * by docs/ON-AIR.md and tried against this one; nothing is proved of it.
  */
 #ifndef PANSDAOH_H
 #define PANSDAOH_H
@@ -23,32 +38,53 @@
 extern "C" {
 #endif
 
+/*
+ * The version of what this file declares. A change that programs must follow
+ * raises the first number, or, while that is 0, the second.
+ */
+#define PANSDAOH_VERSION_MAJOR 0
+#define PANSDAOH_VERSION_MINOR 1
+#define PANSDAOH_VERSION_PATCH 0
+
 #define PANSDAOH_LINE 27           /* bytes of a list line, its newline included */
 #define PANSDAOH_BUCKET 240        /* bytes of a bucket */
 #define PANSDAOH_MAX_LINES 40000   /* the most lines of a list */
 #define PANSDAOH_MAX_BUCKETS 99999 /* the most buckets of a cycle */
 
 /*
- * Refusals. The place is 0 unless one is named.
- *
- *   1  n, p or layout outside its range
- *   2  list length no multiple of 27, or over 40,000 lines
- *   3  line misprinted; place: first such line
- *   4  tag falls; place: first such line
- *   5  copies outside its range
- *   6  over 99,999 buckets
- *   7  output buffer too short
- *   8  bucket not 240 bytes, or misprinted
- *   9  letter, position or N not as awaited
- *  10  the next bucket lies past the cycle after tune-in's
- *  11  image empty, no multiple of 240, or over 99,999 buckets
- *  12  tune-in at or past the image's bucket count
- *  13  no list builds this image under these settings
- *  14  bucket given to an ended listener
- *
- * In a lookup's 8 to 10 the place is the image position of the bucket just
- * heard.
+ * The numbers of refusals. The place is 0 unless one is named; in a lookup's 8
+ * to 10 it is the image position of the bucket just heard.
  */
+enum pansdaoh_refusal {
+    /* n, p or layout outside its range */
+    PANSDAOH_REFUSED_SETTINGS = 1,
+    /* list length no multiple of 27, or over 40,000 lines */
+    PANSDAOH_REFUSED_LIST_LENGTH = 2,
+    /* line misprinted; place: first such line */
+    PANSDAOH_REFUSED_LINE = 3,
+    /* tag falls; place: first such line */
+    PANSDAOH_REFUSED_TAG_FALLS = 4,
+    /* copies outside its range */
+    PANSDAOH_REFUSED_COPIES = 5,
+    /* over 99,999 buckets */
+    PANSDAOH_REFUSED_CYCLE_LENGTH = 6,
+    /* output buffer too short */
+    PANSDAOH_REFUSED_ROOM = 7,
+    /* bucket not 240 bytes, or misprinted */
+    PANSDAOH_REFUSED_BUCKET = 8,
+    /* letter, position or N not as awaited */
+    PANSDAOH_REFUSED_NOT_AWAITED = 9,
+    /* the next bucket lies past the cycle after tune-in's */
+    PANSDAOH_REFUSED_PAST_NEXT_CYCLE = 10,
+    /* image empty, no multiple of 240, or over 99,999 buckets */
+    PANSDAOH_REFUSED_IMAGE_LENGTH = 11,
+    /* tune-in at or past the image's bucket count */
+    PANSDAOH_REFUSED_TUNE_IN = 12,
+    /* no list builds this image under these settings */
+    PANSDAOH_REFUSED_NO_LIST = 13,
+    /* bucket given to an ended listener */
+    PANSDAOH_REFUSED_ENDED = 14
+};
 
 /* What building and reading back return. */
 struct pansdaoh_answer {
@@ -74,6 +110,8 @@ struct pansdaoh_answer pansdaoh_build(const uint8_t *list, size_t list_length, u
                                       uint64_t p, uint64_t layout, uint64_t copies,
                                       uint8_t *out, size_t out_length);
 
+#define PANSDAOH_BUILD_STACK 12288 /* bytes of stack, at most */
+
 /*
  * Writes the list that builds this image under these settings to out and
  * returns its number of lines as the count: 27 bytes for each are written. Room
@@ -85,8 +123,10 @@ struct pansdaoh_answer pansdaoh_read_back(const uint8_t *image, size_t image_len
                                           uint64_t p, uint64_t layout, uint64_t copies,
                                           uint8_t *out, size_t out_length);
 
-#define PANSDAOH_FOUND 1
-#define PANSDAOH_ABSENT 2
+#define PANSDAOH_READ_BACK_STACK 16384 /* bytes of stack, at most */
+
+/* How a lookup ends. */
+enum pansdaoh_end { PANSDAOH_FOUND = 1, PANSDAOH_ABSENT = 2 };
 
 /* What a lookup returns. If refused, all behind the place is 0. */
 struct pansdaoh_found {
@@ -109,19 +149,30 @@ struct pansdaoh_found {
 struct pansdaoh_found pansdaoh_lookup(const uint8_t *image, size_t image_length, uint64_t tag,
                                       uint64_t tune_in, uint8_t *out, size_t out_length);
 
+#define PANSDAOH_LOOKUP_STACK 3072 /* bytes of stack, at most */
+
 /*
- * A listener is a state of 64 bytes that the caller keeps. pansdaoh_start makes
- * one; pansdaoh_step hands it back in place. It may be copied.
+ * A listener is a state of eight numbers that the caller keeps, and may copy.
+ * pansdaoh_start makes it; pansdaoh_step hands it back in place. The calls take
+ * the numbers, so that they may lie in any memory; the struct is there for a
+ * program to keep them in. What each number means is not promised.
  */
 #define PANSDAOH_STATE 8 /* numbers of a state */
 
-#define PANSDAOH_STEP_DOZE 1
-#define PANSDAOH_STEP_FOUND 2
-#define PANSDAOH_STEP_ABSENT 3
-#define PANSDAOH_STEP_REFUSED 4
+struct pansdaoh_listener {
+    uint64_t state[PANSDAOH_STATE];
+};
+
+/* The answers of a step. */
+enum pansdaoh_step_kind {
+    PANSDAOH_STEP_DOZE = 1,
+    PANSDAOH_STEP_FOUND = 2,
+    PANSDAOH_STEP_ABSENT = 3,
+    PANSDAOH_STEP_REFUSED = 4
+};
 
 /* What a step returns. */
-struct pansdaoh_step {
+struct pansdaoh_step_answer {
     uint64_t answer; /* PANSDAOH_STEP_DOZE, _FOUND, _ABSENT or _REFUSED */
     uint64_t value;  /* doze: the distance; refused: the number; else 0 */
     uint64_t first;  /* the first of the bucket's lines that match, from 0 */
@@ -132,21 +183,50 @@ struct pansdaoh_step {
 void pansdaoh_start(uint64_t state[PANSDAOH_STATE], uint64_t tag);
 
 /*
- * Gives the listener one bucket. After a doze by d the next bucket to give is
- * the one d places on. Line i of a data bucket stands in its 26 columns from
- * 29 + 26 x i on.
+ * Gives the listener one bucket, which does not overlap the state. After a doze
+ * by d the next bucket to give is the one d places on. pansdaoh_line reads the
+ * lines that the answer names.
+ *
+ * The lines of the tag are those that the steps named, once found is answered.
+ * Lines taken before absent or a refusal are void.
  *
  * Refused by 14, 8, 9, 10, in this order. After 8, 9 or 10 the listener is
- * ended and its counts do not include that bucket; 14 changes nothing.
+ * ended and its counts do not include that bucket; 14 changes nothing. A display
+ * that still wants the tag then starts anew: pansdaoh_start, and the next bucket
+ * on air as its tune-in.
  */
-struct pansdaoh_step pansdaoh_step(uint64_t state[PANSDAOH_STATE], const uint8_t *bucket,
-                                   size_t bucket_length);
+struct pansdaoh_step_answer pansdaoh_step(uint64_t state[PANSDAOH_STATE], const uint8_t *bucket,
+                                          size_t bucket_length);
+
+#define PANSDAOH_STEP_STACK 2560 /* bytes of stack, at most; start and counts need less */
 
 /* The buckets that the listener has taken. */
 uint64_t pansdaoh_heard(const uint64_t state[PANSDAOH_STATE]);
 
 /* The buckets gone by from tune-in to the last taken, both counted. */
 uint64_t pansdaoh_elapsed(const uint64_t state[PANSDAOH_STATE]);
+
+/* A line of a bucket. If refused, or if there is none, all behind is 0. */
+struct pansdaoh_line_answer {
+    uint64_t number;   /* 0, or the number of the refusal */
+    uint64_t place;    /* of the refusal, else 0 */
+    uint64_t present;  /* 1 if the bucket has such a line, else 0 */
+    uint64_t tag;      /* 0 to 4,294,967,295 */
+    uint64_t tare;     /* in kg, 0 to 99,999 */
+    uint64_t code;     /* material code, 0 to 9,999 */
+    uint64_t weighing; /* weighing number, 0 to 999,999 */
+};
+
+/*
+ * Line i of a data bucket, from 0, as its four numbers: after a step that named
+ * lines, those from first up to but without first + count of the bucket it was
+ * given. An index bucket, or an i past the bucket's lines, has none.
+ *
+ * Refused by 8.
+ */
+struct pansdaoh_line_answer pansdaoh_line(const uint8_t *bucket, size_t bucket_length, uint64_t i);
+
+#define PANSDAOH_LINE_STACK 2048 /* bytes of stack, at most */
 
 #ifdef __cplusplus
 }

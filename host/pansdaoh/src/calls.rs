@@ -56,5 +56,21 @@ pub const STEP_FOUND: u64 = 2;
 pub const STEP_ABSENT: u64 = 3;
 pub const STEP_REFUSED: u64 = 4;
 
+/// What a bucket's line is.
+#[repr(C)]
+#[derive(Clone, Copy, Debug, PartialEq, Eq)]
+pub struct Line {
+    /// 0, or the number of the refusal.
+    pub number: u64,
+    /// The refusal's place.
+    pub place: u64,
+    /// 1 if the bucket has such a line, else 0 and so is all behind it.
+    pub present: u64,
+    pub tag: u64,
+    pub tare: u64,
+    pub code: u64,
+    pub weighing: u64,
+}
+
 mod library;
 pub use library::*;

@@ -3,13 +3,15 @@
 //! lookup that runs it over an image.
 //!
 //! The work is done by the static library `pansdaoh`. [`calls`] has its calls
-//! as they are; the functions here turn a refusal into an error.
+//! as they are; the functions here turn a refusal into an error, a [`Refusal`].
 #![deny(unsafe_code)]
 
 pub mod calls;
 mod listener;
+mod refusal;
 
 pub use listener::{Answer, Listener};
+pub use refusal::Refusal;
 
 /// Bytes of a list line, its newline included.
 pub const LINE: usize = 27;
@@ -33,13 +35,6 @@ pub struct Settings {
     pub copies: u64,
 }
 
-/// Number and place of document 01's "Refused inputs".
-#[derive(Clone, Copy, Debug, PartialEq, Eq)]
-pub struct Refusal {
-    pub number: u64,
-    pub place: u64,
-}
-
 /// What a lookup returns.
 #[derive(Clone, Copy, Debug, PartialEq, Eq)]
 pub struct Looked {
@@ -49,6 +44,18 @@ pub struct Looked {
     pub elapsed: u64,
     /// The number of lines written.
     pub lines: u64,
+}
+
+/// A line's four numbers.
+#[derive(Clone, Copy, Debug, PartialEq, Eq)]
+pub struct Line {
+    pub tag: u64,
+    /// In kg.
+    pub tare: u64,
+    /// The material code.
+    pub code: u64,
+    /// The weighing number.
+    pub weighing: u64,
 }
 
 /// Builds the cycle of a list into `out` and returns N, its buckets.
@@ -69,6 +76,13 @@ pub fn lookup(image: &[u8], tag: u64, tune_in: u64, out: &mut [u8]) -> Result<Lo
     accepted(found.number, found.place)?;
     let calls::Found { end, heard, elapsed, lines, .. } = found;
     Ok(Looked { found: end == calls::FOUND, heard, elapsed, lines })
+}
+
+/// Line i of a bucket; none in an index bucket or past a data bucket's lines.
+pub fn line(bucket: &[u8], i: u64) -> Result<Option<Line>, Refusal> {
+    let calls::Line { number, place, present, tag, tare, code, weighing } = calls::line(bucket, i);
+    accepted(number, place)?;
+    Ok((present != 0).then_some(Line { tag, tare, code, weighing }))
 }
 
 fn counted(answer: calls::Answer) -> Result<u64, Refusal> {

@@ -3,6 +3,7 @@
 use std::ops::Range;
 
 use crate::calls::{self, State};
+use crate::Refusal;
 
 /// The answer to one bucket.
 #[derive(Clone, Copy, Debug, PartialEq, Eq)]
@@ -11,10 +12,10 @@ pub enum Answer {
     Doze(u64),
     Found,
     Absent,
-    /// Refused by this number.
-    Refused(u64),
+    Refused(Refusal),
 }
 
+/// A listener for one tag, given bucket after bucket.
 #[derive(Clone, Copy, Debug, PartialEq, Eq)]
 pub struct Listener {
     state: State,
@@ -29,13 +30,14 @@ impl Listener {
     }
 
     /// Takes one bucket: the answer, and which of the bucket's lines match.
+    /// Lines taken before absent or a refusal are void.
     pub fn step(&mut self, bucket: &[u8]) -> (Answer, Range<u64>) {
         let step = calls::step(&mut self.state, bucket);
         let answer = match step.answer {
             calls::STEP_DOZE => Answer::Doze(step.value),
             calls::STEP_FOUND => Answer::Found,
             calls::STEP_ABSENT => Answer::Absent,
-            _ => Answer::Refused(step.value),
+            _ => Answer::Refused(Refusal { number: step.value, place: 0 }),
         };
         (answer, step.first..step.first + step.count)
     }

@@ -1,7 +1,10 @@
 //! "A bucket": 240 bytes, their columns, and what a single bucket can show.
 
+use std::ops::Range;
+
 use crate::columns::{at, read, BLANK};
 use crate::line::{self, FIGURES, TAG};
+use crate::Refusal;
 
 /// Bytes of a bucket.
 pub const BUCKET: usize = 240;
@@ -147,6 +150,23 @@ impl Bucket {
     pub fn tags(&self) -> &[u64] {
         &self.tags[..self.count]
     }
+}
+
+/// The four numbers of line i of a bucket, None if it has no such line; 8 if
+/// it is no well printed bucket.
+pub fn line(bytes: &[u8], i: u64) -> Result<Option<[u64; 4]>, Refusal> {
+    let mut bucket = Bucket::default();
+    let bytes: &[u8; BUCKET] = bytes.try_into().map_err(|_| Refusal::of(8))?;
+    bucket.read(bytes).ok_or(Refusal::of(8))?;
+    if bucket.is_index || i >= bucket.count as u64 {
+        return Ok(None);
+    }
+    let figures = &bytes[LINES + FIGURES * i as usize..][..FIGURES];
+    let number = |columns: Range<usize>| {
+        let text = std::str::from_utf8(&figures[columns]).unwrap();
+        text.trim_start().parse::<u64>().unwrap()
+    };
+    Ok(Some([number(0..10), number(10..16), number(16..20), number(20..26)]))
 }
 
 /// "each a tag (10, range as in a list line) and a distance (6)".

@@ -16,7 +16,7 @@ mod print;
 mod read_back;
 pub mod yards;
 
-pub use bucket::BUCKET;
+pub use bucket::{line, BUCKET};
 pub use build::build;
 pub use cycle::Cycle;
 pub use line::LINE;

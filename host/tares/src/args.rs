@@ -1,117 +1,65 @@
 //! The command line.
 
 use std::collections::VecDeque;
-use std::ffi::OsString;
+use std::ffi::{OsStr, OsString};
+use std::ops::RangeInclusive;
 
 use pansdaoh::Settings;
 
 use crate::files::File;
+use crate::help::{Usage, COMMANDS, HELP, VERSION};
+use crate::search::Wanted;
 use crate::Failure;
 
 pub enum Command {
-    Help(&'static str),
+    Print(&'static str),
+    Check { list: File, image: File, wanted: Wanted, all: bool },
     Build { list: File, image: File, settings: Settings },
-    Read { image: File, list: File, settings: Settings },
+    Read { image: File, out: File, settings: Settings, force: bool },
+    Import { csv: File, list: File },
     Lookup { image: File, tag: u64, tune_in: u64, out: Option<File> },
     Table { image: File, tag: u64 },
+    Follow { image: File, tag: u64, tune_in: u64 },
+    Show { image: File, buckets: Option<RangeInclusive<u64>> },
 }
-
-const HELP: &str = "\
-Tare lists on air: a list built into a cycle of buckets, and tags looked up in it.
-
-Usage: tares COMMAND ...
-
-  build   build a list into a cycle
-  read    read a cycle back to its list
-  lookup  look a tag up in a cycle from one tune-in
-  table   look a tag up in a cycle from every tune-in
-
-tares COMMAND --help tells more of a command.
-
-A file is given by name, or as - for standard input or output. An output file is
-written whole or not at all. Results go to standard output, messages to standard
-error. Lines, buckets and places count from 0.
-
-Exit status: 0 done, 1 refused, 2 wrong use or a file that cannot be read or
-written.
-";
-
-const BUILD_HELP: &str = "\
-Builds a list into a cycle and prints the cycle's number of buckets.
-
-Usage: tares build LIST IMAGE --n N --p P --layout L --copies C
-
-  LIST        lines of 27 bytes, at most 40,000: tag (10 columns), tare in kg (6),
-              material code (4), weighing number (6), newline; tags never fall
-  IMAGE       where the cycle goes: buckets of 240 bytes, at most 99,999
-  --n N       entries for an index bucket, 2 to 8
-  --p P       lines for a data bucket, 1 to 8
-  --layout L  1 distributed, 2 (1,m)
-  --copies C  layout 1: levels sent again, 0 to 4 and below the index levels
-              layout 2: parts, 1 to the number of data buckets
-
-If the image goes to standard output, the number goes to standard error.
-";
-
-const READ_HELP: &str = "\
-Reads a cycle back to its list and prints the list's number of lines. A cycle is
-accepted exactly if some list and these settings build it.
-
-Usage: tares read IMAGE LIST --n N --p P --layout L --copies C
-
-  IMAGE       the cycle
-  LIST        where the list goes
-  --n, --p, --layout, --copies
-              the settings that built it, as in tares build
-
-If the list goes to standard output, the number goes to standard error.
-";
-
-const LOOKUP_HELP: &str = "\
-Listens for a tag from one tune-in bucket on. Prints found or absent, the buckets
-heard, the buckets gone by, and the lines of the tag.
-
-Usage: tares lookup IMAGE TAG --tune-in T [OUT]
-
-  IMAGE        the cycle, taken as repeated
-  TAG          the number on a skip or lorry
-  --tune-in T  the first bucket heard, from 0
-  OUT          where the lines go; without it they are printed below the rest
-
-If OUT is standard output, the rest goes to standard error.
-";
-
-const TABLE_HELP: &str = "\
-Listens for a tag from every tune-in bucket. Prints one line for each: tune-in,
-heard, elapsed and the number of lines, 6 columns each.
-
-Usage: tares table IMAGE TAG
-
-  IMAGE  the cycle, taken as repeated
-  TAG    the number on a skip or lorry
-";
-
-const SETTINGS: [&str; 4] = ["--n", "--p", "--layout", "--copies"];
 
 /// Reads the words behind the program's name.
 pub fn parse(mut words: impl Iterator<Item = OsString>) -> Result<Command, Failure> {
     let Some(name) = words.next() else {
         return wrong("no command given", "");
     };
-    let (name, help, options): (_, _, &'static [_]) = match name.to_str() {
-        Some("--help" | "-h") => return Ok(Command::Help(HELP)),
-        Some("build") => ("build", BUILD_HELP, &SETTINGS),
-        Some("read") => ("read", READ_HELP, &SETTINGS),
-        Some("lookup") => ("lookup", LOOKUP_HELP, &["--tune-in"]),
-        Some("table") => ("table", TABLE_HELP, &[]),
-        _ => return wrong(&format!("no command {}", name.display()), ""),
-    };
-    let words = match Words::split(words, options) {
+    match name.to_str() {
+        Some("--help" | "-h") => return Ok(Command::Print(HELP)),
+        Some("--version" | "-V") => return Ok(Command::Print(VERSION)),
+        Some("help") => return help(words),
+        _ => {}
+    }
+    let usage = usage(&name)?;
+    let words = match Words::split(words, usage) {
         Ok(Some(words)) => words,
-        Ok(None) => return Ok(Command::Help(help)),
-        Err(message) => return wrong(&message, name),
+        Ok(None) => return Ok(Command::Print(usage.help)),
+        Err(message) => return wrong(&message, usage.name),
     };
-    words.command(name).or_else(|message| wrong(&message, name))
+    words.command(usage.name).or_else(|message| wrong(&message, usage.name))
+}
+
+/// Help of a command, or of the whole.
+fn help(mut words: impl Iterator<Item = OsString>) -> Result<Command, Failure> {
+    let text = match words.next() {
+        Some(command) => usage(&command)?.help,
+        None => HELP,
+    };
+    match words.next() {
+        Some(word) => wrong(&format!("one word too many: {}", word.display()), ""),
+        None => Ok(Command::Print(text)),
+    }
+}
+
+fn usage(name: &OsStr) -> Result<&'static Usage, Failure> {
+    match COMMANDS.iter().find(|usage| name == usage.name) {
+        Some(usage) => Ok(usage),
+        None => wrong(&format!("no command {}", name.display()), ""),
+    }
 }
 
 fn wrong<T>(message: &str, command: &str) -> Result<T, Failure> {
@@ -122,43 +70,68 @@ fn wrong<T>(message: &str, command: &str) -> Result<T, Failure> {
 /// The words behind a command.
 struct Words {
     operands: VecDeque<OsString>,
-    options: Vec<(&'static str, u64)>,
+    numbers: Vec<(&'static str, u64)>,
+    flags: Vec<&'static str>,
 }
 
 impl Words {
     /// Tells options from operands; None if help is asked for.
     fn split(
         mut words: impl Iterator<Item = OsString>,
-        known: &[&'static str],
+        usage: &Usage,
     ) -> Result<Option<Words>, String> {
-        let mut split = Words { operands: VecDeque::new(), options: Vec::new() };
+        let mut split = Words { operands: VecDeque::new(), numbers: Vec::new(), flags: Vec::new() };
         while let Some(word) = words.next() {
             let text = word.to_string_lossy();
-            if !text.starts_with('-') || text == "-" {
-                split.operands.push_back(word);
-                continue;
+            match &*text {
+                "--help" | "-h" => return Ok(None),
+                "--" => split.operands.extend(words.by_ref()),
+                text if text.starts_with('-') && text != "-" => {
+                    split.option(text, usage, &mut words)?
+                }
+                _ => split.operands.push_back(word),
             }
-            if text == "--help" || text == "-h" {
-                return Ok(None);
-            }
-            let (name, value) = match text.split_once('=') {
-                Some((name, value)) => (name, Some(OsString::from(value))),
-                None => (&*text, None),
-            };
-            let Some(&name) = known.iter().find(|&&option| option == name) else {
-                return Err(format!("no option {name}"));
-            };
-            if split.options.iter().any(|option| option.0 == name) {
-                return Err(format!("{name} is given twice"));
-            }
-            let value = value.or_else(|| words.next()).ok_or(format!("{name} needs a number"))?;
-            split.options.push((name, number(name, &value)?));
         }
         Ok(Some(split))
     }
 
+    /// Takes an option with its number, which stands behind = or is the next word.
+    fn option(
+        &mut self,
+        word: &str,
+        usage: &Usage,
+        words: &mut impl Iterator<Item = OsString>,
+    ) -> Result<(), String> {
+        let (name, value) = match word.split_once('=') {
+            Some((name, value)) => (name, Some(OsString::from(value))),
+            None => (word, None),
+        };
+        if let Some(&name) = usage.flags.iter().find(|&&flag| flag == name) {
+            self.flags.push(name);
+            return match value {
+                Some(_) => Err(format!("{name} takes no value")),
+                None => Ok(()),
+            };
+        }
+        let Some(&name) = usage.numbers.iter().find(|&&option| option == name) else {
+            return Err(format!("no option {name}"));
+        };
+        if self.number(name).is_some() {
+            return Err(format!("{name} is given twice"));
+        }
+        let value = value.or_else(|| words.next()).ok_or(format!("{name} needs a number"))?;
+        self.numbers.push((name, number(name, &value)?));
+        Ok(())
+    }
+
     fn command(mut self, name: &str) -> Result<Command, String> {
         let command = match name {
+            "check" => Command::Check {
+                list: self.file("LIST")?,
+                image: self.file("IMAGE")?,
+                wanted: self.wanted(),
+                all: self.flag("--all"),
+            },
             "build" => Command::Build {
                 list: self.file("LIST")?,
                 image: self.file("IMAGE")?,
@@ -166,24 +139,36 @@ impl Words {
             },
             "read" => Command::Read {
                 image: self.file("IMAGE")?,
-                list: self.file("LIST")?,
+                out: self.file("OUT")?,
                 settings: self.settings()?,
+                force: self.flag("--force"),
             },
-            "lookup" => Command::Lookup {
-                image: self.file("IMAGE")?,
-                tag: number("TAG", &self.operand("TAG")?)?,
-                tune_in: self.option("--tune-in")?,
-                out: self.operands.pop_front().map(File::new),
-            },
-            _ => Command::Table {
-                image: self.file("IMAGE")?,
-                tag: number("TAG", &self.operand("TAG")?)?,
-            },
+            "import" => Command::Import { csv: self.file("CSV")?, list: self.file("LIST")? },
+            "show" => Command::Show { image: self.file("IMAGE")?, buckets: self.buckets()? },
+            _ => self.listening(name)?,
         };
-        match self.operands.front() {
-            Some(word) => Err(format!("one word too many: {}", word.display())),
-            None => Ok(command),
+        match (self.operands.front(), &command) {
+            (Some(word), _) => Err(format!("one word too many: {}", word.display())),
+            (None, Command::Check { list: File::Standard, image: File::Standard, .. }) => {
+                Err("LIST and IMAGE are both standard input".to_string())
+            }
+            (None, _) => Ok(command),
         }
+    }
+
+    /// The commands that listen for a tag.
+    fn listening(&mut self, name: &str) -> Result<Command, String> {
+        let image = self.file("IMAGE")?;
+        let tag = number("TAG", &self.operand("TAG")?)?;
+        if name == "table" {
+            return Ok(Command::Table { image, tag });
+        }
+        let tune_in = self.needed("--tune-in")?;
+        if name == "follow" {
+            return Ok(Command::Follow { image, tag, tune_in });
+        }
+        let out = self.operands.pop_front().map(File::new);
+        Ok(Command::Lookup { image, tag, tune_in, out })
     }
 
     fn operand(&mut self, name: &str) -> Result<OsString, String> {
@@ -194,24 +179,55 @@ impl Words {
         self.operand(name).map(File::new)
     }
 
-    fn option(&self, name: &str) -> Result<u64, String> {
-        let given = self.options.iter().find(|option| option.0 == name);
-        given.map(|option| option.1).ok_or(format!("{name} is missing"))
+    /// BUCKET or FROM-TO, if given.
+    fn buckets(&mut self) -> Result<Option<RangeInclusive<u64>>, String> {
+        let Some(word) = self.operands.pop_front() else {
+            return Ok(None);
+        };
+        let text = word.to_string_lossy();
+        let (from, to) = text.split_once('-').unwrap_or((&text, &text));
+        let (from, to) = (number("BUCKET", from)?, number("BUCKET", to)?);
+        if from > to {
+            return Err(format!("{text} is no range: {from} is above {to}"));
+        }
+        Ok(Some(from..=to))
+    }
+
+    fn flag(&self, name: &str) -> bool {
+        self.flags.contains(&name)
+    }
+
+    fn number(&self, name: &str) -> Option<u64> {
+        let given = self.numbers.iter().find(|option| option.0 == name);
+        given.map(|option| option.1)
+    }
+
+    fn needed(&self, name: &str) -> Result<u64, String> {
+        self.number(name).ok_or(format!("{name} is missing"))
     }
 
     fn settings(&self) -> Result<Settings, String> {
         Ok(Settings {
-            n: self.option("--n")?,
-            p: self.option("--p")?,
-            layout: self.option("--layout")?,
-            copies: self.option("--copies")?,
+            n: self.needed("--n")?,
+            p: self.needed("--p")?,
+            layout: self.needed("--layout")?,
+            copies: self.needed("--copies")?,
         })
+    }
+
+    fn wanted(&self) -> Wanted {
+        Wanted {
+            n: self.number("--n"),
+            p: self.number("--p"),
+            layout: self.number("--layout"),
+            copies: self.number("--copies"),
+        }
     }
 }
 
 /// Digits alone. Which numbers a call takes is for the call to say.
-fn number(name: &str, word: &OsString) -> Result<u64, String> {
-    let text = word.to_string_lossy();
+fn number(name: &str, word: impl AsRef<OsStr>) -> Result<u64, String> {
+    let text = word.as_ref().to_string_lossy();
     let digits = text.bytes().all(|byte| byte.is_ascii_digit());
     let number = text.parse().ok().filter(|_| digits);
     number.ok_or(format!("{name} is no number from 0 to {}: {text}", u64::MAX))

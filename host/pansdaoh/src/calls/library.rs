@@ -1,8 +1,15 @@
-//! The C functions. A slice passes as its pointer and its length; a shared
-//! and a mutable one never overlap.
+//! The C functions, as `include/pansdaoh.h` declares them, and what makes each
+//! call safe.
+//!
+//! The header asks that each pointer leads to as many bytes as the length says,
+//! or to a state of eight numbers, that it is not NULL, and that what is written
+//! overlaps nothing else. A slice's pointer is never NULL, and what a mutable
+//! reference leads to no other reference does while it lives. No call keeps a
+//! pointer.
 #![allow(unsafe_code)]
+#![deny(clippy::undocumented_unsafe_blocks)]
 
-use super::{Answer, Found, State, Step};
+use super::{Answer, Found, Line, State, Step};
 
 #[link(name = "pansdaoh", kind = "static")]
 extern "C" {
@@ -38,12 +45,14 @@ extern "C" {
     fn pansdaoh_step(state: *mut State, bucket: *const u8, bucket_length: usize) -> Step;
     fn pansdaoh_heard(state: *const State) -> u64;
     fn pansdaoh_elapsed(state: *const State) -> u64;
+    fn pansdaoh_line(bucket: *const u8, bucket_length: usize, i: u64) -> Line;
 }
 
 /// Builds the cycle of a list into `out`; refuses by 1 to 7.
 #[inline]
 pub fn build(list: &[u8], n: u64, p: u64, layout: u64, copies: u64, out: &mut [u8]) -> Answer {
     let (room, length) = (out.as_mut_ptr(), out.len());
+    // SAFETY: both slices lend their bytes for the call, and the mutable one overlaps nothing.
     unsafe { pansdaoh_build(list.as_ptr(), list.len(), n, p, layout, copies, room, length) }
 }
 
@@ -51,6 +60,7 @@ pub fn build(list: &[u8], n: u64, p: u64, layout: u64, copies: u64, out: &mut [u
 #[inline]
 pub fn read_back(image: &[u8], n: u64, p: u64, layout: u64, copies: u64, out: &mut [u8]) -> Answer {
     let (room, length) = (out.as_mut_ptr(), out.len());
+    // SAFETY: both slices lend their bytes for the call, and the mutable one overlaps nothing.
     unsafe { pansdaoh_read_back(image.as_ptr(), image.len(), n, p, layout, copies, room, length) }
 }
 
@@ -58,29 +68,41 @@ pub fn read_back(image: &[u8], n: u64, p: u64, layout: u64, copies: u64, out: &m
 #[inline]
 pub fn lookup(image: &[u8], tag: u64, tune_in: u64, out: &mut [u8]) -> Found {
     let (room, length) = (out.as_mut_ptr(), out.len());
+    // SAFETY: both slices lend their bytes for the call, and the mutable one overlaps nothing.
     unsafe { pansdaoh_lookup(image.as_ptr(), image.len(), tag, tune_in, room, length) }
 }
 
 /// Makes the state of a listener that waits for its tune-in bucket.
 #[inline]
 pub fn start(state: &mut State, tag: u64) {
+    // SAFETY: the state is lent for the call, eight numbers that nothing else leads to.
     unsafe { pansdaoh_start(state, tag) }
 }
 
 /// Gives a listener one bucket; refuses by 14, 8, 9 and 10.
 #[inline]
 pub fn step(state: &mut State, bucket: &[u8]) -> Step {
+    // SAFETY: state and bucket are lent for the call, and the state overlaps nothing.
     unsafe { pansdaoh_step(state, bucket.as_ptr(), bucket.len()) }
 }
 
 /// The buckets that a listener has taken.
 #[inline]
 pub fn heard(state: &State) -> u64 {
+    // SAFETY: the state is lent for the call, eight numbers that are only read.
     unsafe { pansdaoh_heard(state) }
 }
 
 /// The buckets from tune-in to the last taken, both in.
 #[inline]
 pub fn elapsed(state: &State) -> u64 {
+    // SAFETY: the state is lent for the call, eight numbers that are only read.
     unsafe { pansdaoh_elapsed(state) }
+}
+
+/// Line i of a bucket as its four numbers; refuses by 8.
+#[inline]
+pub fn line(bucket: &[u8], i: u64) -> Line {
+    // SAFETY: the bucket is lent for the call and is only read.
+    unsafe { pansdaoh_line(bucket.as_ptr(), bucket.len(), i) }
 }

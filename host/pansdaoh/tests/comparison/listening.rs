@@ -192,24 +192,3 @@ fn any_number(random: &mut Random) -> u64 {
     let small = random.below(30);
     random.pick(&[small, small, small, large, u64::MAX - small, (1 << 32) - 2 + small % 4])
 }
-
-/// The wrapper says what the calls say.
-#[test]
-fn wrapper() {
-    let image = image_of(&reference::generate::list_of(&[3, 5, 5, 8, 9]), [2, 1, 1, 1]);
-    let mut listener = pansdaoh::Listener::new(5);
-    assert_eq!((listener.heard(), listener.elapsed()), (0, 0));
-    let (mut place, mut lines) = (0, 0);
-    let end = loop {
-        let (answer, matching) = listener.step(&image[240 * place..][..240]);
-        lines += matching.count();
-        match answer {
-            pansdaoh::Answer::Doze(distance) => place = (place + distance as usize) % 12,
-            end => break end,
-        }
-    };
-    assert_eq!(end, pansdaoh::Answer::Found);
-    assert_eq!((listener.heard(), listener.elapsed(), lines), (7, 19, 2));
-    assert_eq!(listener.step(b""), (pansdaoh::Answer::Refused(14), 0..0));
-    assert_eq!(pansdaoh::Listener::new(6).step(b"").0, pansdaoh::Answer::Refused(8));
-}

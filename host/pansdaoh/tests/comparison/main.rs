@@ -4,8 +4,8 @@
 mod building;
 mod compare;
 mod full_size;
-mod header;
+mod lines;
 mod listening;
 mod looking_up;
 mod reading_back;
-mod sample_yard;
+mod wrapper;

@@ -1,5 +1,7 @@
-use std::fs;
-use std::os::unix::fs::{symlink, FileTypeExt, PermissionsExt};
+mod direct;
+mod signals;
+mod watch;
+mod whole;
 
 use crate::run::{Folder, R1};
 
@@ -36,40 +38,19 @@ fn output_that_cannot_be_written() {
     assert_eq!(folder.names(), ["image", "list"]);
 }
 
-/// A file is replaced whole, with its permissions, through a link too, and
-/// by itself.
+/// A longer file is replaced whole, and a file by itself.
 #[test]
 fn replaced_files() {
     let folder = Folder::sample_yard("replaced_files");
-    let image = folder.read("image");
+    let (list, image) = (folder.read("list"), folder.read("image"));
     folder.write("out", &vec![b'x'; 100_000]);
-    let permissions = fs::Permissions::from_mode(0o640);
-    fs::set_permissions(folder.path("out"), permissions).unwrap();
-    symlink("out", folder.path("link")).unwrap();
-    for name in ["out", "link"] {
-        folder.tares(&format!("build list {name} {R1}")).done();
-        assert!(folder.read("out") == image);
-    }
-    let metadata = fs::metadata(folder.path("out")).unwrap();
-    assert_eq!(metadata.permissions().mode() & 0o777, 0o640);
-    assert!(fs::symlink_metadata(folder.path("link")).unwrap().is_symlink());
-    let list = folder.read("list");
+    folder.tares(&format!("build list out {R1}")).done();
+    assert!(folder.read("out") == image);
     folder.tares(&format!("build list list {R1}")).done();
     assert!(folder.read("list") == image);
-    folder.tares(&format!("read list list {R1}")).done();
+    folder.tares(&format!("read list list {R1} --force")).done();
     assert!(folder.read("list") == list);
-    assert_eq!(folder.names(), ["image", "link", "list", "out"]);
-}
-
-/// A device is written to, not replaced.
-#[test]
-fn devices() {
-    let folder = Folder::sample_yard("devices");
-    let report = folder.tares(&format!("build list /dev/null {R1}")).done();
-    assert_eq!(report, "12 buckets\n");
-    assert!(fs::metadata("/dev/null").unwrap().file_type().is_char_device());
-    let text = folder.tares(&format!("build list /dev/full {R1}")).wrong();
-    assert!(text.starts_with("tares: cannot write /dev/full: "), "{text}");
+    assert_eq!(folder.names(), ["image", "list", "out"]);
 }
 
 /// A refused command leaves its output file as it was.

@@ -1,6 +1,8 @@
+use std::time::Duration;
+
 use reference::generate::{list, Random};
 
-use crate::run::Folder;
+use crate::run::{within, Folder};
 
 #[test]
 fn longest_list() {
@@ -13,10 +15,10 @@ fn longest_list() {
         let buckets = reference::build(&list, n, p, layout, copies, &mut image).unwrap();
         image.truncate(240 * buckets as usize);
         let report = folder.tares(&format!("build list image {settings}")).done();
-        assert_eq!(report, format!("{buckets} buckets\n"));
+        assert_eq!(report, format!("40000 lines, {buckets} buckets\n"));
         assert!(folder.read("image") == image);
-        let report = folder.tares(&format!("read image back {settings}")).done();
-        assert_eq!(report, "40000 lines\n");
+        let report = folder.tares(&format!("read image back {settings} --force")).done();
+        assert_eq!(report, format!("40000 lines, {buckets} buckets\n"));
         assert!(folder.read("back") == list);
         let tag = std::str::from_utf8(&list[27 * 30_000..][..10]).unwrap().trim();
         let report = folder.tares(&format!("lookup image {tag} --tune-in 1000 lines")).done();
@@ -47,6 +49,23 @@ fn table_of_a_long_cycle() {
         assert_eq!(rows.next(), Some(&*row));
     }
     assert_eq!(rows.next(), None);
+}
+
+/// 40,000 lines are checked within a tenth of a second.
+#[test]
+fn check_of_a_long_list() {
+    let folder = Folder::new("check_of_a_long_list");
+    folder.write("list", &list(&mut Random::new(4), 40_000, 3));
+    for settings in ["--n 2 --p 1 --layout 1 --copies 4", "--n 8 --p 8 --layout 1 --copies 1"] {
+        folder.tares(&format!("build list image {settings}")).done();
+        let checked = within(Duration::from_millis(100), || {
+            let text = folder.tares(&format!("check list image {settings}")).done();
+            assert!(text.starts_with("right: 40000 lines, "), "{text}");
+        });
+        assert!(checked, "{settings}");
+        let text = folder.tares("check list image").done();
+        assert!(text.contains(&format!("cycle with {settings}\n")), "{text}");
+    }
 }
 
 /// Longer files are refused without being read to their end.

@@ -4,11 +4,21 @@ use std::fs;
 use std::io::Write;
 use std::path::{Path, PathBuf};
 use std::process::{Command, Stdio};
+use std::time::{Duration, Instant};
 
 use reference::generate::list_of;
 
 /// The settings of the sample yard with r 1.
 pub const R1: &str = "--n 2 --p 1 --layout 1 --copies 1";
+
+/// Whether a run can be done within a time; tried again while the machine has other work.
+pub fn within(time: Duration, mut run: impl FnMut()) -> bool {
+    (0..50).any(|_| {
+        let start = Instant::now();
+        run();
+        start.elapsed() < time
+    })
+}
 
 /// A folder for one test.
 pub struct Folder {
@@ -93,6 +103,12 @@ impl Run {
     /// Standard output of a run that ended well and had no message.
     pub fn done(self) -> String {
         assert_eq!((self.status, &*self.err), (0, ""));
+        String::from_utf8(self.out).unwrap()
+    }
+
+    /// Standard output of a check that found the image wrong.
+    pub fn wrong_image(self) -> String {
+        assert_eq!((self.status, &*self.err), (1, ""));
         String::from_utf8(self.out).unwrap()
     }
 

@@ -2,10 +2,10 @@
  * Builds list S of the sample yard with r 1 and prints for tag 5 each tune-in,
  * heard, elapsed and lines. Each lookup is held against a listener's own steps.
  */
+#include "pansdaoh.h"
+
 #include <stdio.h>
 #include <string.h>
-
-#include "pansdaoh.h"
 
 static const char LIST[] = "         3     0   0     0\n"
                            "         5     0   0     0\n"
@@ -16,20 +16,31 @@ static const char LIST[] = "         3     0   0     0\n"
 static uint8_t image[20 * PANSDAOH_BUCKET];
 static uint8_t lines[5 * PANSDAOH_LINE];
 
+/* How many of the lines that a step names are the tag's. */
+static uint64_t named(const uint8_t *bucket, struct pansdaoh_step_answer step, uint64_t tag) {
+    uint64_t i, count = 0;
+    for (i = step.first; i < step.first + step.count; i++) {
+        struct pansdaoh_line_answer line = pansdaoh_line(bucket, PANSDAOH_BUCKET, i);
+        count += line.number == 0 && line.present && line.tag == tag && line.tare == 0;
+    }
+    return count;
+}
+
 /* Steps a listener to its end; 0 if it says what the lookup said. */
 static int compare(uint64_t buckets, uint64_t tag, uint64_t place, struct pansdaoh_found found) {
-    uint64_t state[PANSDAOH_STATE];
+    struct pansdaoh_listener listener;
+    struct pansdaoh_step_answer step;
     uint64_t matched = 0;
-    struct pansdaoh_step step;
-    pansdaoh_start(state, tag);
+    pansdaoh_start(listener.state, tag);
     do {
-        step = pansdaoh_step(state, image + PANSDAOH_BUCKET * place, PANSDAOH_BUCKET);
-        matched += step.count;
+        const uint8_t *bucket = image + PANSDAOH_BUCKET * place;
+        step = pansdaoh_step(listener.state, bucket, PANSDAOH_BUCKET);
+        matched += named(bucket, step, tag);
         place = (place + step.value) % buckets;
     } while (step.answer == PANSDAOH_STEP_DOZE);
     return step.answer != PANSDAOH_STEP_FOUND || found.end != PANSDAOH_FOUND ||
-           pansdaoh_heard(state) != found.heard || pansdaoh_elapsed(state) != found.elapsed ||
-           matched != found.lines;
+           pansdaoh_heard(listener.state) != found.heard ||
+           pansdaoh_elapsed(listener.state) != found.elapsed || matched != found.lines;
 }
 
 int main(void) {

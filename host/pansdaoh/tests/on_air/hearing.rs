@@ -1,0 +1,86 @@
+//! What listeners and lookups answer.
+
+use std::fmt::Write;
+
+use pansdaoh::{build, lookup, Answer, Listener, Looked, BUCKET, LINE};
+use reference::generate::list_of;
+
+use crate::drawing::letter;
+use crate::{bucket, image, sample, EIGHT, LIST_S};
+
+fn looked(image: &[u8], tag: u64, tune_in: u64) -> Looked {
+    lookup(image, tag, tune_in, &mut [0; 8 * LINE]).unwrap()
+}
+
+/// What a listener answers to each bucket, the lookup saying the same.
+pub fn hearing(image: &[u8], tag: u64, tune_in: u64) -> String {
+    let (mut listener, mut place, mut lines) = (Listener::new(tag), tune_in, 0);
+    let mut text = format!("tag {tag}, tune-in {tune_in}\n");
+    let found = loop {
+        let bucket = bucket(image, place);
+        let (answer, matching) = listener.step(bucket);
+        lines += matching.clone().count() as u64;
+        let taken: String = matching.map(|line| format!("line {line}, ")).collect();
+        let _ = write!(text, "bucket {place:>2}, {}: {taken}", letter(bucket));
+        match answer {
+            Answer::Doze(distance) => {
+                let _ = writeln!(text, "doze by {distance}");
+                place = (place + distance) % (image.len() / BUCKET) as u64;
+            }
+            Answer::Found => break true,
+            Answer::Absent => break false,
+            Answer::Refused(refusal) => panic!("{refusal}"),
+        }
+    };
+    let (heard, elapsed) = (listener.heard(), listener.elapsed());
+    assert_eq!(looked(image, tag, tune_in), Looked { found, heard, elapsed, lines });
+    let end = if found { "found" } else { "absent" };
+    format!("{text}{end}\nheard {heard}, elapsed {elapsed}\n")
+}
+
+/// N, or the refusal.
+fn built(list: &[u8], layout: u64, copies: u64) -> String {
+    match build(list, sample(layout, copies), &mut [0; 40 * BUCKET]) {
+        Ok(buckets) => format!("N {buckets}"),
+        Err(refusal) => format!("refused by {}", refusal.number),
+    }
+}
+
+/// How the tag ends in layout 1.
+fn ended(list: &[u8], r: u64, tag: u64, tune_in: u64) -> String {
+    let Looked { found, heard, elapsed, lines } = looked(&image(list, sample(1, r)), tag, tune_in);
+    let end = if found { "found" } else { "absent" };
+    format!("tag {tag} from {tune_in}: {end}, heard {heard}, elapsed {elapsed}, lines {lines}")
+}
+
+/// How any tag ends in the cycle of no lines.
+fn ended_in_none() -> String {
+    let end = |tag| ended(b"", 0, tag, 0).replace(&format!("tag {tag} "), "any tag ");
+    for tag in [0, 1, 4_294_967_295, 4_294_967_296, u64::MAX] {
+        assert_eq!(end(tag), end(5));
+    }
+    end(5)
+}
+
+/// P1 to P11.
+pub fn sample_yard() -> String {
+    let s = LIST_S.as_bytes();
+    let r = |r| format!("r {r}: {}", built(s, 1, r));
+    let m = |m| format!("m {m}: {}", built(s, 2, m));
+    let with_r_1 = |tag, tune_in| format!("list S, r 1, {}", ended(s, 1, tag, tune_in));
+    let eight = list_of(&EIGHT);
+    let points = [
+        format!("list S, layout 1, {}", r(0)),
+        format!("list S, layout 1, {}", r(1)),
+        format!("list S, layout 1, {}; {}", r(2), r(3)),
+        format!("list S, layout 2, {}; {}; {}", m(2), m(5), m(6)),
+        format!("no lines, layout 1, r 0: {}; {}", built(b"", 1, 0), ended_in_none()),
+        with_r_1(5, 0),
+        with_r_1(6, 7),
+        with_r_1(10, 3),
+        with_r_1(9, 0),
+        with_r_1(3, 8),
+        format!("eight lines, r 2: {}; {}", built(&eight, 1, 2), ended(&eight, 2, 5, 12)),
+    ];
+    (1..).zip(points).map(|(i, point)| format!("{:<5}{point}\n", format!("P{i}"))).collect()
+}
