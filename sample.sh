@@ -1,6 +1,6 @@
 #!/bin/sh
-# Proves and builds the library and the tool, then does the main job on document 01's sample list: builds its cycle, looks
-# tag 5 up from bucket 0, and shows what is heard from every tune-in.
+# Proves and builds the library and the tool, then does the main job on document 01's sample list: builds its cycle, checks
+# it against the list, looks tag 5 up from bucket 0, and shows what is heard from every tune-in.
 set -e
 root=$(cd "$(dirname "$0")" && pwd)
 folder=$(mktemp -d)
@@ -22,6 +22,7 @@ run() {
     "$root/host/target/release/tares" "$@"
 }
 run build list image --n 2 --p 1 --layout 1 --copies 1
+run check list image
 run lookup image 5 --tune-in 0
 echo
 echo "Tune-in, heard, elapsed and lines, from every bucket:"
