@@ -6,24 +6,43 @@ use mathlib.Core.Bool.{Bool, true, false, not, true≢false}
 use mathlib.Core.Option.{Option, none, some}
 use native.Mathlib.Omega.{arith}
 use borrow.Author.Tests.{not-true, not-false}
-use Rattle.columns.specs.declared.Number.the-variants.{Value, Misprinted}
 use Rattle.columns.specs.PrintedNumbers.{asNumber}
 use Rattle.buckets.specs.declared.Line.{Line}
-use Rattle.buckets.specs.declared.Head.{Head}
-use Rattle.buckets.specs.declared.reader.EntryRead.the-variants.{Read as EntryIs, Misprinted as EntryMisprinted}
-use Rattle.buckets.specs.declared.reader.HeadRead.the-variants.{Read as HeadIs, Misprinted as HeadMisprinted}
-use Rattle.buckets.specs.Bucket.{Entry}
-use Rattle.buckets.specs.Held.{tagOrMisprint}
-use Rattle.buckets.specs.Read.{asEntryRead, asHeadRead}
+use Rattle.buckets.specs.Inner.Held.{tagOrMisprint}
+use Rattle.buckets.specs.Inner.Read.{asEntryRead, asHeadRead, asPairRead, heldPairs, heldEntries, heldTags}
 use Rattle.buckets.specs.Lengths.{tagMost}
 
-pub number-found : (o : Option ℕ) {x : ℕ} → asNumber o ≡ Value x → o ≡ some x
-number-found none h = absurd (let z : _≡_ {A = ℕ} 0 1 = cc in omega arith)
-number-found (some y) h = cc
+-- ---- answers that are enums
 
-pub number-none : (o : Option ℕ) → asNumber o ≡ Misprinted → o ≡ none
-number-none none h = refl
-number-none (some y) h = absurd (let z : _≡_ {A = ℕ} 0 1 = cc in omega arith)
+pub record Enum {A E : Type 0} (told : Option A → E) : Type 0 where
+  pub apart : (a : A) → told none ≡ told (some a) → ⊥
+  pub one : (a b : A) → told (some a) ≡ told (some b) → a ≡ b
+
+module _ {A E : Type 0} {told : Option A → E} (enum : Enum told) where
+  pub told-found : (o : Option A) {r : E} (a : A) → r ≡ told o → r ≡ told (some a) → o ≡ some a
+  told-found none a read is = absurd (enum .apart a (sym read ∙ is))
+  told-found (some b) a read is = ap {B = Option A} some (enum .one b a (sym read ∙ is))
+
+  pub told-none : (o : Option A) {r : E} → r ≡ told o → r ≡ told none → o ≡ none
+  told-none none read is = refl
+  told-none (some b) read is = absurd (enum .apart b (sym is ∙ read))
+
+pub numbers : Enum asNumber
+numbers = record { apart = λ a e. let z : _≡_ {A = ℕ} 0 1 = cc in omega arith; one = λ a b e. cc }
+
+pub heads : Enum asHeadRead
+heads = record { apart = λ a e. let z : _≡_ {A = ℕ} 0 1 = cc in omega arith; one = λ a b e. cc }
+
+pub entries : Enum asEntryRead
+entries =
+    record {
+      apart = λ a e. let z : _≡_ {A = ℕ} 0 1 = cc in omega arith;
+      one =
+          λ a b e.
+          let tag : a .tag ≡ b .tag = cc in
+          let far : a .distance ≡ b .distance = cc in
+          λ i. record { tag = tag i; distance = far i };
+    }
 
 -- the tag alone: what a misprint is answered by is no tag
 pub tag-found : (o : Option Line) {x : ℕ} → x ≡ tagOrMisprint o → (x ≡ 18446744073709551615 → ⊥)
@@ -36,33 +55,30 @@ pub tag-none : (o : Option Line) {x : ℕ} → ((l : Line) → o ≡ some l → 
 tag-none none small e h = refl
 tag-none (some l) small e h = absurd (omega (arith, small l refl))
 
-pub entry-found : (o : Option Entry) {t d : ℕ} → asEntryRead o ≡ EntryIs t d → o ≡ some (record { tag = t; distance = d })
-entry-found none h = absurd (let z : _≡_ {A = ℕ} 0 1 = cc in omega arith)
-entry-found (some e) {t} {d} h =
-    let tag : e .tag ≡ t = cc in
-    let far : e .distance ≡ d = cc in
-    λ i. some (record { tag = tag i; distance = far i })
-
-pub entry-none : (o : Option Entry) → asEntryRead o ≡ EntryMisprinted → o ≡ none
-entry-none none h = refl
-entry-none (some e) h = absurd (let z : _≡_ {A = ℕ} 0 1 = cc in omega arith)
-
-pub head-found : (o : Option Head) {h : Head} → asHeadRead o ≡ HeadIs h → o ≡ some h
-head-found none e = absurd (let z : _≡_ {A = ℕ} 0 1 = cc in omega arith)
-head-found (some k) e = cc
-
-pub head-none : (o : Option Head) → asHeadRead o ≡ HeadMisprinted → o ≡ none
-head-none none e = refl
-head-none (some k) e = absurd (let z : _≡_ {A = ℕ} 0 1 = cc in omega arith)
-
 -- ---- answers with a flag, which is tested before they are used
 
-module _ {A H : Type 0} (hold : Option A → H) (good : H → Bool) (bad : good (hold none) ≡ false)
-    (fine : (a : A) → good (hold (some a)) ≡ true) (r : H) where
-  pub good-found : (o : Option A) → r ≡ hold o → not (good r) ≡ false → (a : A) × (o ≡ some a) × (r ≡ hold (some a))
-  good-found none e g = absurd (true≢false (sym (not-false (good r) g) ∙ ap good e ∙ bad))
+pub record Flag {A H : Type 0} (hold : Option A → H) : Type 0 where
+  pub good : H → Bool
+  pub bad : good (hold none) ≡ false
+  pub fine : (a : A) → good (hold (some a)) ≡ true
+
+module _ {A H : Type 0} {hold : Option A → H} (flag : Flag hold) (r : H) where
+  pub good-found : (o : Option A) → r ≡ hold o → not (flag .good r) ≡ false → (a : A) × (o ≡ some a) × (r ≡ hold (some a))
+  good-found none e g = absurd (true≢false (sym (not-false (flag .good r) g) ∙ ap (flag .good) e ∙ flag .bad))
   good-found (some a) e g = (a, refl, e)
 
-  pub good-none : (o : Option A) → r ≡ hold o → not (good r) ≡ true → o ≡ none
+  pub good-none : (o : Option A) → r ≡ hold o → not (flag .good r) ≡ true → o ≡ none
   good-none none e g = refl
-  good-none (some a) e g = absurd (true≢false (sym (fine a) ∙ ap good (sym e) ∙ not-true (good r) g))
+  good-none (some a) e g = absurd (true≢false (sym (flag .fine a) ∙ ap (flag .good) (sym e) ∙ not-true (flag .good r) g))
+
+abbrev pub pair-flag : Flag asPairRead
+pair-flag = record { good = λ r. r .good; bad = refl; fine = λ a. refl }
+
+abbrev pub pairs-flag : Flag heldPairs
+pairs-flag = record { good = λ r. r .good; bad = refl; fine = λ a. refl }
+
+abbrev pub entries-flag : Flag heldEntries
+entries-flag = record { good = λ r. r .good; bad = refl; fine = λ a. refl }
+
+abbrev pub tags-flag : Flag heldTags
+tags-flag = record { good = λ r. r .good; bad = refl; fine = λ a. refl }

@@ -9,15 +9,15 @@ use native.Mathlib.Omega.{arith}
 use lib.ListN.{length}
 use Rattle.columns.specs.Lists.{every, joined, padded}
 use Rattle.buckets.specs.declared.Line.{Line}
-use Rattle.buckets.specs.ListLine.{fits, figures}
+use Rattle.buckets.specs.ListLine.{fits, lineColumns}
 use Rattle.buckets.specs.Bucket.{Pair, Entry, printPair, printEntry, pairFits, entryFits, laterPrinted, rising}
-use Rattle.buckets.specs.Columns.{readFigures, readEntry, readPair, readPairs, readEntries, readLines}
-use Rattle.buckets.specs.Lengths.{figuresWidth, pairsMost, entriesMost, bucketLinesMost, entryWidth, pairsWidth}
+use Rattle.buckets.specs.Inner.Columns.{readLineColumns, readEntry, readPair, readPairs, readEntries, readLines}
+use Rattle.buckets.specs.Lengths.{lineColumnsWidth, pairsMost, entriesMost, bucketLinesMost, entryWidth, pairsWidth}
 use Rattle.buckets.specs.Lengths.{entriesWidth, linesWidth, bucketsMost}
-use Rattle.buckets.proofs.ListLines.{length-figures}
+use Rattle.buckets.proofs.ListLines.{length-line-columns}
 use Rattle.buckets.proofs.Buckets.{length-printPair, length-printEntry}
 use Rattle.buckets.proofs.Items.{keeps-rising, items-back, items-only}
-use Rattle.buckets.proofs.Figures.{fitsFrom, figures-alone-back, figures-alone-only}
+use Rattle.buckets.proofs.LineColumns.{fitsFrom, line-columns-alone-back, line-columns-alone-only}
 use Rattle.buckets.proofs.Entries.{entryFrom, entry-back, entry-only, pairAt, pair-back, pair-only, keeps-pairs}
 
 pub pairs-back : (n : ℕ) (ps : List Pair) → n ≤ bucketsMost → every (pairFits n) ps ≡ true → laterPrinted ps ≡ true
@@ -35,11 +35,11 @@ entries-back n es small fit order =
     (λ m e h. entry-back n m e small h) entriesWidth es (keeps-rising (entryFits n) (λ e. e .tag) 0 es ∙ rw (fit, order))
 
 pub lines-back : (ls : List Line) → every fits ls ≡ true → rising 0 (map (λ l. l .tag) ls) ≡ true
-    → readLines (length ls) (padded linesWidth (joined figures ls)) ≡ some ls
+    → readLines (length ls) (padded linesWidth (joined lineColumns ls)) ≡ some ls
 unfolding readLines
 lines-back ls fit order =
-    items-back readFigures (λ m l. l .tag) fitsFrom figures figuresWidth length-figures
-    figures-alone-back linesWidth ls (keeps-rising fits (λ l. l .tag) 0 ls ∙ rw (fit, order))
+    items-back readLineColumns (λ m l. l .tag) fitsFrom lineColumns lineColumnsWidth length-line-columns
+    line-columns-alone-back linesWidth ls (keeps-rising fits (λ l. l .tag) 0 ls ∙ rw (fit, order))
 
 -- what was read of a run of items, with the rules that it keeps
 pub pairs-only : (n c : ℕ) (s : List ℕ) {ps : List Pair} → length s ≡ pairsWidth → c ≤ pairsMost → readPairs n c s ≡ some ps
@@ -60,9 +60,9 @@ entries-only n c s {es} long few h =
     (told .0, sym (keeps-rising (entryFits n) (λ e. e .tag) 0 es) ∙ told .1, told .2)
 
 pub lines-only : (c : ℕ) (s : List ℕ) {ls : List Line} → length s ≡ linesWidth → c ≤ bucketLinesMost → readLines c s ≡ some ls
-    → (length ls ≡ c) × (every fits ls && rising 0 (map (λ l. l .tag) ls) ≡ true) × (s ≡ padded linesWidth (joined figures ls))
+    → (length ls ≡ c) × (every fits ls && rising 0 (map (λ l. l .tag) ls) ≡ true) × (s ≡ padded linesWidth (joined lineColumns ls))
 unfolding readLines
 lines-only c s {ls} long few h =
-    let told = items-only readFigures (λ m l. l .tag) fitsFrom figures figuresWidth length-figures
-    (λ m r l. figures-alone-only m r) linesWidth c s ls long (omega arith) h in
+    let told = items-only readLineColumns (λ m l. l .tag) fitsFrom lineColumns lineColumnsWidth length-line-columns
+    (λ m r l. line-columns-alone-only m r) linesWidth c s ls long (omega arith) h in
     (told .0, sym (keeps-rising fits (λ l. l .tag) 0 ls) ∙ told .1, told .2)

@@ -7,7 +7,7 @@ use mathlib.Core.List.{List}
 use native.Mathlib.Omega.{arith}
 use borrow.Author.Tests.{le-leb, lt-leb}
 use Rattle.columns.specs.PrintedNumbers.{readNumber, orMisprint}
-use Rattle.buckets.specs.Columns.{numberWithin}
+use Rattle.buckets.specs.Inner.Columns.{numberWithin}
 
 module _ (low high : ℕ) (s : List ℕ) where
   pub misprinted : readNumber s ≡ none → numberWithin low high s ≡ none

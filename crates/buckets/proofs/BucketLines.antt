@@ -1,6 +1,6 @@
 -- The lines of a bucket stand in their columns, one behind the other.
 -- Assumes nothing.
-use mathlib.Core.Path.{_≡_, refl, sym, ap, _∙_}
+use mathlib.Core.Path.{_≡_, refl, ap, _∙_}
 use Prim.Native.Nat.{ℕ, zero, suc, _+_, _-_, _*_, _≤_, _<_}
 use native.Mathlib.Omega.{arith}
 use mathlib.Core.Bool.{Bool, true, false, true≢false}
@@ -11,34 +11,34 @@ use lib.ListN.{length, getD}
 use lib.Seq.{drop-append-add}
 use Rattle.columns.specs.Lists.{joined, padded}
 use Rattle.columns.proofs.Joined.{joined-at, every-at}
-use Rattle.buckets.specs.Lengths.{bucketLength, bucketLinesMost, figuresWidth, linesStart, linesWidth, newline}
+use Rattle.buckets.specs.Lengths.{bucketLength, bucketLinesMost, lineColumnsWidth, linesStart, linesWidth, newline}
 use Rattle.buckets.specs.declared.Line.{Line}
 use Rattle.buckets.specs.declared.Kind.{Kind}
 use Rattle.buckets.specs.declared.Kind.the-variants.{Index as KindIndex, Data as KindData, Misprinted as KindMisprinted}
 use Rattle.buckets.specs.declared.BucketLine.{BucketLine}
 use Rattle.buckets.specs.declared.BucketLine.the-variants.{Line as IsLine, Nothing, Misprinted}
-use Rattle.buckets.specs.ListLine.{fits, figures, spelled}
-use Rattle.buckets.specs.Bucket.{Body, indexBody, dataBody, Bucket, printHead, printBody, printBucket, good, spelledLine, readBucket}
+use Rattle.buckets.specs.ListLine.{fits, lineColumns, spelled}
+use Rattle.buckets.specs.Bucket.{Body, indexBody, dataBody, Bucket, printHead, printBody, printBucket, spelledLine, readBucket}
 use Rattle.buckets.specs.BucketLines.{bodyLines, nth, orNothing, bucketLine, numbers, lineBytes}
-use Rattle.buckets.specs.Held.{headOf, heldBody, asReading}
-use Rattle.buckets.proofs.ListLines.{length-figures, spelled-alone}
+use Rattle.buckets.specs.Inner.Held.{headOf, heldBody, asReading}
+use Rattle.buckets.proofs.ListLines.{length-line-columns, spelled-alone}
 use Rattle.buckets.proofs.Good.{GoodData, bucket-good}
 use Rattle.buckets.proofs.Buckets.{length-printHead, print-of-read-bucket}
 
 -- a printed data bucket has its lines there
 pub printed-line :
     (b : Bucket) (f : ℕ) (ls : List Line) (z : Line) (m : ℕ) → b .body ≡ dataBody f ls → m < length ls →
-    lineBytes (printBucket b) m ≡ figures (getD ls m z)
+    lineBytes (printBucket b) m ≡ lineColumns (getD ls m z)
 unfolding lineBytes printBucket padded
 printed-line b f ls z m e h =
-    let blank : List ℕ = ListN.replicate (linesWidth - length (joined figures ls)) 32 in
-    let at : linesStart + figuresWidth * m ≡ length (printHead b) + m * figuresWidth = omega (arith, length-printHead b) in
+    let blank : List ℕ = ListN.replicate (linesWidth - length (joined lineColumns ls)) 32 in
+    let at : linesStart + lineColumnsWidth * m ≡ length (printHead b) + m * lineColumnsWidth = omega (arith, length-printHead b) in
     let whole :
-    printHead b ++ (printBody (b .body) ++ newline ∷ []) ≡ printHead b ++ (joined figures ls ++ (blank ++ newline ∷ [])) =
+    printHead b ++ (printBody (b .body) ++ newline ∷ []) ≡ printHead b ++ (joined lineColumns ls ++ (blank ++ newline ∷ [])) =
     ap (λ x. printHead b ++ (printBody x ++ newline ∷ [])) e
-    ∙ ap (λ s. printHead b ++ s) (append-assoc (joined figures ls) blank (newline ∷ [])) in
-    rw (whole, at, drop-append-add (printHead b) (joined figures ls ++ (blank ++ newline ∷ [])) (m * figuresWidth))
-    (joined-at figures figuresWidth length-figures z ls (blank ++ newline ∷ []) m h)
+    ∙ ap (λ s. printHead b ++ s) (append-assoc (joined lineColumns ls) blank (newline ∷ [])) in
+    rw (whole, at, drop-append-add (printHead b) (joined lineColumns ls ++ (blank ++ newline ∷ [])) (m * lineColumnsWidth))
+    (joined-at lineColumns lineColumnsWidth length-line-columns z ls (blank ++ newline ∷ []) m h)
 
 -- line i of a list
 pub nth-at : (z : Line) (i : ℕ) (ls : List Line) → i < length ls → nth i ls ≡ some (getD ls i z)
@@ -77,7 +77,7 @@ index KindIndex = true
 index KindData = false
 index KindMisprinted = false
 
-line-alone : (l : Line) → fits l ≡ true → spelledLine (figures l) ≡ l
+line-alone : (l : Line) → fits l ≡ true → spelledLine (lineColumns l) ≡ l
 unfolding spelled
 line-alone l h = spelled-alone l h
 

@@ -14,12 +14,12 @@ use Rattle.columns.proofs.Strict.{strict-back, strict-only}
 use Rattle.columns.proofs.Printed.{value-print, print-not-blank, length-padded}
 use Rattle.columns.proofs.Joined.{length-joined, parts-joined, map-undone}
 use Rattle.buckets.specs.declared.Line.{Line}
-use Rattle.buckets.specs.ListLine.{fits, figures}
+use Rattle.buckets.specs.ListLine.{fits, lineColumns}
 use Rattle.buckets.specs.Bucket.{Pair, Entry, Body, indexBody, dataBody, Bucket, printHead, printTag, printPair, printEntry, printBody, printBucket, pairTagFits, pairFits, entryFits, good, columns, field, spelledPair, spelledEntry, spelledLine, spelledBody, spelledBucket, readBucket}
-use Rattle.buckets.specs.Lengths.{newline, tagWidth, figuresWidth, tagMost, placeWidth, countWidth, headWidth, pairsMost}
+use Rattle.buckets.specs.Lengths.{newline, tagWidth, lineColumnsWidth, tagMost, placeWidth, countWidth, headWidth, pairsMost}
 use Rattle.buckets.specs.Lengths.{entriesMost, bucketLinesMost, distanceStart, entryWidth, bucketLength, pairsWidth}
 use Rattle.buckets.specs.Lengths.{entriesWidth, linesWidth, bodyWidth, bucketsMost}
-use Rattle.buckets.proofs.ListLines.{tag-small, length-figures, figures-spelled}
+use Rattle.buckets.proofs.ListLines.{tag-small, length-line-columns, line-columns-spelled}
 use Rattle.buckets.proofs.Good.{GoodIndex, GoodData, GoodBody, entry-fits, pair-fits, bucket-good}
 
 -- ---- width
@@ -52,8 +52,8 @@ length-pairs ps h = length-padded pairsWidth (joined printPair ps) (rw (length-j
 pub length-entries : (es : List Entry) → length es ≤ entriesMost → length (padded entriesWidth (joined printEntry es)) ≡ entriesWidth
 length-entries es h = length-padded entriesWidth (joined printEntry es) (rw (length-joined printEntry entryWidth length-printEntry es) (omega arith))
 
-pub length-lines : (ls : List Line) → length ls ≤ bucketLinesMost → length (padded linesWidth (joined figures ls)) ≡ linesWidth
-length-lines ls h = length-padded linesWidth (joined figures ls) (rw (length-joined figures figuresWidth length-figures ls) (omega arith))
+pub length-lines : (ls : List Line) → length ls ≤ bucketLinesMost → length (padded linesWidth (joined lineColumns ls)) ≡ linesWidth
+length-lines ls h = length-padded linesWidth (joined lineColumns ls) (rw (length-joined lineColumns lineColumnsWidth length-line-columns ls) (omega arith))
 
 pub length-printBody : (x : Body) → Room x → length (printBody x) ≡ bodyWidth
 length-printBody (indexBody ps es) h = simp length-append (rw (length-pairs ps (h .0), length-entries es (h .1)))
@@ -140,8 +140,8 @@ spelled-index n p c g ps es small h =
     ∙ cut printEntry spelledEntry (entryFits n) entryWidth entriesWidth length-printEntry (spelled-printEntry n small) es (h .entries-fit))
 
 -- a line in its bucket
-spelled-line : (l : Line) → fits l ≡ true → spelledLine (figures l) ≡ l
-spelled-line l h = ap spelledLine (sym (append-nil (figures l))) ∙ figures-spelled l [] h
+spelled-line : (l : Line) → fits l ≡ true → spelledLine (lineColumns l) ≡ l
+spelled-line l h = ap spelledLine (sym (append-nil (lineColumns l))) ∙ line-columns-spelled l [] h
 
 spelled-data : (p c g f : ℕ) (ls : List Line) → c ≤ bucketsMost → GoodData c f ls
     → spelledBody (printBucket (record { position = p; toCycle = c; toSegment = g; body = dataBody f ls })) ≡ dataBody f ls
@@ -149,10 +149,10 @@ unfolding spelledBody printBucket printHead field columns
 spelled-data p c g f ls small h =
     ap₂ {C = Body} dataBody
     (value-print placeWidth f (omega arith))
-    (ap₂ (λ (k : ℕ) (s : List ℕ). map spelledLine (parts k figuresWidth s))
+    (ap₂ (λ (k : ℕ) (s : List ℕ). map spelledLine (parts k lineColumnsWidth s))
     (value-print countWidth (length ls) (omega arith))
-    (take-at (padded linesWidth (joined figures ls)) (newline ∷ []) linesWidth (length-lines ls (h .few-lines)))
-    ∙ cut figures spelledLine fits figuresWidth linesWidth length-figures spelled-line ls (h .lines-fit))
+    (take-at (padded linesWidth (joined lineColumns ls)) (newline ∷ []) linesWidth (length-lines ls (h .few-lines)))
+    ∙ cut lineColumns spelledLine fits lineColumnsWidth linesWidth length-line-columns spelled-line ls (h .lines-fit))
 
 -- what stands behind the head of a printed bucket
 spelled-printBody : (n p c g : ℕ) (x : Body) → n ≤ bucketsMost → c ≤ bucketsMost → GoodBody n c x

@@ -15,17 +15,17 @@ use Rattle.columns.specs.PrintedNumbers.{print}
 use Rattle.columns.proofs.Strict.{both}
 use Rattle.buckets.specs.declared.Line.{Line}
 use Rattle.buckets.specs.declared.Head.{Head}
-use Rattle.buckets.specs.ListLine.{fits, figures}
+use Rattle.buckets.specs.ListLine.{fits, lineColumns}
 use Rattle.buckets.specs.Bucket.{Pair, Entry, Body, indexBody, dataBody, Bucket, followOn, letter, pairCount, itemCount, printHead, printPair, printEntry, printBody, printBucket, pairFits, entryFits, laterPrinted, rising, good, columns, readBucket}
-use Rattle.buckets.specs.Held.{bucketWith, headOf}
-use Rattle.buckets.specs.Columns.{numberWithin, readPairs, readEntries, readLines, readHead, readIndex, readData, readByLetter, readFields}
+use Rattle.buckets.specs.Inner.Held.{bucketWith, headOf}
+use Rattle.buckets.specs.Inner.Columns.{numberWithin, readPairs, readEntries, readLines, readHead, readIndex, readData, readByLetter, readFields}
 use Rattle.buckets.specs.Lengths.{newline, letterIndex, letterData, placeWidth, positionStart, toCycleStart}
 use Rattle.buckets.specs.Lengths.{toSegmentStart, followOnStart, letterColumn, countWidth, pairCountStart, itemCountStart}
 use Rattle.buckets.specs.Lengths.{headWidth, pairsMost, entriesMost, bucketLinesMost, bucketEnd, bucketLength, pairsStart}
 use Rattle.buckets.specs.Lengths.{pairsWidth, entriesStart, entriesWidth, linesStart, linesWidth, bodyWidth, bucketsMost}
 use Rattle.buckets.proofs.Good.{Reaches, GoodIndex, GoodData, GoodBody, Good, bucket-good, good-bucket}
 use Rattle.buckets.proofs.Buckets.{length-pairs, length-entries, length-lines, length-printHead, length-printBody, room, first-part, second-part, length-printBucket, read-of-print-bucket, print-of-read-bucket}
-use Rattle.buckets.proofs.Chained.{then-found, pick-found, same-found}
+use Rattle.buckets.proofs.Chained.{then-found, pick-found, same-reading}
 use Rattle.buckets.proofs.Within.{within-back, columns-split, columns-all, columns-one, length-columns, field-only}
 use Rattle.buckets.proofs.BodyItems.{pairs-back, entries-back, lines-back, pairs-only, entries-only, lines-only}
 
@@ -67,7 +67,7 @@ data-back h f ls small g =
       within-back 0 (h .«to_cycle» - 1) placeWidth f (omega arith) (omega arith) (omega arith),
       within-back 0 0 countWidth 0 (omega arith) (omega arith) (omega arith),
       within-back 1 bucketLinesMost countWidth (length ls) (omega arith) (omega arith) (omega arith),
-      take-at (padded linesWidth (joined figures ls)) (newline ∷ []) linesWidth (length-lines ls (g .few-lines)),
+      take-at (padded linesWidth (joined lineColumns ls)) (newline ∷ []) linesWidth (length-lines ls (g .few-lines)),
       lines-back ls (g .lines-fit) (g .in-order),
     )
 
@@ -278,10 +278,6 @@ fields-only s {b} e =
 
 -- a bucket read field by field is the bucket read strictly
 pub read-bucket-fields : (s : List ℕ) → readBucket s ≡ readFields s
-read-bucket-fields s = same-found (readBucket s) (readFields s) forth back
-  where
-    forth : (b : Bucket) → readBucket s ≡ some b → readFields s ≡ some b
-    forth b e = let told = print-of-read-bucket s e in rw (told .0) (fields-back b (told .1))
-
-    back : (b : Bucket) → readFields s ≡ some b → readBucket s ≡ some b
-    back b e = let told = fields-only s e in rw (told .0) (read-of-print-bucket b (told .1))
+read-bucket-fields =
+    same-reading printBucket good readBucket readFields read-of-print-bucket
+    (λ s b e. let told = print-of-read-bucket s e in (told .0, told .1)) fields-back (λ s b e. fields-only s e)

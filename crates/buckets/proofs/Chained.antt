@@ -4,9 +4,10 @@ use Prim.Native.Nat.{ℕ}
 use mathlib.Core.Path.{_≡_, refl, sym}
 use mathlib.Core.Bool.{Bool, true, false}
 use mathlib.Core.Option.{Option, none, some}
+use mathlib.Core.List.{List}
 use native.Mathlib.Omega.{arith}
 use Rattle.columns.specs.Lists.{pick}
-use Rattle.buckets.specs.Columns.{andThen}
+use Rattle.buckets.specs.Inner.Columns.{andThen}
 
 pub none-not-some : {A : Type 0} {a : A} → _≡_ {A = Option A} none (some a) → ⊥
 none-not-some h = let z : _≡_ {A = ℕ} 0 1 = cc in omega arith
@@ -27,3 +28,12 @@ pub same-found : {A : Type 0} (o p : Option A) → ((a : A) → o ≡ some a →
 same-found none none f g = refl
 same-found none (some a) f g = g a refl
 same-found (some a) p f g = sym (f a refl)
+
+-- two readings are one that undo the same printing of what keeps the same rule, and find only what is printed so
+pub same-reading : {A : Type 0} (show : A → List ℕ) (ok : A → Bool) (o p : List ℕ → Option A)
+    → ((a : A) → ok a ≡ true → o (show a) ≡ some a) → ((s : List ℕ) (a : A) → o s ≡ some a → (s ≡ show a) × (ok a ≡ true))
+    → ((a : A) → ok a ≡ true → p (show a) ≡ some a) → ((s : List ℕ) (a : A) → p s ≡ some a → (s ≡ show a) × (ok a ≡ true))
+    → (s : List ℕ) → o s ≡ p s
+same-reading show ok o p o-back o-only p-back p-only s =
+    same-found (o s) (p s) (λ a e. let told = o-only s a e in rw (told .0) (p-back a (told .1)))
+    (λ a e. let told = p-only s a e in rw (told .0) (o-back a (told .1)))

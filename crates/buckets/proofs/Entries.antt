@@ -14,8 +14,8 @@ use Rattle.columns.specs.PrintedNumbers.{print, blanks, allBlank}
 use Rattle.columns.proofs.Strict.{both, and-false}
 use Rattle.buckets.specs.ListLine.{tagFits}
 use Rattle.buckets.specs.Bucket.{Pair, Entry, printTag, printPair, printEntry, pairTagFits, pairFits, entryFits, printedTag, laterPrinted, columns}
-use Rattle.buckets.specs.Held.{printedPair}
-use Rattle.buckets.specs.Columns.{numberWithin, readEntry, readBlankPair, readPrintedPair, readPair}
+use Rattle.buckets.specs.Inner.Held.{printedPair}
+use Rattle.buckets.specs.Inner.Columns.{numberWithin, readEntry, readBlankPair, readPrintedPair, readPair}
 use Rattle.buckets.specs.Lengths.{tagWidth, tagStart, tagMost, placeWidth, distanceStart, entryWidth, bucketsMost}
 use Rattle.buckets.proofs.ListLines.{tag-small, small-tag}
 use Rattle.buckets.proofs.Good.{Reaches, entry-fits, fits-entry, pair-fits, fits-pair}

@@ -2,11 +2,10 @@
 --     entries-next, length-entries    entries from two arrays, one more, and how many
 --     joined-next                     one more item behind those that stand
 --     entry-written                   one more entry, printed as two numbers
---     entries-first                   the first entry and the others
---     pairs-printed, pairs-blank      pairs printed as entries, and with a blank tag first
---     line-written, figures-at        one more line, and where its figures stand in a list
+--     pairs-printed, pairs-blanked    pairs printed as entries, and the first one's tag blanked
+--     line-written, line-columns-at        one more line, and where its columns stand in a list
 -- Assumes nothing.
-use Prim.Native.Nat.{ℕ, zero, suc, _+_, _-_, _*_, _≤_, _<_}
+use Prim.Native.Nat.{ℕ, zero, suc, _+_, _*_, _≤_, _<_}
 use mathlib.Core.Path.{_≡_, refl, sym, ap, _∙_}
 use mathlib.Core.Bool.{true, false}
 use mathlib.Core.List.{List, [], _∷_, _++_, map, append-assoc, append-nil}
@@ -15,15 +14,18 @@ use native.Mathlib.Omega.{arith}
 use lib.Dec.{lit≤}
 use lib.ListN.{length, take, drop, getD}
 use lib.Seq.{length-take-le, take-suc, take-take, take-at}
-use Rattle.columns.specs.Lists.{joined}
+use Rattle.columns.specs.Lists.{joined, padded}
 use Rattle.columns.specs.PrintedNumbers.{print, blanks}
+use Rattle.columns.proofs.FromTheRight.{length-blanks}
+use Rattle.columns.proofs.Printed.{length-print}
+use Rattle.columns.proofs.Padded.{padded-on, padded-over}
 use Rattle.columns.proofs.Joined.{joined-append, length-joined, joined-at}
 use Rattle.buckets.specs.declared.Line.{Line}
-use Rattle.buckets.specs.ListLine.{figures, printLine}
+use Rattle.buckets.specs.ListLine.{lineColumns, printLine}
 use Rattle.buckets.specs.Bucket.{Entry, printPair, printEntry}
-use Rattle.buckets.specs.Held.{entriesOf, printedPair, pairsOf}
-use Rattle.buckets.specs.Lengths.{newline, tagWidth, figuresWidth, lineLength, placeWidth, entryWidth}
-use Rattle.buckets.proofs.ListLines.{length-figures, length-printLine}
+use Rattle.buckets.specs.Inner.Held.{entriesOf, printedPair, pairsOf}
+use Rattle.buckets.specs.Lengths.{newline, tagWidth, lineColumnsWidth, lineLength, placeWidth, entryWidth}
+use Rattle.buckets.proofs.ListLines.{length-line-columns, length-printLine}
 use Rattle.buckets.proofs.Buckets.{length-printEntry}
 
 -- entry i of two arrays
@@ -68,16 +70,8 @@ entry-written ts ds i h g =
     ∙ ap (joined printEntry) (sym (entries-next ts ds i h g))
     ∙ ap (entriesTo ts ds) (sym (add-one i))
 
--- the first entry, and those of the arrays without their first places
-pub entries-first : (ts ds : List ℕ) (n : ℕ) → 0 < n → n ≤ length ts → n ≤ length ds →
-    take n (entriesOf ts ds) ≡ entryAt ts ds 0 ∷ take (n - 1) (entriesOf (drop 1 ts) (drop 1 ds))
-entries-first ts ds zero p h g = absurd (omega arith)
-entries-first [] ds (suc n) p h g = absurd (omega arith)
-entries-first (t ∷ ts) [] (suc n) p h g = absurd (omega arith)
-entries-first (t ∷ ts) (d ∷ ds) (suc n) p h g = let e : suc n - 1 ≡ n = omega arith in rw e
-
 -- pairs with printed tags are printed as entries are
-pub later-printed : (es : List Entry) → joined printPair (map printedPair es) ≡ joined printEntry es
+later-printed : (es : List Entry) → joined printPair (map printedPair es) ≡ joined printEntry es
 unfolding printPair printEntry
 later-printed [] = refl
 later-printed (e ∷ es) = ap (λ (s : List ℕ). printEntry e ++ s) (later-printed es)
@@ -87,31 +81,43 @@ unfolding printPair printEntry
 pairs-printed [] = refl
 pairs-printed (e ∷ es) = ap (λ (s : List ℕ). printEntry e ++ s) (later-printed es)
 
-pub pairs-blank : (e : Entry) (es : List Entry) →
-    joined printPair (pairsOf true (e ∷ es)) ≡ (blanks tagWidth ++ print placeWidth (e .distance)) ++ joined printEntry es
-unfolding printPair
-pairs-blank e es = ap (λ (s : List ℕ). (blanks tagWidth ++ print placeWidth (e .distance)) ++ s) (later-printed es)
+-- the first one's tag blanked
+pub pairs-blanked : (n : ℕ) (es : List Entry) → tagWidth ≤ n →
+    blanks tagWidth ++ drop tagWidth (padded n (joined printEntry es)) ≡ padded n (joined printPair (pairsOf true es))
+unfolding printPair printEntry
+pairs-blanked n [] h =
+    let still : padded n [] ≡ padded n (blanks tagWidth ++ []) = padded-on n 0 [] refl tagWidth h ∙ ap (padded n) (sym (append-nil (blanks tagWidth))) in
+    ap (λ (s : List ℕ). blanks tagWidth ++ drop tagWidth s) still
+    ∙ padded-over n tagWidth (blanks tagWidth) (blanks tagWidth) [] (length-blanks tagWidth) (length-blanks tagWidth)
+    ∙ sym still
+pairs-blanked n (e ∷ es) h =
+    let tag : List ℕ = print tagWidth (e .tag) in
+    let distance : List ℕ = print placeWidth (e .distance) in
+    ap (λ (s : List ℕ). blanks tagWidth ++ drop tagWidth (padded n s)) (append-assoc tag distance (joined printEntry es))
+    ∙ padded-over n tagWidth tag (blanks tagWidth) (distance ++ joined printEntry es) (length-print tagWidth (e .tag)) (length-blanks tagWidth)
+    ∙ ap (padded n)
+    (sym (append-assoc (blanks tagWidth) distance (joined printEntry es)) ∙ ap (λ (s : List ℕ). (blanks tagWidth ++ distance) ++ s) (sym (later-printed es)))
 
 -- the first i lines, without their newlines
 abbrev pub linesTo : List Line → ℕ → List ℕ
-linesTo ls i = joined figures (take i ls)
+linesTo ls i = joined lineColumns (take i ls)
 
-pub length-lines-to : (ls : List Line) (i : ℕ) → i ≤ length ls → length (linesTo ls i) ≡ i * figuresWidth
-length-lines-to ls i h = length-joined figures figuresWidth length-figures (take i ls) ∙ ap (λ (k : ℕ). k * figuresWidth) (length-take-le i ls h)
+pub length-lines-to : (ls : List Line) (i : ℕ) → i ≤ length ls → length (linesTo ls i) ≡ i * lineColumnsWidth
+length-lines-to ls i h = length-joined lineColumns lineColumnsWidth length-line-columns (take i ls) ∙ ap (λ (k : ℕ). k * lineColumnsWidth) (length-take-le i ls h)
 
-pub line-written : (ls : List Line) (d : Line) (i : ℕ) → i < length ls → linesTo ls i ++ figures (getD ls i d) ≡ linesTo ls (i + 1)
+pub line-written : (ls : List Line) (d : Line) (i : ℕ) → i < length ls → linesTo ls i ++ lineColumns (getD ls i d) ≡ linesTo ls (i + 1)
 line-written ls d i h =
-    sym (joined-next figures (take i ls) (getD ls i d))
-    ∙ ap (joined figures) (sym (take-suc ls i d h))
+    sym (joined-next lineColumns (take i ls) (getD ls i d))
+    ∙ ap (joined lineColumns) (sym (take-suc ls i d h))
     ∙ ap (linesTo ls) (sym (add-one i))
 
--- the figures of line i in a printed list
-pub figures-at : (s : List ℕ) (ls : List Line) (d : Line) (i : ℕ) → s ≡ joined printLine ls → i < length ls →
-    take figuresWidth (drop (i * lineLength) s) ≡ figures (getD ls i d)
+-- the columns of line i in a printed list
+pub line-columns-at : (s : List ℕ) (ls : List Line) (d : Line) (i : ℕ) → s ≡ joined printLine ls → i < length ls →
+    take lineColumnsWidth (drop (i * lineLength) s) ≡ lineColumns (getD ls i d)
 unfolding printLine
-figures-at s ls d i e h =
+line-columns-at s ls d i e h =
     let line : take lineLength (drop (i * lineLength) s) ≡ printLine (getD ls i d) =
     rw (e, ← append-nil (joined printLine ls)) (joined-at printLine lineLength length-printLine d ls [] i h) in
-    sym (take-take figuresWidth lineLength (drop (i * lineLength) s) (lit≤ tt))
-    ∙ ap (take figuresWidth) line
-    ∙ take-at (figures (getD ls i d)) (newline ∷ []) figuresWidth (length-figures (getD ls i d))
+    sym (take-take lineColumnsWidth lineLength (drop (i * lineLength) s) (lit≤ tt))
+    ∙ ap (take lineColumnsWidth) line
+    ∙ take-at (lineColumns (getD ls i d)) (newline ∷ []) lineColumnsWidth (length-line-columns (getD ls i d))

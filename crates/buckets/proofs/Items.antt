@@ -15,7 +15,7 @@ use Rattle.columns.proofs.Strict.{both, and-false}
 use Rattle.columns.proofs.Joined.{length-joined}
 use Rattle.buckets.specs.Bucket.{rising}
 use Rattle.columns.specs.PrintedNumbers.{allBlank}
-use Rattle.buckets.specs.Columns.{andThen, readRun, readItems}
+use Rattle.buckets.specs.Inner.Columns.{andThen, readRun, readItems}
 use Rattle.buckets.proofs.Chained.{then-found, pick-found}
 use Rattle.buckets.proofs.Within.{blank-blanks, blanks-of-blank}
 
@@ -35,6 +35,21 @@ pub keeps-rising : {A : Type 0} (p : A → Bool) (key : A → ℕ) (m : ℕ) (xs
 keeps-rising p key m [] = refl
 keeps-rising p key m (x ∷ xs) =
     rw (keeps-rising p key (key x) xs) (and-regroup (p x) (leb m (key x)) (every p xs) (rising (key x) (map key xs)))
+
+-- as many items are read as are asked for
+module _ {A : Type 0} (read : ℕ → List ℕ → Option A) (next : ℕ → A → ℕ) (w : ℕ) where
+  run-count : (m c : ℕ) (s : List ℕ) (xs : List A) → readRun read next w m c s ≡ some xs → length xs ≡ c
+  run-count m zero s xs h = let is : xs ≡ [] = cc in rw is
+  run-count m (suc c) s xs h =
+      let first = then-found (read m (take w s)) (λ a. andThen (readRun read next w (next m a) c (drop w s)) (λ ys. some (a ∷ ys))) h in
+      let a = first .0 in
+      let rest = then-found (readRun read next w (next m a) c (drop w s)) (λ ys. some (a ∷ ys)) (first .2) in
+      let is : xs ≡ a ∷ rest .0 = cc in
+      rw is (ap suc (run-count (next m a) c (drop w s) (rest .0) (rest .1)))
+
+  pub items-count : (c : ℕ) (s : List ℕ) (xs : List A) → readItems read next w c s ≡ some xs → length xs ≡ c
+  unfolding readItems
+  items-count c s xs h = run-count 0 c s xs (pick-found (allBlank (drop (c * w) s)) (readRun read next w 0 c s) h .1)
 
 -- what a run of items that was read tells
 record Run {A : Type 0} (ok : ℕ → A → Bool) (next : ℕ → A → ℕ) (show : A → List ℕ) (m c : ℕ) (s : List ℕ) (xs : List A) : Type 0 where

@@ -8,13 +8,14 @@ pub mod Chained
 pub mod Within
 pub mod Bounds
 pub mod Items
-pub mod Figures
+pub mod LineColumns
 pub mod PrintedRest
 pub mod Entries
 pub mod EntriesPut
 pub mod BodyItems
 pub mod ByField
 pub mod Answers
+pub mod Stages
 pub mod Progress
 pub mod Holding
 pub mod Fronts

@@ -12,8 +12,8 @@ use borrow.Author.Tests.{leb-true, le-leb}
 use Rattle.columns.proofs.Strict.{both, strict-back, strict-only}
 use Rattle.columns.proofs.Printed.{value-print}
 use Rattle.buckets.specs.declared.Line.{Line}
-use Rattle.buckets.specs.ListLine.{tagFits, fits, figures, printLine, spelledFigures, spelled, readLine, taken}
-use Rattle.buckets.specs.Lengths.{newline, tagWidth, tareWidth, codeWidth, weighingWidth, figuresWidth, lineLength}
+use Rattle.buckets.specs.ListLine.{tagFits, fits, lineColumns, printLine, spelledColumns, spelled, readLine, taken}
+use Rattle.buckets.specs.Lengths.{newline, tagWidth, tareWidth, codeWidth, weighingWidth, lineColumnsWidth, lineLength}
 use Rattle.buckets.specs.Lengths.{tagMost, tareMost, codeMost, weighingMost}
 
 -- what `fits` tests
@@ -47,18 +47,18 @@ line-fits l h =
       small-weighing = leb-true (l .weighing) weighingMost (third .1);
     }
 
-pub length-figures : (l : Line) → length (figures l) ≡ figuresWidth
-unfolding figures
-length-figures l = refl
+pub length-line-columns : (l : Line) → length (lineColumns l) ≡ lineColumnsWidth
+unfolding lineColumns
+length-line-columns l = refl
 
 pub length-printLine : (l : Line) → length (printLine l) ≡ lineLength
-unfolding figures printLine
+unfolding lineColumns printLine
 length-printLine l = refl
 
 -- a line's columns spell the line, whatever stands behind them
-pub figures-spelled : (l : Line) (rest : List ℕ) → fits l ≡ true → spelledFigures (figures l ++ rest) ≡ l
-unfolding figures
-figures-spelled l rest h =
+pub line-columns-spelled : (l : Line) (rest : List ℕ) → fits l ≡ true → spelledColumns (lineColumns l ++ rest) ≡ l
+unfolding lineColumns
+line-columns-spelled l rest h =
     let f = line-fits l h in
     λ i.
     record {
@@ -68,16 +68,16 @@ figures-spelled l rest h =
       weighing = value-print weighingWidth (l .weighing) (omega arith) i;
     }
 
-pub spelled-figures : (l : Line) (rest : List ℕ) → fits l ≡ true → spelled (figures l ++ rest) ≡ l
+pub spelled-line-columns : (l : Line) (rest : List ℕ) → fits l ≡ true → spelled (lineColumns l ++ rest) ≡ l
 unfolding spelled
-spelled-figures l rest h = figures-spelled l rest h
+spelled-line-columns l rest h = line-columns-spelled l rest h
 
-pub spelled-alone : (l : Line) → fits l ≡ true → spelled (figures l) ≡ l
-spelled-alone l h = rw append-nil at (spelled-figures l [] h)
+pub spelled-alone : (l : Line) → fits l ≡ true → spelled (lineColumns l) ≡ l
+spelled-alone l h = rw append-nil at (spelled-line-columns l [] h)
 
 pub spelled-printLine : (l : Line) → fits l ≡ true → spelled (printLine l) ≡ l
 unfolding printLine
-spelled-printLine l h = spelled-figures l (newline ∷ []) h
+spelled-printLine l h = spelled-line-columns l (newline ∷ []) h
 
 pub read-of-print-line : (l : Line) → fits l ≡ true → readLine (printLine l) ≡ some l
 unfolding readLine

@@ -3,28 +3,28 @@
 -- Assumes nothing.
 use Prim.Native.Nat.{ℕ, suc, _^_, _≤_, _<_, _+_, _-_}
 use mathlib.Core.Path.{_≡_, refl, sym, ap, _∙_}
-use mathlib.Core.Bool.{true, false, _&&_, true≢false}
+use mathlib.Core.Bool.{Bool, true, false, _&&_, true≢false}
 use mathlib.Core.Option.{Option, none, some}
 use mathlib.Core.List.{List, [], _++_, append-nil}
 use native.Mathlib.Omega.{arith}
 use lib.Dec.{leb}
 use lib.ListN.{length, drop, getD, length-drop}
 use Rattle.columns.specs.Lists.{pick}
-use Rattle.columns.specs.PrintedNumbers.{readNumber}
-use Rattle.columns.specs.Places.{places, columnsPrinted}
+use Rattle.columns.specs.PrintedNumbers.{readNumber, orMisprint}
+use Rattle.columns.specs.Inner.Places.{places, columnsPrinted}
 use Rattle.columns.proofs.Strict.{both, and-true}
 use Rattle.columns.proofs.Printed.{print-of-read}
 use Rattle.columns.proofs.LeadingBlanks.{past-one}
 use Rattle.columns.proofs.Places.{found, field-printed}
 use Rattle.buckets.specs.declared.Line.{Line}
 use Rattle.buckets.specs.Bucket.{columns}
-use Rattle.buckets.specs.Held.{tagOrMisprint}
-use Rattle.buckets.specs.Columns.{numberWithin, readFigures, restPlaces}
+use Rattle.buckets.specs.Inner.Held.{tagOrMisprint}
+use Rattle.buckets.specs.Inner.Columns.{numberWithin, readLineColumns, restPlaces}
 use Rattle.buckets.specs.Lengths.{tagWidth, tareWidth, codeWidth, weighingWidth, tagStart, tareStart, codeStart}
-use Rattle.buckets.specs.Lengths.{weighingStart, figuresWidth, restWidth, tagMost, tareMost, codeMost, weighingMost}
-use Rattle.buckets.proofs.Bounds.{within}
+use Rattle.buckets.specs.Lengths.{weighingStart, lineColumnsWidth, restWidth, tagMost, tareMost, codeMost, weighingMost}
+use Rattle.buckets.proofs.Bounds.{within, answer-within}
 use Rattle.buckets.proofs.Chained.{then-found}
-use Rattle.buckets.proofs.Within.{length-columns, columns-split, first-used}
+use Rattle.buckets.proofs.Within.{length-columns, columns-split, columns-first, first-used}
 
 -- three fields one behind the other
 fields-printed : (a b c : List ℕ) → length a ≡ tareWidth → length b ≡ codeWidth → length c ≡ weighingWidth
@@ -39,7 +39,7 @@ fields-printed a b c wide-tare wide-code wide-weighing =
     second : (x : ℕ) → columnsPrinted (places (codeWidth - 2) ++ places (weighingWidth - 2)) x (b ++ c) ≡ (found (readNumber b) && found (readNumber c))
     second x = field-printed (places (weighingWidth - 2)) c (found (readNumber c)) third (codeWidth - 2) x b wide-code
 
-module _ (s : List ℕ) (long : figuresWidth ≤ length s) where
+module _ (s : List ℕ) (long : lineColumnsWidth ≤ length s) where
   pub rest-printed : columnsPrinted restPlaces 32 (columns tareStart restWidth s)
       ≡ (found (readNumber (columns tareStart tareWidth s)) && (found (readNumber (columns codeStart codeWidth s)) && found (readNumber (columns weighingStart weighingWidth s))))
   rest-printed =
@@ -76,11 +76,11 @@ tare-within f wide blank h =
     let small : read .0 < 10 ^ (tareWidth - 1) = rw behind at (print-of-read (drop 1 f) (sym (past-one f (omega arith) blank) ∙ read .1) .1) in
     (read .0, within 0 tareMost f (read .0) (read .1) (omega arith) (omega arith))
 
-module _ (m : ℕ) (s : List ℕ) (long : figuresWidth ≤ length s) where
+module _ (m : ℕ) (s : List ℕ) (long : lineColumnsWidth ≤ length s) where
   -- a line that was read tells of its columns
-  figures-printed : {l : Line} → readFigures m s ≡ some l → columnsPrinted restPlaces 32 (columns tareStart restWidth s) ≡ true
-  unfolding readFigures
-  figures-printed h =
+  line-columns-printed : {l : Line} → readLineColumns m s ≡ some l → columnsPrinted restPlaces 32 (columns tareStart restWidth s) ≡ true
+  unfolding readLineColumns
+  line-columns-printed h =
       let first = then-found (numberWithin m tagMost (columns tagStart tagWidth s)) _ h in
       let second = then-found (numberWithin 0 tareMost (columns tareStart tareWidth s)) _ (first .2) in
       let third = then-found (numberWithin 0 codeMost (columns codeStart codeWidth s)) _ (second .2) in
@@ -88,25 +88,34 @@ module _ (m : ℕ) (s : List ℕ) (long : figuresWidth ≤ length s) where
       rest-printed s long
       ∙ rw (read-found 0 tareMost _ (second .1), read-found 0 codeMost _ (third .1), read-found 0 weighingMost _ (fourth .1))
 
-  pub rest-misprinted : columnsPrinted restPlaces 32 (columns tareStart restWidth s) ≡ false → readFigures m s ≡ none
-  rest-misprinted h = go (readFigures m s) refl
+  -- what the code answers where r tells whether the columns behind the tag are well printed
+  pub rest-misprinted : {r : Bool} → r ≡ columnsPrinted restPlaces 32 (columns tareStart restWidth s) → r ≡ false
+      → 18446744073709551615 ≡ tagOrMisprint (readLineColumns m s)
+  rest-misprinted test h = go (readLineColumns m s) refl
     where
-      go : (o : Option Line) → readFigures m s ≡ o → readFigures m s ≡ none
-      go none e = e
-      go (some l) e = absurd (true≢false (sym (figures-printed e) ∙ h))
+      go : (o : Option Line) → readLineColumns m s ≡ o → 18446744073709551615 ≡ tagOrMisprint (readLineColumns m s)
+      go none e = rw e
+      go (some l) e = absurd (true≢false (sym (line-columns-printed e) ∙ sym test ∙ h))
 
-  module _ (t : ℕ) (tag : numberWithin m tagMost (columns tagStart tagWidth s) ≡ some t) where
-    pub tare-too-long : (getD (columns tareStart tareWidth s) 0 0 ≡ 32 → ⊥) → readFigures m s ≡ none
-    unfolding readFigures
-    tare-too-long n = rw (tag, first-used 0 tareMost (tareWidth - 2) (columns tareStart tareWidth s) (length-columns tareStart tareWidth s (omega arith)) (omega arith) n)
+  -- the first column of the tare
+  tare-first : getD (columns tareStart tareWidth s) 0 0 ≡ getD s tareStart 0
+  tare-first = columns-first tareStart (tareWidth - 1) s (omega arith)
 
-    pub tag-answered : getD (columns tareStart tareWidth s) 0 0 ≡ 32 → columnsPrinted restPlaces 32 (columns tareStart restWidth s) ≡ true
-        → tagOrMisprint (readFigures m s) ≡ t
-    unfolding readFigures
-    tag-answered b h =
-        let told = both (found (readNumber (columns tareStart tareWidth s))) _ (sym (rest-printed s long) ∙ h) in
+  module _ (t : ℕ) (read : t ≡ orMisprint (readNumber (columns tagStart tagWidth s))) (low : m ≤ t) (high : t ≤ tagMost) where
+    tag : numberWithin m tagMost (columns tagStart tagWidth s) ≡ some t
+    tag = answer-within m tagMost (columns tagStart tagWidth s) t read (omega arith) low high
+
+    pub tare-too-long : (getD s tareStart 0 ≡ 32 → ⊥) → 18446744073709551615 ≡ tagOrMisprint (readLineColumns m s)
+    unfolding readLineColumns
+    tare-too-long n = rw (tag, first-used 0 tareMost (tareWidth - 2) (columns tareStart tareWidth s) (length-columns tareStart tareWidth s (omega arith)) (omega arith) (λ e. n (sym tare-first ∙ e)))
+
+    pub tag-answered : {r : Bool} → getD s tareStart 0 ≡ 32 → r ≡ columnsPrinted restPlaces 32 (columns tareStart restWidth s) → r ≡ true
+        → t ≡ tagOrMisprint (readLineColumns m s)
+    unfolding readLineColumns
+    tag-answered b test h =
+        let told = both (found (readNumber (columns tareStart tareWidth s))) _ (sym (rest-printed s long) ∙ sym test ∙ h) in
         let two = both (found (readNumber (columns codeStart codeWidth s))) (found (readNumber (columns weighingStart weighingWidth s))) (told .1) in
-        let tare = tare-within (columns tareStart tareWidth s) (length-columns tareStart tareWidth s (omega arith)) b (told .0) in
+        let tare = tare-within (columns tareStart tareWidth s) (length-columns tareStart tareWidth s (omega arith)) (tare-first ∙ b) (told .0) in
         let code = all-within codeMost codeWidth (columns codeStart codeWidth s) (length-columns codeStart codeWidth s (omega arith)) (omega arith) (two .0) in
         let weighing = all-within weighingMost weighingWidth (columns weighingStart weighingWidth s) (length-columns weighingStart weighingWidth s (omega arith)) (omega arith) (two .1) in
         rw (tag, tare .1, code .1, weighing .1)

@@ -8,20 +8,17 @@ use mathlib.Core.List.{List, [], _∷_, _++_, map, map-append, append-assoc, app
 use native.Mathlib.Omega.{arith}
 use native.Mathlib.Nat.{zero-mul, suc-mul}
 use native.Mathlib.Numerals.{add-one}
-use lib.ListN.{length, take, drop, set, replicate, length-append, length-take, length-drop, length-map}
+use lib.ListN.{length, take, drop, set, replicate, length-append, length-drop, length-map}
 use lib.Seq.{drop-drop, take-all, set-at}
 use borrow.Author.Tests.{not-true, not-false}
 use Rattle.columns.specs.PrintedNumbers.{allBlank}
-use Rattle.buckets.specs.Held.{filled}
-use Rattle.buckets.specs.Columns.{andThen, readRun, readItems}
+use Rattle.buckets.specs.Inner.Held.{filled}
+use Rattle.buckets.specs.Inner.Columns.{andThen, readRun, readItems}
 
 -- ---- parts of a slice, as the code lends them
 
 pub part-at : (k w : ℕ) (s : List ℕ) → take (k + w - k) (drop k s) ≡ take w (drop k s)
 part-at k w s = let e : k + w - k ≡ w = omega arith in rw e
-
-pub part-length : (k w : ℕ) (s : List ℕ) → k + w ≤ length s → length (take (k + w - k) (drop k s)) ≡ w
-part-length k w s h = simp (length-take, length-drop) (omega arith)
 
 -- a part to the end
 pub part-rest : (k : ℕ) (s : List ℕ) → take (length s - k) (drop k s) ≡ drop k s
@@ -84,20 +81,20 @@ module _ {A H : Type 0} (hold : Option (List A) → H) (read : ℕ → List ℕ 
 
   -- the columns behind the items were tested: r tells whether they are blank
   module _ {r : Bool} (test : r ≡ allBlank (take (length s - c * w) (drop (c * w) s))) where
-    pub not-blank-behind : not r ≡ true → hold none ≡ hold (readItems read next w c s)
+    pub not-blank-behind : not r ≡ true → {z : H} → z ≡ hold none → z ≡ hold (readItems read next w c s)
     unfolding readItems
-    not-blank-behind n = ap hold (sym (rw (← part-rest (c * w) s, sym test ∙ not-true r n)))
+    not-blank-behind n is = is ∙ ap hold (sym (rw (← part-rest (c * w) s, sym test ∙ not-true r n)))
 
     module _ (n : not r ≡ false) {h : H} {m i : ℕ} (so : ReadSoFar hold read next w c s h m i) where
       whole : readItems read next w c s ≡ behind (so .items) (readRun read next w m (c - i) (drop (i * w) s))
       unfolding readItems
       whole = rw (← part-rest (c * w) s, sym test ∙ not-false r n) (so .left)
 
-      pub item-misprinted : i < c → read m (take (i * w + w - i * w) (drop (i * w) s)) ≡ none
-          → hold none ≡ hold (readItems read next w c s)
-      item-misprinted l e =
+      pub item-misprinted : i < c → read m (take (i * w + w - i * w) (drop (i * w) s)) ≡ none → {z : H} → z ≡ hold none
+          → z ≡ hold (readItems read next w c s)
+      item-misprinted l e is =
           let rest : c - i ≡ suc (c - (i + 1)) = omega arith in
-          ap hold (sym (whole ∙ rw (rest, ← part-at (i * w) w s, e)))
+          is ∙ ap hold (sym (whole ∙ rw (rest, ← part-at (i * w) w s, e)))
 
       pub all-held : c ≤ i → h ≡ hold (readItems read next w c s)
       all-held l =

@@ -15,7 +15,7 @@ use Rattle.columns.specs.PrintedNumbers.{print, blanks, allBlank, readNumber}
 use Rattle.columns.proofs.Strict.{both}
 use Rattle.columns.proofs.Printed.{length-print, read-of-print, print-of-read, print-not-blank}
 use Rattle.buckets.specs.Bucket.{columns}
-use Rattle.buckets.specs.Columns.{numberWithin}
+use Rattle.buckets.specs.Inner.Columns.{numberWithin}
 use Rattle.buckets.proofs.Chained.{then-found, pick-found}
 
 pub within-back : (low high w x : ℕ) → low ≤ x → x ≤ high → x < 10 ^ w → numberWithin low high (print w x) ≡ some x

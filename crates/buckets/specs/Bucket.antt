@@ -9,8 +9,8 @@ use lib.ListN.{length, take, drop, getD}
 use Rattle.columns.specs.Lists.{pick, joined, every, parts, same, strict, padded}
 use Rattle.columns.specs.PrintedNumbers.{print, blanks, value}
 use Rattle.buckets.specs.declared.Line.{Line}
-use Rattle.buckets.specs.ListLine.{tagFits, fits, figures, spelledFigures}
-use Rattle.buckets.specs.Lengths.{newline, letterIndex, letterData, tagWidth, tagStart, figuresWidth, placeWidth}
+use Rattle.buckets.specs.ListLine.{tagFits, fits, lineColumns, spelledColumns}
+use Rattle.buckets.specs.Lengths.{newline, letterIndex, letterData, tagWidth, tagStart, lineColumnsWidth, placeWidth}
 use Rattle.buckets.specs.Lengths.{positionStart, toCycleStart, toSegmentStart, followOnStart, letterColumn, countWidth}
 use Rattle.buckets.specs.Lengths.{pairCountStart, itemCountStart, pairsMost, entriesMost, bucketLinesMost, distanceStart}
 use Rattle.buckets.specs.Lengths.{entryWidth, pairsStart, pairsWidth, entriesStart, entriesWidth, linesStart, linesWidth}
@@ -96,7 +96,7 @@ printEntry e = print tagWidth (e .tag) ++ print placeWidth (e .distance)
 -- column 29.", "unused columns blank"
 abbrev pub printBody : Body → List ℕ
 printBody (indexBody ps es) = padded pairsWidth (joined printPair ps) ++ padded entriesWidth (joined printEntry es)
-printBody (dataBody f ls) = padded linesWidth (joined figures ls)
+printBody (dataBody f ls) = padded linesWidth (joined lineColumns ls)
 
 -- "240 bytes, byte 239 a newline"
 unfoldable pub printBucket : Bucket → List ℕ
@@ -177,7 +177,7 @@ spelledEntry s = record { tag = field tagStart tagWidth s; distance = field dist
 
 -- a line of a data bucket
 abbrev pub spelledLine : List ℕ → Line
-spelledLine s = spelledFigures s
+spelledLine s = spelledColumns s
 
 -- what stands behind the head, by the letter
 unfoldable pub spelledBody : List ℕ → Body
@@ -187,7 +187,7 @@ spelledBody s =
     (map spelledPair (parts (field pairCountStart countWidth s) entryWidth (columns pairsStart pairsWidth s)))
     (map spelledEntry (parts (field itemCountStart countWidth s) entryWidth (columns entriesStart entriesWidth s))))
     (dataBody (field followOnStart placeWidth s)
-    (map spelledLine (parts (field itemCountStart countWidth s) figuresWidth (columns linesStart linesWidth s))))
+    (map spelledLine (parts (field itemCountStart countWidth s) lineColumnsWidth (columns linesStart linesWidth s))))
 
 unfoldable pub spelledBucket : List ℕ → Bucket
 spelledBucket s =

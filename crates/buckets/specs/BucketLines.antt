@@ -4,7 +4,7 @@ use Prim.Native.Nat.{ℕ, zero, suc, _+_, _*_}
 use mathlib.Core.Option.{Option, none, some}
 use mathlib.Core.List.{List, [], _∷_}
 use lib.ListN.{take, drop}
-use Rattle.buckets.specs.Lengths.{figuresWidth, linesStart}
+use Rattle.buckets.specs.Lengths.{lineColumnsWidth, linesStart}
 use Rattle.buckets.specs.Bucket.{Body, indexBody, dataBody, Bucket}
 use Rattle.buckets.specs.declared.Line.{Line}
 use Rattle.buckets.specs.declared.BucketLine.{BucketLine}
@@ -44,4 +44,4 @@ numbers Misprinted = 8 ∷ 0 ∷ 0 ∷ 0 ∷ 0 ∷ 0 ∷ 0 ∷ []
 
 -- the columns of line m of a bucket
 unfoldable pub lineBytes : List ℕ → ℕ → List ℕ
-lineBytes s m = take figuresWidth (drop (linesStart + figuresWidth * m) s)
+lineBytes s m = take lineColumnsWidth (drop (linesStart + lineColumnsWidth * m) s)

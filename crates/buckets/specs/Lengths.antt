@@ -44,16 +44,16 @@ abbrev pub weighingStart : ℕ
 weighingStart = codeStart + codeWidth
 
 -- a line without its newline
-abbrev pub figuresWidth : ℕ
-figuresWidth = weighingStart + weighingWidth
+abbrev pub lineColumnsWidth : ℕ
+lineColumnsWidth = weighingStart + weighingWidth
 
 -- the columns behind the tag
 abbrev pub restWidth : ℕ
-restWidth = figuresWidth - tareStart
+restWidth = lineColumnsWidth - tareStart
 
 -- "27 bytes"
 abbrev pub lineLength : ℕ
-lineLength = figuresWidth + 1
+lineLength = lineColumnsWidth + 1
 
 -- "tag 0 to 4,294,967,295", "tare in kg 0 to 99,999", "material code 0 to 9,999", "weighing number 0 to 999,999"
 abbrev pub tagMost : ℕ

@@ -3,6 +3,4 @@ pub mod Lengths
 pub mod ListLine
 pub mod Bucket
 pub mod BucketLines
-pub mod Held
-pub mod Columns
-pub mod Read
+pub mod Inner

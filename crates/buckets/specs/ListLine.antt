@@ -10,7 +10,7 @@ use Rattle.columns.specs.Lists.{pick, joined, parts, strict}
 use Rattle.columns.specs.PrintedNumbers.{print, value}
 use Rattle.buckets.specs.declared.Line.{Line}
 use Rattle.buckets.specs.Lengths.{newline, tagWidth, tareWidth, codeWidth, weighingWidth, tareStart, codeStart}
-use Rattle.buckets.specs.Lengths.{weighingStart, figuresWidth, lineLength, tagMost, tareMost, codeMost, weighingMost}
+use Rattle.buckets.specs.Lengths.{weighingStart, lineColumnsWidth, lineLength, tagMost, tareMost, codeMost, weighingMost}
 use Rattle.buckets.specs.Lengths.{linesMost}
 
 -- "tag 0 to 4,294,967,295"
@@ -22,26 +22,26 @@ unfoldable pub fits : Line → Bool
 fits l = tagFits (l .tag) && (leb (l .tare) tareMost && (leb (l .code) codeMost && leb (l .weighing) weighingMost))
 
 -- a line without its newline, 26 columns: "tag (10 columns), tare (6), material code (4), weighing number (6)"
-unfoldable pub figures : Line → List ℕ
-figures l =
+unfoldable pub lineColumns : Line → List ℕ
+lineColumns l =
     print tagWidth (l .tag) ++
     (print tareWidth (l .tare) ++ (print codeWidth (l .code) ++ print weighingWidth (l .weighing)))
 
 -- "27 bytes: .., newline (byte 10)"
 unfoldable pub printLine : Line → List ℕ
-printLine l = figures l ++ newline ∷ []
+printLine l = lineColumns l ++ newline ∷ []
 
 -- a line whose columns stand at the front of s, as a list line
 abbrev pub endedLine : List ℕ → List ℕ
-endedLine s = take figuresWidth s ++ newline ∷ []
+endedLine s = take lineColumnsWidth s ++ newline ∷ []
 
 -- lines whose columns stand side by side from the front of s on, c of them, as list lines
 unfoldable pub endedLines : ℕ → List ℕ → List ℕ
-endedLines c s = joined (λ p. p ++ newline ∷ []) (parts c figuresWidth s)
+endedLines c s = joined (λ p. p ++ newline ∷ []) (parts c lineColumnsWidth s)
 
 -- the numbers that a line's columns spell
-abbrev pub spelledFigures : List ℕ → Line
-spelledFigures s =
+abbrev pub spelledColumns : List ℕ → Line
+spelledColumns s =
     record {
       tag = value 0 (take tagWidth s);
       tare = value 0 (take tareWidth (drop tareStart s));
@@ -51,7 +51,7 @@ spelledFigures s =
 
 -- those of a list line
 unfoldable pub spelled : List ℕ → Line
-spelled s = spelledFigures s
+spelled s = spelledColumns s
 
 -- a list line read strictly
 unfoldable pub readLine : List ℕ → Option Line

@@ -36,7 +36,7 @@ fn line_at(bucket: &[u8], i: usize) -> Line
     requires { ⌜ (length (now bucket) ≡ bucketLength) × (i < bucketLinesMost) ⌝ }
     ensures { λ r. ⌜ r ≡ spelledLine (lineBytes (now (bucket .entry)) i) ⌝ }
 {
-    let at = Bucket::LINES + Line::FIGURES * i;
-    let to = at + Line::FIGURES;
+    let at = Bucket::LINES + Line::COLUMNS * i;
+    let to = at + Line::COLUMNS;
     spelled_line(&bucket[at..to])
 }

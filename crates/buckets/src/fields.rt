@@ -9,7 +9,7 @@ ghost use mathlib.Core.List.{List};
 ghost use lib.ListN.{length};
 ghost use Rattle.columns.specs.PrintedNumbers.{readNumber, asNumber, orMisprint};
 ghost use Rattle.buckets.specs.Lengths.{codeWidth, placeWidth, countWidth};
-ghost use Rattle.buckets.specs.Columns.{numberWithin};
+ghost use Rattle.buckets.specs.Inner.Columns.{numberWithin};
 
 // x, which is the number that was read or MISPRINT, if it is from low to high.
 fn within(x: u64, low: u64, high: u64) -> Number

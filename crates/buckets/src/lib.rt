@@ -14,7 +14,7 @@ pub struct Line {
     pub weighing: u64,
 }
 
-// The columns of a list line: how many its tag, tare, code and weighing number have, where each starts, where its figures end,
+// The columns of a list line: how many its tag, tare, code and weighing number have, where each starts, where its columns end,
 // and how many bytes it has; the largest number of each, and the most lines of a list.
 impl Line {
     pub const TAG_WIDTH: usize = 10;
@@ -33,12 +33,12 @@ impl Line {
 
     pub const WEIGHING: usize = Line::CODE + Line::CODE_WIDTH;
 
-    pub const FIGURES: usize = Line::WEIGHING + Line::WEIGHING_WIDTH;
+    pub const COLUMNS: usize = Line::WEIGHING + Line::WEIGHING_WIDTH;
 
     // those behind the tag
-    pub const REST: usize = Line::FIGURES - Line::TARE;
+    pub const REST: usize = Line::COLUMNS - Line::TARE;
 
-    pub const LENGTH: usize = Line::FIGURES + 1;
+    pub const LENGTH: usize = Line::COLUMNS + 1;
 
     pub const TAG_MOST: u64 = 4294967295;
 
@@ -127,7 +127,7 @@ pub struct Head {
 
 // An index bucket's control pairs and entries. Unused places hold 0. Where `blank` is true the first pair's tag is blank, and
 // 0 stands in its place.
-pub struct Index {
+pub struct IndexItems {
     pub pairs: usize,
     pub pair_tags: [u64; Bucket::PAIRS_MOST],
     pub pair_distances: [u64; Bucket::PAIRS_MOST],
@@ -149,7 +149,7 @@ pub enum Kind {
 pub struct Reading {
     pub head: Head,
     pub follow_on: u64,
-    pub index: Index,
+    pub index: IndexItems,
     pub lines: usize,
     pub tags: [u64; Bucket::LINES_MOST],
     pub kind: Kind,

@@ -15,12 +15,12 @@ ghost use Prim.Native.Nat.{_+_, _*_, _≤_};
 ghost use lib.ListN.{length, take, drop};
 ghost use Rattle.columns.specs.Lists.{put};
 ghost use Rattle.columns.specs.PrintedNumbers.{value};
-ghost use Rattle.columns.specs.Places.{columnsPrinted};
-ghost use Rattle.buckets.specs.Lengths.{tagWidth, figuresWidth, restWidth, lineLength};
-ghost use Rattle.buckets.specs.ListLine.{figures, printLine, endedLine, endedLines, readLine};
+ghost use Rattle.columns.specs.Inner.Places.{columnsPrinted};
+ghost use Rattle.buckets.specs.Lengths.{tagWidth, lineColumnsWidth, restWidth, lineLength};
+ghost use Rattle.buckets.specs.ListLine.{lineColumns, printLine, endedLine, endedLines, readLine};
 ghost use Rattle.buckets.specs.Bucket.{spelledLine};
-ghost use Rattle.buckets.specs.Held.{asLineRead, tagOrMisprint};
-ghost use Rattle.buckets.specs.Columns.{readFigures, restPlaces};
+ghost use Rattle.buckets.specs.Inner.Held.{asLineRead, tagOrMisprint};
+ghost use Rattle.buckets.specs.Inner.Columns.{readLineColumns, restPlaces};
 
 // The places of the columns of tare, material code and weighing number in their fields.
 const PLACES: [u8; Line::REST] = [
@@ -43,9 +43,9 @@ const PLACES: [u8; Line::REST] = [
 ];
 
 // The line in the first columns of part, as a bucket has it, its tag at least low.
-pub fn read_figures(part: &[u8], low: u64) -> LineRead
-    requires { ⌜ figuresWidth ≤ length (now part) ⌝ }
-    ensures { λ r. ⌜ r ≡ asLineRead (readFigures low (now (part .entry))) ⌝ }
+pub fn read_columns(part: &[u8], low: u64) -> LineRead
+    requires { ⌜ lineColumnsWidth ≤ length (now part) ⌝ }
+    ensures { λ r. ⌜ r ≡ asLineRead (readLineColumns low (now (part .entry))) ⌝ }
 {
     let tag = columns::read_ten(&part[Line::TAG..Line::TARE]);
     if tag < low {
@@ -66,7 +66,7 @@ pub fn read_figures(part: &[u8], low: u64) -> LineRead
         return LineRead::Misprinted;
     };
     let Number::Value(weighing) = fields::six_within(
-        &part[Line::WEIGHING..Line::FIGURES],
+        &part[Line::WEIGHING..Line::COLUMNS],
         0,
         Line::WEIGHING_MOST,
     ) else {
@@ -102,8 +102,8 @@ fn rest_printed(part: &[u8]) -> bool
 // The tag of the line in the first columns of part, as a bucket has it, at least low, or MISPRINT. The tare leaves its first
 // column blank.
 pub fn read_tag(part: &[u8], low: u64) -> u64
-    requires { ⌜ figuresWidth ≤ length (now part) ⌝ }
-    ensures { λ r. ⌜ r ≡ tagOrMisprint (readFigures low (now (part .entry))) ⌝ }
+    requires { ⌜ lineColumnsWidth ≤ length (now part) ⌝ }
+    ensures { λ r. ⌜ r ≡ tagOrMisprint (readLineColumns low (now (part .entry))) ⌝ }
 {
     let tag = columns::read_ten(&part[Line::TAG..Line::TARE]);
     if tag < low {
@@ -115,7 +115,7 @@ pub fn read_tag(part: &[u8], low: u64) -> u64
     if part[Line::TARE] != BLANK {
         return MISPRINT;
     }
-    if rest_printed(&part[Line::TARE..Line::FIGURES]) {
+    if rest_printed(&part[Line::TARE..Line::COLUMNS]) {
         return tag;
     }
     MISPRINT
@@ -128,10 +128,10 @@ pub fn read_line(part: &[u8]) -> LineRead
     if part.len() != Line::LENGTH {
         return LineRead::Misprinted;
     }
-    if part[Line::FIGURES] != NEWLINE {
+    if part[Line::COLUMNS] != NEWLINE {
         return LineRead::Misprinted;
     }
-    read_figures(part, 0)
+    read_columns(part, 0)
 }
 
 // The tag of the list line that part is, or MISPRINT.
@@ -141,51 +141,51 @@ pub fn line_tag(part: &[u8]) -> u64
     if part.len() != Line::LENGTH {
         return MISPRINT;
     }
-    if part[Line::FIGURES] != NEWLINE {
+    if part[Line::COLUMNS] != NEWLINE {
         return MISPRINT;
     }
     read_tag(part, 0)
 }
 
 // A line without its newline.
-pub fn write_figures(part: &mut [u8], l: Line)
-    requires { ⌜ length (now part) ≡ figuresWidth ⌝ }
-    ensures { λ _. ⌜ now (part .exit) ≡ figures l ⌝ }
+pub fn write_columns(part: &mut [u8], l: Line)
+    requires { ⌜ length (now part) ≡ lineColumnsWidth ⌝ }
+    ensures { λ _. ⌜ now (part .exit) ≡ lineColumns l ⌝ }
 {
     columns::print_blanks(part);
     columns::print_at(part, Line::TAG, Line::TARE, l.tag);
     columns::print_at(part, Line::TARE, Line::CODE, l.tare);
     columns::print_at(part, Line::CODE, Line::WEIGHING, l.code);
-    columns::print_at(part, Line::WEIGHING, Line::FIGURES, l.weighing);
+    columns::print_at(part, Line::WEIGHING, Line::COLUMNS, l.weighing);
 }
 
 pub fn write_line(part: &mut [u8], l: Line)
     requires { ⌜ length (now part) ≡ lineLength ⌝ }
     ensures { λ _. ⌜ now (part .exit) ≡ printLine l ⌝ }
 {
-    write_figures(&mut part[0..Line::FIGURES], l);
-    part[Line::FIGURES] = NEWLINE;
+    write_columns(&mut part[0..Line::COLUMNS], l);
+    part[Line::COLUMNS] = NEWLINE;
 }
 
 // A line's columns from a place of a text on, and a newline, to a place of out.
 fn copy_line(out: &mut [u8], to: usize, text: &[u8], from: usize)
-    requires { ⌜ (to + lineLength ≤ length (now out)) × (from + figuresWidth ≤ length (now text)) ⌝ }
+    requires { ⌜ (to + lineLength ≤ length (now out)) × (from + lineColumnsWidth ≤ length (now text)) ⌝ }
     ensures { λ _. ⌜ now (out .exit) ≡ put (now (out .entry)) to (endedLine (drop from (now (text .entry)))) ⌝ }
 {
-    let end = to + Line::FIGURES;
-    let behind = from + Line::FIGURES;
+    let end = to + Line::COLUMNS;
+    let behind = from + Line::COLUMNS;
     columns::copy_columns(&mut out[to..end], &text[from..behind]);
     out[end] = NEWLINE;
 }
 
 // Lines that stand side by side from a place of a text on, count of them, as list lines from a place of out on.
 pub fn copy_lines(out: &mut [u8], to: usize, text: &[u8], from: usize, count: usize)
-    requires { ⌜ (to + lineLength * count ≤ length (now out)) × (from + figuresWidth * count ≤ length (now text)) ⌝ }
+    requires { ⌜ (to + lineLength * count ≤ length (now out)) × (from + lineColumnsWidth * count ≤ length (now text)) ⌝ }
     ensures { λ _. ⌜ now (out .exit) ≡ put (now (out .entry)) to (endedLines count (drop from (now (text .entry)))) ⌝ }
 {
     let mut i = 0;
     while i < count {
-        copy_line(out, to + Line::LENGTH * i, text, from + Line::FIGURES * i);
+        copy_line(out, to + Line::LENGTH * i, text, from + Line::COLUMNS * i);
         i += 1;
     }
 }
@@ -224,7 +224,7 @@ pub fn spelled_tag(text: &[u8], at: usize) -> u64
 
 // The line that a line's columns spell.
 pub fn spelled_line(part: &[u8]) -> Line
-    requires { ⌜ length (now part) ≡ figuresWidth ⌝ }
+    requires { ⌜ length (now part) ≡ lineColumnsWidth ⌝ }
     ensures { λ r. ⌜ r ≡ spelledLine (now (part .entry)) ⌝ }
 {
     Line {

@@ -1,7 +1,7 @@
 // A bucket, read: field by field, each column once.
 use super::Bucket;
 use super::Head;
-use super::Index;
+use super::IndexItems;
 use super::Kind;
 use super::Line;
 use super::NEWLINE;
@@ -19,10 +19,10 @@ ghost use lib.ListN.{length};
 ghost use Rattle.buckets.specs.Lengths.{entryWidth, pairsWidth, entriesWidth, linesWidth, bucketLength};
 ghost use Rattle.buckets.specs.Lengths.{pairsMost, entriesMost, bucketLinesMost, bucketsMost};
 ghost use Rattle.buckets.specs.Bucket.{readBucket};
-ghost use Rattle.buckets.specs.Held.{heldIndex, asReading};
-ghost use Rattle.buckets.specs.Columns.{readEntry, readBlankPair, readPrintedPair, readPair, readPairs, readEntries};
-ghost use Rattle.buckets.specs.Columns.{readLines, readHead, readIndex, readData};
-ghost use Rattle.buckets.specs.Read.{asEntryRead, asPairRead, heldPairs, heldEntries, heldTags, asHeadRead, indexReading};
+ghost use Rattle.buckets.specs.Inner.Held.{heldIndex, asReading};
+ghost use Rattle.buckets.specs.Inner.Columns.{readEntry, readBlankPair, readPrintedPair, readPair, readPairs, readEntries};
+ghost use Rattle.buckets.specs.Inner.Columns.{readLines, readHead, readIndex, readData};
+ghost use Rattle.buckets.specs.Inner.Read.{asEntryRead, asPairRead, heldPairs, heldEntries, heldTags, asHeadRead, indexReading};
 
 // What a reading of an entry finds: its tag and distance.
 enum EntryRead {
@@ -38,7 +38,7 @@ struct PairRead {
     distance: u64,
 }
 
-// What a reading of all control pairs finds, held as in `Index`: false and 0 in each if one is misprinted.
+// What a reading of all control pairs finds, held as in `IndexItems`: false and 0 in each if one is misprinted.
 struct Pairs {
     tags: [u64; Bucket::PAIRS_MOST],
     distances: [u64; Bucket::PAIRS_MOST],
@@ -246,7 +246,7 @@ fn read_tags(part: &[u8], count: usize) -> Tags
     requires { ⌜ (length (now part) ≡ linesWidth) × (count ≤ bucketLinesMost) ⌝ }
     ensures { λ r. ⌜ r ≡ heldTags (readLines count (now (part .entry))) ⌝ }
 {
-    let used = count * Line::FIGURES;
+    let used = count * Line::COLUMNS;
     if !columns::all_blank(&part[used..]) {
         return no_tags();
     }
@@ -254,8 +254,8 @@ fn read_tags(part: &[u8], count: usize) -> Tags
     let mut last = 0;
     let mut i = 0;
     while i < count {
-        let at = i * Line::FIGURES;
-        last = lines::read_tag(&part[at..at + Line::FIGURES], last);
+        let at = i * Line::COLUMNS;
+        last = lines::read_tag(&part[at..at + Line::COLUMNS], last);
         if last == MISPRINT {
             return no_tags();
         }
@@ -302,10 +302,10 @@ fn read_head(part: &[u8]) -> HeadRead
 }
 
 // The index of a bucket without control pairs and entries.
-pub fn no_index() -> Index
+pub fn no_index() -> IndexItems
     ensures { λ r. ⌜ r ≡ heldIndex [] [] ⌝ }
 {
-    Index {
+    IndexItems {
         pairs: 0,
         blank: false,
         pair_tags: [0; Bucket::PAIRS_MOST],
@@ -350,7 +350,7 @@ fn index_reading(
     let pair_distances = pairs.distances;
     let entry_tags = entries.tags;
     let entry_distances = entries.distances;
-    let index = Index {
+    let index = IndexItems {
         pairs: pair_count,
         blank: pairs.blank,
         pair_tags: pair_tags,

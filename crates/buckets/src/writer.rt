@@ -1,7 +1,6 @@
 // A bucket, written: its bytes are blanked once, and its fields are written over blanks.
 use super::Bucket;
 use super::Head;
-use super::Index;
 use super::Line;
 use super::NEWLINE;
 use columns;
@@ -13,10 +12,10 @@ ghost use lib.ListN.{length, take, drop};
 ghost use Rattle.columns.specs.Lists.{joined, padded, put};
 ghost use Rattle.columns.specs.PrintedNumbers.{print, blanks};
 ghost use Rattle.buckets.specs.Lengths.{newline, tagWidth, placeWidth, lineLength, headWidth, entryWidth, linesWidth, bucketEnd, bucketLength};
-ghost use Rattle.buckets.specs.Lengths.{pairsMost, entriesMost, bucketLinesMost};
-ghost use Rattle.buckets.specs.ListLine.{figures, cutLines, listLines, misprintFrom};
+ghost use Rattle.buckets.specs.Lengths.{pairsMost, entriesMost, bucketLinesMost, pairsWidth};
+ghost use Rattle.buckets.specs.ListLine.{lineColumns, cutLines, listLines, misprintFrom};
 ghost use Rattle.buckets.specs.Bucket.{headColumns, printPair, printEntry, printBucket, dataBody};
-ghost use Rattle.buckets.specs.Held.{entriesOf, pairsOf, indexOf, bucketWith, indexFront, entryStart, EntryBlank};
+ghost use Rattle.buckets.specs.Inner.Held.{entriesOf, pairsOf, bucketWith, indexFront, entryStart, EntryBlank};
 
 // The columns before the pairs or the lines.
 fn write_head(part: &mut [u8], head: Head, follow_on: u64, letter: u8, pairs: u64, items: u64)
@@ -53,7 +52,7 @@ fn write_entries<'a>(part: &mut [u8], count: usize, tags: &'a [u64], distances: 
     }
 }
 
-// The first `count` control pairs, of which the first has a blank tag where `blank` says so.
+// The first `count` control pairs, printed as entries are; where `blank` says so, the first one's tag is blanked.
 fn write_pairs<'a>(
     part: &mut [u8],
     blank: bool,
@@ -61,26 +60,16 @@ fn write_pairs<'a>(
     tags: &'a [u64],
     distances: &'a [u64],
 )
-    requires { ⌜ (now part ≡ blanks (length (now part))) × ((entryWidth * count ≤ length (now part))
+    requires { ⌜ (now part ≡ blanks pairsWidth) × ((count ≤ pairsMost)
         × ((count ≤ length (now tags)) × (count ≤ length (now distances)))) ⌝ }
     ensures { λ _.
         ⌜ now (part .exit) ≡
-        padded (length (now (part .entry)))
+        padded pairsWidth
         (joined printPair (pairsOf blank (take count (entriesOf (now (tags .entry)) (now (distances .entry)))))) ⌝ }
 {
-    if count == 0 {
-        return;
-    }
+    write_entries(part, count, tags, distances);
     if blank {
-        columns::print_at(part, Bucket::DISTANCE, Bucket::ENTRY, distances[0]);
-        write_entries(
-            &mut part[Bucket::ENTRY..],
-            count - 1,
-            &tags[1..],
-            &distances[1..],
-        );
-    } else {
-        write_entries(part, count, tags, distances);
+        columns::print_blanks(&mut part[0..Bucket::DISTANCE]);
     }
 }
 
@@ -121,28 +110,6 @@ pub fn start_index<'a>(
     part[Bucket::END] = NEWLINE;
 }
 
-// An index bucket.
-pub fn write_index(part: &mut [u8], head: Head, index: Index)
-    requires { ⌜ (length (now part) ≡ bucketLength) × ((index .pairs ≤ pairsMost) × (index .entries ≤ entriesMost)) ⌝ }
-    ensures { λ _. ⌜ now (part .exit) ≡ printBucket (bucketWith head (indexOf index)) ⌝ }
-{
-    start_index(
-        part,
-        head,
-        index.blank,
-        index.pairs,
-        &index.pair_tags,
-        &index.pair_distances,
-        index.entries,
-    );
-    write_entries(
-        &mut part[Bucket::ENTRIES..Bucket::END],
-        index.entries,
-        &index.entry_tags,
-        &index.entry_distances,
-    );
-}
-
 // Entry i of an index bucket, over columns that are blank: its tag copied from a place in a text, and its distance.
 pub fn put_entry(part: &mut [u8], i: usize, text: &[u8], from: usize, distance: u64)
     requires { ⌜ (length (now part) ≡ bucketLength) × ((i < entriesMost) × ((from + tagWidth ≤ length (now text)) × EntryBlank (now part) i)) ⌝ }
@@ -158,17 +125,17 @@ pub fn put_entry(part: &mut [u8], i: usize, text: &[u8], from: usize, distance: 
 fn write_lines(part: &mut [u8], lines: &[u8])
     requires { ⌜ (now part ≡ blanks linesWidth) × ((length (now lines) % lineLength ≡ 0)
         × ((length (now lines) ≤ bucketLinesMost * lineLength) × (misprintFrom 0 (cutLines (now lines)) ≡ none))) ⌝ }
-    ensures { λ _. ⌜ now (part .exit) ≡ padded linesWidth (joined figures (listLines (now (lines .entry)))) ⌝ }
+    ensures { λ _. ⌜ now (part .exit) ≡ padded linesWidth (joined lineColumns (listLines (now (lines .entry)))) ⌝ }
 {
     let mut from = 0;
     let mut at = 0;
     while from < lines.len() {
         columns::copy_columns(
-            &mut part[at..at + Line::FIGURES],
-            &lines[from..from + Line::FIGURES],
+            &mut part[at..at + Line::COLUMNS],
+            &lines[from..from + Line::COLUMNS],
         );
         from += Line::LENGTH;
-        at += Line::FIGURES;
+        at += Line::COLUMNS;
     }
 }
 

@@ -6,7 +6,7 @@ use super::lent::fill;
 use super::lent::hash;
 use super::requests::Numbers;
 use cycle::Built;
-use cycle::Restored;
+use cycle::ReadBack;
 use listener::Looked;
 
 // B: building.
@@ -21,7 +21,7 @@ fn build(numbers: &Numbers, body: &[u8], lent: &mut [u8]) -> bool {
 
 // R: reading back.
 fn read_back(numbers: &Numbers, body: &[u8], lent: &mut [u8]) -> bool {
-    let restored = cycle::restore::read_back(
+    let restored = cycle::read_back::read_back(
         body,
         numbers[0],
         numbers[1],
@@ -31,8 +31,8 @@ fn read_back(numbers: &Numbers, body: &[u8], lent: &mut [u8]) -> bool {
     );
     let after = hash(lent);
     match restored {
-        Restored::Lines(count) => say(&[0, 0, count, after]),
-        Restored::Refused(number, place) => say(&[number, place, 0, after]),
+        ReadBack::Lines(count) => say(&[0, 0, count, after]),
+        ReadBack::Refused(number, place) => say(&[number, place, 0, after]),
     }
 }
 

@@ -3,12 +3,12 @@
 --     print-digit    one more column of a number that reaches it
 --     print-front    a number in more columns than it reaches: blanks first
 -- Assumes nothing.
-use Prim.Native.Nat.{ℕ, zero, suc, _+_, _-_, _*_, _/_, _%_, _^_, _≤_, _<_}
+use Prim.Native.Nat.{ℕ, zero, suc, _+_, _-_, _/_, _%_, _^_, _≤_, _<_}
 use mathlib.Core.Path.{_≡_, refl, sym, ap}
-use mathlib.Core.List.{List, [], _∷_, _++_}
+use mathlib.Core.List.{List, _∷_, _++_}
 use native.Mathlib.Nat.{zero-add, div-one, pow-le-pow-right, pow-suc, div-lt-iff-lt-mul, le-div-iff-mul-le, div-div-eq-div-mul}
 use native.Mathlib.Omega.{arith}
-use lib.ListN.{length, set, replicate}
+use lib.ListN.{length, set}
 use borrow.Author.Tests.{lt-ltb}
 use Rattle.columns.specs.PrintedNumbers.{column, print, blanks}
 use Rattle.columns.proofs.Printed.{ten-pos}

@@ -2,15 +2,15 @@
 -- Assumes nothing.
 use Prim.Native.Nat.{ℕ, zero, suc, _+_, _≤_, _<_}
 use mathlib.Core.Path.{_≡_, refl, sym, ap, _∙_}
-use mathlib.Core.Bool.{true}
+use mathlib.Core.Bool.{Bool, true, _&&_}
 use mathlib.Core.List.{List, [], _∷_}
 use native.Mathlib.Omega.{arith}
-use lib.Dec.{eqb}
+use lib.Dec.{eqb, leb}
 use lib.ListN.{length, getD, take, drop, length-drop}
-use lib.Seq.{take-all, getD-drop}
-use borrow.Author.Tests.{eqb-true, eq-eqb}
+use lib.Seq.{take-all, getD-drop, drop-drop}
+use borrow.Author.Tests.{eqb-true, leb-true}
 use Rattle.columns.specs.PrintedNumbers.{allBlank, readNumber, orMisprint}
-use Rattle.columns.specs.Starts.{Starts}
+use Rattle.columns.specs.Inner.Starts.{Starts}
 use Rattle.columns.proofs.Strict.{both}
 use Rattle.columns.proofs.OnePass.{read-blank}
 
@@ -26,21 +26,22 @@ pub past-one : (s : List ℕ) → 1 < length s → getD s 0 0 ≡ 32 → readNum
 past-one [] h a = absurd (omega arith)
 past-one (c ∷ s) h a = rw a (read-blank s (omega arith))
 
--- the columns of s from i on are the last w + 1
-module _ (i w : ℕ) (s : List ℕ) (e : length s ≡ i + suc w) where
-  last-columns : take (suc w) (drop i s) ≡ drop i s
-  last-columns = take-all (suc w) (drop i s) (simp length-drop (omega arith))
+-- the columns of s from i on are the last w
+module _ (i w : ℕ) (s : List ℕ) (e : length s ≡ i + w) where
+  last-columns : take w (drop i s) ≡ drop i s
+  last-columns = take-all w (drop i s) (simp length-drop (omega arith))
 
   -- those before them are passed over
-  read-on : readNumber s ≡ readNumber (drop i s) → orMisprint (readNumber (take (suc w) (drop i s))) ≡ orMisprint (readNumber s)
-  read-on h = ap orMisprint (ap readNumber last-columns ∙ sym h)
-
-  pub read-last : allBlank (take i s) ≡ true → orMisprint (readNumber (take (suc w) (drop i s))) ≡ orMisprint (readNumber s)
-  read-last b = read-on (past-blanks i s (omega arith) b)
+  read-on : {r : ℕ} → readNumber s ≡ readNumber (drop i s) → r ≡ orMisprint (readNumber (take w (drop i s)))
+      → r ≡ orMisprint (readNumber s)
+  read-on h is = is ∙ ap orMisprint (ap readNumber last-columns ∙ sym h)
 
   -- the first of them is used, or the only one
-  pub starts-last : w ≤ 9 → (getD s i 0 ≡ 32 → w ≡ 0) → Starts (take (suc w) (drop i s))
+  starts-last : leb 1 w && leb w 10 ≡ true → (getD s i 0 ≡ 32 → w ≡ 1) → Starts (take w (drop i s))
   starts-last few u =
+      let told = both (leb 1 w) (leb w 10) few in
+      let some : 1 ≤ w = leb-true 1 w (told .0) in
+      let most : w ≤ 10 = leb-true w 10 (told .1) in
       let same : i + 0 ≡ i = omega arith in
       rw last-columns
       (record {
@@ -49,16 +50,46 @@ module _ (i w : ℕ) (s : List ℕ) (e : length s ≡ i + suc w) where
         used = λ b. simp length-drop (let z = u (rw (getD-drop i s 0 0, same) at b) in omega arith);
       })
 
-pub all-read : (w : ℕ) (s : List ℕ) → length s ≡ suc w → orMisprint (readNumber (take (suc w) s)) ≡ orMisprint (readNumber s)
-all-read w s e = read-on 0 w s (omega arith) refl
+pub second-last : (s : List ℕ) → length s ≡ 2 → Starts (take 1 (drop 1 s))
+second-last s e = starts-last 1 1 s (omega arith) refl (λ b. refl)
 
-pub behind-one : (w : ℕ) (s : List ℕ) → length s ≡ 1 + suc w → getD s 0 0 ≡ 32
-    → orMisprint (readNumber (take (suc w) (drop 1 s))) ≡ orMisprint (readNumber s)
-behind-one w s e a = read-on 1 w s e (past-one s (omega arith) a)
+-- ---- what is read of columns whose first ones were looked at
 
-pub behind-two : (w : ℕ) (s : List ℕ) → length s ≡ 2 + suc w → getD s 0 0 ≡ 32 → getD s 1 0 ≡ 32
-    → orMisprint (readNumber (take (suc w) (drop 2 s))) ≡ orMisprint (readNumber s)
-unfolding allBlank
-behind-two w [] e a b = absurd (omega arith)
-behind-two w (c ∷ []) e a b = absurd (omega arith)
-behind-two w (c ∷ d ∷ s) e a b = read-last 2 w (c ∷ d ∷ s) e (rw (eq-eqb c 32 a, eq-eqb d 32 b))
+module _ (w : ℕ) (s : List ℕ) where
+  pub first-used : length s ≡ w → (getD s 0 0 ≡ 32 → ⊥) → leb 1 w && leb w 10 ≡ true → Starts (take w s)
+  first-used e u few = starts-last 0 w s (omega arith) few (λ b. absurd (u b))
+
+  pub second-used : length s ≡ suc w → (getD s 1 0 ≡ 32 → ⊥) → leb 1 w && leb w 10 ≡ true → Starts (take w (drop 1 s))
+  second-used e u few = starts-last 1 w s (omega arith) few (λ b. absurd (u b))
+
+  pub all-read : {r : ℕ} → length s ≡ w → r ≡ orMisprint (readNumber (take w s)) → r ≡ orMisprint (readNumber s)
+  all-read e is = read-on 0 w s (omega arith) refl is
+
+-- n columns are i and the last w, one of them at least
+abbrev split : ℕ → ℕ → ℕ → Bool
+split n i w = eqb n (i + w) && leb 1 w
+
+module _ (n w : ℕ) (s : List ℕ) {r : ℕ} (e : length s ≡ n) where
+  behind : (i : ℕ) → split n i w ≡ true → (i < length s → readNumber s ≡ readNumber (drop i s))
+      → r ≡ orMisprint (readNumber (take w (drop i s))) → r ≡ orMisprint (readNumber s)
+  behind i h past is =
+      let told = both (eqb n (i + w)) (leb 1 w) h in
+      let all : n ≡ i + w = eqb-true n (i + w) (told .0) in
+      let some : 1 ≤ w = leb-true 1 w (told .1) in
+      read-on i w s (omega arith) (past (omega arith)) is
+
+  pub behind-one : getD s 0 0 ≡ 32 → r ≡ orMisprint (readNumber (take w (drop 1 s))) → split n 1 w ≡ true
+      → r ≡ orMisprint (readNumber s)
+  behind-one a is h = behind 1 h (λ long. past-one s long a) is
+
+  pub behind-two : getD s 0 0 ≡ 32 → getD s 1 0 ≡ 32 → r ≡ orMisprint (readNumber (take w (drop 2 s))) → split n 2 w ≡ true
+      → r ≡ orMisprint (readNumber s)
+  behind-two a b is h =
+      behind 2 h
+      (λ long.
+      past-one s (omega arith) a ∙ past-one (drop 1 s) (simp length-drop (omega arith)) (rw getD-drop b) ∙ ap readNumber (drop-drop 1 1 s))
+      is
+
+  pub behind-four : {t : Bool} → t ≡ allBlank (take 4 s) → t ≡ true → r ≡ orMisprint (readNumber (take w (drop 4 s)))
+      → split n 4 w ≡ true → r ≡ orMisprint (readNumber s)
+  behind-four test told is h = behind 4 h (λ long. past-blanks 4 s long (sym test ∙ told)) is

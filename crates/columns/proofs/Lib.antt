@@ -11,3 +11,5 @@ pub mod FromTheRight
 pub mod Padded
 pub mod Table
 pub mod Places
+pub mod Rows
+pub mod Blank

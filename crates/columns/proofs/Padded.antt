@@ -2,18 +2,18 @@
 --     padded-blanks                  s, and blanks for the rest
 --     padded-nil, padded-full        nothing filled, all filled
 --     padded-on                      blanks behind s may be counted as filled
---     padded-blank, padded-rest      the columns behind s are blank
+--     padded-blank                   the columns behind s are blank
 --     put-padded, set-padded         a write right behind s
---     padded-behind                  what is filled behind a front
+--     padded-behind, padded-over     what is filled behind a front, and another front written there
 --     lent-blank, back-padded        the part right behind s, lent, and what it comes back as
 --     ready, printed                 a number printed right behind s
 -- Assumes nothing.
-use Prim.Native.Nat.{ℕ, zero, suc, _+_, _-_, _≤_, _<_}
-use mathlib.Core.Path.{_≡_, refl, sym, ap, _∙_, subst}
+use Prim.Native.Nat.{ℕ, _+_, _-_, _≤_, _<_}
+use mathlib.Core.Path.{_≡_, refl, sym, _∙_}
 use mathlib.Core.List.{List, [], _∷_, _++_, append-assoc, append-nil}
 use native.Mathlib.Omega.{arith}
-use lib.ListN.{length, take, drop, set, replicate, length-append, length-replicate, replicate-append-replicate}
-use lib.Seq.{take-at, drop-at, set-at}
+use lib.ListN.{length, take, drop, set, length-append, replicate-append-replicate}
+use lib.Seq.{take-at, drop-at}
 use Rattle.columns.specs.Lists.{put, padded}
 use Rattle.columns.specs.PrintedNumbers.{print, blanks}
 use Rattle.columns.proofs.FromTheRight.{length-blanks}
@@ -52,9 +52,6 @@ module _ (n k : ℕ) (s : List ℕ) (h : length s ≡ k) where
       rw (padded-blanks n s, drop-at s (blanks (n - length s)) k h, e, ← blanks-append w (n - (k + w)))
       (take-at (blanks w) (blanks (n - (k + w))) w (length-blanks w))
 
-  pub padded-rest : k ≤ n → drop k (padded n s) ≡ blanks (n - k)
-  padded-rest f = rw (padded-blanks n s, drop-at s (blanks (n - length s)) k h, h)
-
   -- a write right behind
   pub put-padded : (t : List ℕ) → k + length t ≤ n → put (padded n s) k t ≡ padded n (s ++ t)
   put-padded t f =
@@ -84,6 +81,14 @@ module _ (n k : ℕ) (s : List ℕ) (h : length s ≡ k) where
   padded-behind t f =
       let e : n - k - length t ≡ n - length (s ++ t) = simp length-append (omega arith) in
       rw (padded-blanks (n - k) t, padded-blanks n (s ++ t), e) (sym (append-assoc s t (blanks (n - length (s ++ t)))))
+
+-- a front written over another
+pub padded-over : (n k : ℕ) (a b s : List ℕ) → length a ≡ k → length b ≡ k → b ++ drop k (padded n (a ++ s)) ≡ padded n (b ++ s)
+padded-over n k a b s h g =
+    let e : n - length (a ++ s) ≡ n - length (b ++ s) = simp length-append (omega arith) in
+    rw (padded-blanks n (a ++ s), append-assoc a s (blanks (n - length (a ++ s))), drop-at a (s ++ blanks (n - length (a ++ s))) k h, e)
+    (sym (append-assoc b s (blanks (n - length (b ++ s)))))
+    ∙ sym (padded-blanks n (b ++ s))
 
 -- a list d that s fills to place a is lent from there, w columns
 module _ {d : List ℕ} (n a w : ℕ) (s : List ℕ) (e : d ≡ padded n s) (h : length s ≡ a) (f : a + w ≤ n) where

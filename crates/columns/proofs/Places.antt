@@ -11,7 +11,7 @@ use lib.ListN.{length, replicate}
 use borrow.Author.Tests.{eqb-true, eqb-false, ne-eqb, leb-true}
 use Rattle.columns.specs.Lists.{pick, every}
 use Rattle.columns.specs.PrintedNumbers.{digit, value, readNumber}
-use Rattle.columns.specs.Places.{leading, columnPrinted, columnsPrinted}
+use Rattle.columns.specs.Inner.Places.{leading, columnPrinted, columnsPrinted}
 use Rattle.columns.proofs.Strict.{both, and-false, and-true, and-assoc}
 use Rattle.columns.proofs.OnePass.{read-blank, read-zero, read-digits}
 

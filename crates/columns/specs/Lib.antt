@@ -1,5 +1,4 @@
 -- The definitions that the contracts of this crate and of the crates above it cite.
 pub mod Lists
 pub mod PrintedNumbers
-pub mod Places
-pub mod Starts
+pub mod Inner

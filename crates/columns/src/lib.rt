@@ -6,9 +6,9 @@ ghost use Prim.Native.Nat.{_-_, _^_, _≤_, _<_};
 ghost use lib.Dec.{eqb};
 ghost use lib.ListN.{length, take, drop};
 ghost use Rattle.columns.specs.Lists.{put, every};
-ghost use Rattle.columns.specs.Places.{columnPrinted};
+ghost use Rattle.columns.specs.Inner.Places.{columnPrinted};
 ghost use Rattle.columns.specs.PrintedNumbers.{print, blanks, allBlank, value, digit, readNumber, orMisprint};
-ghost use Rattle.columns.specs.Starts.{Starts};
+ghost use Rattle.columns.specs.Inner.Starts.{Starts};
 
 // What a strict reading of columns finds.
 pub enum Number {

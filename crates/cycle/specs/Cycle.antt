@@ -101,6 +101,10 @@ bucketsFrom t all position last (x ∷ rest) =
 unfoldable pub buckets : Plan → List Bucket
 buckets t = bucketsFrom t (slots t) 0 none (slots t)
 
+-- the first position of bucket j of level i in the cycle
+unfoldable pub firstPlace : Plan → ℕ → ℕ → ℕ
+firstPlace t i j = distanceTo (occurs i j) (slots t) - 1
+
 -- N
 unfoldable pub cycleSize : Plan → ℕ
 cycleSize t = length (slots t)

@@ -1,20 +1,47 @@
 -- Document 01, "Refused inputs": a list and settings judged by the conditions of building, and the figures of their cycle.
 -- Nothing is written.
 -- Assumes nothing.
-use Prim.Native.Nat.{ℕ, _*_, _^_}
+use Prim.Native.Nat.{ℕ, zero, suc, _+_, _-_, _*_, _^_, max}
 use mathlib.Core.Option.{Option, none, some}
 use mathlib.Core.List.{List, [], _∷_}
+use lib.Dec.{eqb}
 use lib.ListN.{length}
+use Rattle.columns.specs.Lists.{pick, up}
 use Rattle.buckets.specs.Lengths.{bucketLength}
 use Rattle.buckets.specs.ListLine.{listLines}
 use Rattle.cycle.specs.Refusals.{Refusal, Condition, firstRefusal}
 use Rattle.cycle.specs.Tree.{Settings, Plan, plan}
+use Rattle.cycle.specs.Layouts.{Slot, subtree}
 use Rattle.cycle.specs.Cycle.{cycleSize}
 use Rattle.cycle.specs.Building.{copiesOut, cycleTooLong, bufferTooShort, conditions}
-use Rattle.cycle.specs.Held.{fullSize, treeHeight, lastTree}
 use Rattle.cycle.specs.declared.Figures.{Figures}
 use Rattle.cycle.specs.declared.Judged.{Judged}
 use Rattle.cycle.specs.declared.Judged.the-variants.{Cycle, Refused}
+
+-- ---- the sizes of a segment's tree
+
+-- the index buckets of a full subtree of height h
+abbrev pub fullSize : ℕ → ℕ → ℕ
+fullSize n zero = 0
+fullSize n (suc h) = fullSize n h * n + 1
+
+-- the subtree of bucket j of height e
+unfoldable pub treeAt : Plan → ℕ → ℕ → List Slot
+treeAt t e j = subtree t e (t .k + 1 - e) j
+
+-- the height of a segment's tree
+abbrev pub treeHeight : Plan → ℕ
+treeHeight t = pick (eqb (t .layout) 1) (t .k - t .copies) (t .k)
+
+-- the place of the last tree, `span` data buckets under each full one
+unfoldable pub lastPlace : ℕ → ℕ → ℕ
+lastPlace d span = max 1 (up d span) - 1
+
+-- the index buckets of the last segment's tree
+unfoldable pub lastTree : Plan → ℕ
+lastTree t = length (treeAt t (treeHeight t) (lastPlace (t .d) (t .n ^ treeHeight t)))
+
+-- ---- the figures
 
 -- the figures of a plan's cycle
 unfoldable pub figuresOf : Plan → Figures

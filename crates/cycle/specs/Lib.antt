@@ -5,6 +5,5 @@ pub mod Cycle
 pub mod Refusals
 pub mod Building
 pub mod ReadingBack
-pub mod Held
 pub mod Judging
-pub mod Comparing
+pub mod Inner

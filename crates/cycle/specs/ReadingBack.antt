@@ -18,8 +18,8 @@ use Rattle.cycle.specs.Tree.{Settings}
 use Rattle.cycle.specs.Building.{build, settingsFit, settingsOut, bufferTooShort}
 use Rattle.cycle.specs.declared.Built.{Built}
 use Rattle.cycle.specs.declared.Built.the-variants.{Cycle, Refused as RefusedBuilding}
-use Rattle.cycle.specs.declared.Restored.{Restored}
-use Rattle.cycle.specs.declared.Restored.the-variants.{Lines, Refused}
+use Rattle.cycle.specs.declared.ReadBack.{ReadBack}
+use Rattle.cycle.specs.declared.ReadBack.the-variants.{Lines, Refused}
 
 -- ---- the list that an image holds
 
@@ -66,11 +66,11 @@ conditions s image room =
 
 -- what reading back answers, and the bytes that it writes at the front of the lent buffer
 pub record Outcome : Type 0 where
-  pub answer : Restored
+  pub answer : ReadBack
   pub output : List ℕ
 
 -- the numbers that an answer stands for: refusal number (0: none) and place, and the number of lines; a refusal has no count
-abbrev pub numbers : Restored → List ℕ
+abbrev pub numbers : ReadBack → List ℕ
 numbers (Lines c) = 0 ∷ 0 ∷ c ∷ []
 numbers (Refused number place) = number ∷ place ∷ []
 

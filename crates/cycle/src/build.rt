@@ -8,7 +8,7 @@ use super::Segment;
 use super::Source;
 use super::index::child_count;
 use super::index::head_at;
-use super::index::path_index;
+use super::index::print_path_bucket;
 use super::index::print_tree_bucket;
 use super::judge::judge;
 use super::places::data_place;
@@ -16,39 +16,22 @@ use super::segments::segment_count;
 use super::segments::segment_of;
 use super::sizes::lesser;
 use buckets::Bucket;
-use buckets::Head;
-use buckets::Index;
 use buckets::Line;
 use buckets::writer::write_data;
-use buckets::writer::write_index;
 ghost use mathlib.Core.Path.{_≡_};
 ghost use mathlib.Core.List.{[], _∷_};
 ghost use Prim.Native.Nat.{_+_, _-_, _*_, _≤_, _<_};
 ghost use lib.ListN.{length, take, drop};
-ghost use Rattle.columns.specs.Lists.{put, onto};
-ghost use Rattle.buckets.specs.Lengths.{tagWidth, pairsMost, entriesMost, bucketLength, bucketsMost};
-ghost use Rattle.buckets.specs.Bucket.{printBucket, followOn};
-ghost use Rattle.buckets.specs.Held.{bucketWith, indexOf};
+ghost use Rattle.columns.specs.Lists.{onto};
+ghost use Rattle.buckets.specs.Lengths.{tagWidth, bucketLength};
+ghost use Rattle.buckets.specs.Bucket.{followOn};
 ghost use Rattle.cycle.specs.Tree.{settings, children};
 ghost use Rattle.cycle.specs.Building;
 ghost use Rattle.cycle.specs.Layouts.{slot};
-ghost use Rattle.cycle.specs.Comparing.{Decides};
-ghost use Rattle.cycle.specs.Held.{planOf, Stand, treeAt, Sending, planIn, cycleBucket, written, Writing, TreePlace};
+ghost use Rattle.cycle.specs.Inner.Comparing.{Decides};
+ghost use Rattle.cycle.specs.Judging.{treeAt};
+ghost use Rattle.cycle.specs.Inner.Held.{planOf, StandsAt, AcceptedList, planIn, cycleBucket, written, Writing, TreePlace, DataPlace};
 ghost use Rattle.cycle.specs.declared.Source.the-variants as Source;
-
-// The index bucket of position x.
-fn write_index_at(image: &mut [u8], x: u64, head: Head, index: Index)
-    requires { ⌜ (bucketLength * x + bucketLength ≤ length (now image)) ×
-        (x ≤ bucketsMost) ×
-        (index .pairs ≤ pairsMost) ×
-        (index .entries ≤ entriesMost) ⌝ }
-    ensures { λ _.
-        ⌜ now (image .exit) ≡ put (now (image .entry)) (bucketLength * x) (printBucket (bucketWith head (indexOf index))) ⌝ }
-{
-    let at = (BUCKET * x) as usize;
-    let to = at + Bucket::LENGTH;
-    write_index(&mut image[at..to], head, index);
-}
 
 // Bucket j of height e of a segment's tree, at x. It hands back its number of entries.
 fn write_tree_bucket(
@@ -113,8 +96,9 @@ fn write_path(image: &mut [u8], list: &[u8], f: Figures, s: Segment)
     let mut x = s.start;
     let mut i = s.top;
     while i <= f.copies {
-        let index = path_index(list, f, Source::List, s, i, x);
-        write_index_at(image, x, head_at(f, s, x), index);
+        let at = (BUCKET * x) as usize;
+        let to = at + Bucket::LENGTH;
+        print_path_bucket(&mut image[at..to], list, f, Source::List, s, i, x);
         x += 1;
         i += 1;
     }
@@ -137,7 +121,7 @@ fn same_tags(list: &[u8], a: usize, b: usize) -> bool
 
 // The follow-on of data bucket q at x.
 fn list_follow_on(list: &[u8], f: Figures, q: u64, x: u64) -> u64
-    requires { ⌜ Sending f (now list) × (q < f .d) × Stand (planOf f []) x (slot (f .k + 1) q ∷ []) ⌝ }
+    requires { ⌜ AcceptedList f (now list) × (q < f .d) × StandsAt (planOf f []) x (slot (f .k + 1) q ∷ []) ⌝ }
     ensures { λ r. ⌜ r ≡ followOn (cycleBucket (planIn f Source.List (now (list .entry))) x .body) ⌝ }
 {
     let next = q + 1;
@@ -153,10 +137,7 @@ fn list_follow_on(list: &[u8], f: Figures, q: u64, x: u64) -> u64
 
 // Data bucket q at x.
 fn write_data_at(image: &mut [u8], list: &[u8], f: Figures, s: Segment, q: u64, x: u64)
-    requires { ⌜ Writing f (now list) s (length (now image)) ×
-        (s .first ≤ q) ×
-        (q < s .last) ×
-        (x ≡ s .«data_at» + (q - s .first)) ⌝ }
+    requires { ⌜ Writing f (now list) s (length (now image)) × DataPlace s q x ⌝ }
     ensures { λ _. ⌜ now (image .exit) ≡ written (planIn f Source.List (now (list .entry))) (now (image .entry)) x (x + 1) ⌝ }
 {
     let follow_on = list_follow_on(list, f, q, x);
@@ -200,7 +181,7 @@ fn write_segment(image: &mut [u8], list: &[u8], f: Figures, s: Segment)
 
 // The whole cycle, segment after segment.
 fn write_cycle(image: &mut [u8], list: &[u8], f: Figures)
-    requires { ⌜ Sending f (now list) × (bucketLength * f .size ≤ length (now image)) ⌝ }
+    requires { ⌜ AcceptedList f (now list) × (bucketLength * f .size ≤ length (now image)) ⌝ }
     ensures { λ _. ⌜ now (image .exit) ≡ written (planIn f Source.List (now (list .entry))) (now (image .entry)) 0 (f .size) ⌝ }
 {
     let count = segment_count(f);

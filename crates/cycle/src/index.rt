@@ -1,6 +1,5 @@
-// What stands in each bucket of a cycle: heads, control pairs, entries and follow-ons.
+// What stands in an index bucket of a cycle: its head, its control pairs and its entries, in a path and in a segment's tree.
 use super::Figures;
-use super::LINE;
 use super::Segment;
 use super::Source;
 use super::places::data_place;
@@ -13,7 +12,6 @@ use super::sizes::power;
 use super::sizes::up;
 use buckets::Bucket;
 use buckets::Head;
-use buckets::Index;
 use buckets::writer::put_entry;
 use buckets::writer::start_index;
 ghost use mathlib.Core.Path.{_≡_};
@@ -21,17 +19,19 @@ ghost use mathlib.Core.List.{List, [], _++_};
 ghost use Prim.Native.Nat.{suc, _+_, _-_, _*_, _%_, _≤_, _<_, max};
 ghost use lib.ListN.{length, drop};
 ghost use lib.Dec.{eqb};
-ghost use Rattle.columns.specs.Lists.{pick};
-ghost use Rattle.buckets.specs.Lengths.{pairsMost, entriesMost, bucketsMost, bucketLength};
-ghost use Rattle.buckets.specs.Bucket.{printBucket};
-ghost use Rattle.buckets.specs.Held.{filled, tagOr0, headOf};
+ghost use Rattle.columns.specs.Lists.{pick, joined, put};
+ghost use Rattle.buckets.specs.Lengths.{pairsMost, entriesStart, bucketsMost, bucketLength};
+ghost use Rattle.buckets.specs.Bucket.{printEntry, printBucket};
+ghost use Rattle.buckets.specs.Inner.Held.{filled, tagOr0, headOf, EntriesBlank};
 ghost use Rattle.cycle.specs.Tree.{width, children};
 ghost use Rattle.cycle.specs.Layouts.{slots};
 ghost use Rattle.cycle.specs.Cycle.{toNextSegment};
 ghost use Rattle.buckets.specs.declared.Line.{Line};
-ghost use Rattle.cycle.specs.Held.{planOf, Ready, InTree, Placed, TextFits, planIn, cycleBucket, asIndex, fullSize};
-ghost use Rattle.cycle.specs.Held.{firstPlace, aheadOf, lastOf, childTags, farDistances, treeDistance};
-ghost use Rattle.cycle.specs.Held.{pairReach, placeOver, pairTags, pairDistances, OnPath, TreePlace, Printing};
+ghost use Rattle.cycle.specs.Judging.{fullSize};
+ghost use Rattle.cycle.specs.Inner.Held.{planOf, Ready, InTree, HoldsSegment, TextFits, planIn, cycleBucket};
+ghost use Rattle.cycle.specs.Cycle.{firstPlace};
+ghost use Rattle.cycle.specs.Inner.Held.{aheadOf, lastOf, treeDistance, childDistance, childEntries};
+ghost use Rattle.cycle.specs.Inner.Held.{pairReach, pairTags, pairDistances, OnPath, TreePlace, PathPlace, IndexPlace, Printing};
 
 // A distance from position x to a place of the cycle: of this one if it is ahead, else of the coming one.
 fn ahead(f: Figures, x: u64, place: u64) -> u64
@@ -73,57 +73,11 @@ pub fn child_count(f: Figures, e: usize, j: u64) -> usize
     (behind - from) as usize
 }
 
-// The largest tags below the children of bucket j of height e.
-fn child_tags(
-    text: &[u8],
-    f: Figures,
-    source: Source,
-    e: usize,
-    j: u64,
-    count: usize,
-) -> [u64; Bucket::ENTRIES_MOST]
-    requires { ⌜ Ready f × TextFits f source (length (now text)) × (1 ≤ f .d) × (1 ≤ e) × InTree f e j
-        × (count ≡ length (children (planOf f []) (f .k + 1 - e) j)) ⌝ }
-    ensures { λ r. ⌜ r ≡ filled entriesMost (childTags (planIn f source (now (text .entry))) e j) ⌝ }
-{
-    let below = e - 1;
-    let from = j * f.n;
-    let mut tags = [0u64; Bucket::ENTRIES_MOST];
-    let mut i = 0;
-    while i < count {
-        tags[i] = largest_tag(text, f, source, below, from + i as u64);
-        i += 1;
-    }
-    tags
-}
-
-// The distances from bucket j of height e, a path bucket at x, to its children, on or under a path.
-fn far_distances(f: Figures, e: usize, j: u64, count: usize, x: u64) -> [u64; Bucket::ENTRIES_MOST]
-    requires { ⌜ Ready f ⌝ }
-    requires { ⌜ f .layout ≡ 1 ⌝ }
-    requires { ⌜ f .k + 1 - e ≤ f .copies ⌝ }
-    requires { ⌜ 1 ≤ e ⌝ }
-    requires { ⌜ InTree f e j ⌝ }
-    requires { ⌜ count ≡ length (children (planOf f []) (f .k + 1 - e) j) ⌝ }
-    requires { ⌜ x < f .size ⌝ }
-    ensures { λ r. ⌜ r ≡ filled entriesMost (farDistances (planOf f []) (f .size) x e j) ⌝ }
-{
-    let from = j * f.n;
-    let level = f.k + 2 - e as u64;
-    let mut distances = [0u64; Bucket::ENTRIES_MOST];
-    let mut i = 0;
-    while i < count {
-        distances[i] = ahead(f, x, first_place(f, level, from + i as u64));
-        i += 1;
-    }
-    distances
-}
-
 // The distance from bucket j of height e in a segment's tree, at x, to its child i. A full subtree of the children's height has
 // `full` index buckets, and those of the earlier children are full.
 fn tree_distance(f: Figures, s: Segment, e: usize, j: u64, x: u64, full: u64, i: u64) -> u64
     requires { ⌜ Ready f ⌝ }
-    requires { ⌜ ((ls : List Line) → Placed (planOf f ls) s) ⌝ }
+    requires { ⌜ ((ls : List Line) → HoldsSegment (planOf f ls) s) ⌝ }
     requires { ⌜ TreePlace f s e j x ⌝ }
     requires { ⌜ full ≡ fullSize (f .n) (e - 1) ⌝ }
     requires { ⌜ i < length (children (planOf f []) (f .k + 1 - e) j) ⌝ }
@@ -137,6 +91,21 @@ fn tree_distance(f: Figures, s: Segment, e: usize, j: u64, x: u64, full: u64, i:
         return s.data_at + (c - s.first) - x;
     }
     ahead(f, x, data_place(f, c))
+}
+
+// The distance from bucket j of height e of a segment, at x, to its child i: a child of a path bucket may stand anywhere.
+fn child_distance(f: Figures, s: Segment, e: usize, j: u64, x: u64, full: u64, i: u64) -> u64
+    requires { ⌜ Ready f ⌝ }
+    requires { ⌜ ((ls : List Line) → HoldsSegment (planOf f ls) s) ⌝ }
+    requires { ⌜ IndexPlace f s e j x ⌝ }
+    requires { ⌜ full ≡ fullSize (f .n) (e - 1) ⌝ }
+    requires { ⌜ i < length (children (planOf f []) (f .k + 1 - e) j) ⌝ }
+    ensures { λ r. ⌜ r ≡ childDistance (planOf f []) (f .size) x e j (j * f .n + i) ⌝ }
+{
+    if s.height < e {
+        return ahead(f, x, first_place(f, f.k + 2 - e as u64, j * f.n + i));
+    }
+    tree_distance(f, s, e, j, x, full, i)
 }
 
 // How many control pairs a bucket of height e in a segment's tree has: the root of layout 2 has one.
@@ -225,29 +194,6 @@ fn pair_distances(f: Figures, b: u64, i: u64, x: u64) -> [u64; Bucket::PAIRS_MOS
     distances
 }
 
-// The path bucket of level i of a segment.
-pub fn path_index(text: &[u8], f: Figures, source: Source, s: Segment, i: u64, x: u64) -> Index
-    requires { ⌜ Ready f × TextFits f source (length (now text)) × Placed (planIn f source (now text)) s × (f .layout ≡ 1)
-        × (s .top ≤ i) × (i ≤ f .copies) × (x ≡ s .start + (i - s .top)) ⌝ }
-    ensures { λ r. ⌜ r ≡ asIndex (cycleBucket (planIn f source (now (text .entry))) x .body) ⌝ }
-{
-    let b = s.number;
-    let h = (f.copies + 1 - i) as usize;
-    let e = (f.k + 1 - i) as usize;
-    let j = b / power(f.n, h);
-    let first = last_sent_tag(text, f, source, s.first);
-    let count = child_count(f, e, j);
-    Index {
-        pairs: i as usize,
-        blank: s.first == 0,
-        pair_tags: pair_tags(text, f, source, b, i, first),
-        pair_distances: pair_distances(f, b, i, x),
-        entries: count,
-        entry_tags: child_tags(text, f, source, e, j, count),
-        entry_distances: far_distances(f, e, j, count, x),
-    }
-}
-
 // The head of the bucket at x of a segment.
 pub fn head_at(f: Figures, s: Segment, x: u64) -> Head
     requires { ⌜ Ready f × (x < s .end) × (s .end ≤ f .size)
@@ -261,7 +207,41 @@ pub fn head_at(f: Figures, s: Segment, x: u64) -> Head
     }
 }
 
-// Bucket j of height e of a segment's tree, at x, with `count` entries, which are put one after the other.
+// The entries of bucket j of height e of a segment, at x, `count` of them, put one after the other over blank columns.
+fn put_entries(
+    part: &mut [u8],
+    text: &[u8],
+    f: Figures,
+    source: Source,
+    s: Segment,
+    e: usize,
+    j: u64,
+    x: u64,
+    count: usize,
+)
+    requires { ⌜ length (now part) ≡ bucketLength ⌝ }
+    requires { ⌜ EntriesBlank (now part) ⌝ }
+    requires { ⌜ Printing f source (now text) s ⌝ }
+    requires { ⌜ IndexPlace f s e j x ⌝ }
+    requires { ⌜ count ≡ length (children (planOf f []) (f .k + 1 - e) j) ⌝ }
+    ensures { λ _.
+        ⌜ now (part .exit) ≡
+        put (now (part .entry)) entriesStart (joined printEntry (childEntries f source (now (text .entry)) e j x count)) ⌝ }
+{
+    let below = e - 1;
+    let span = power(f.n, below);
+    let full = full_size(f.n, below);
+    let first = j * f.n;
+    let mut i = 0;
+    while i < count {
+        let from = tag_place(f, source, s, span, first + i as u64);
+        let distance = child_distance(f, s, e, j, x, full, i as u64);
+        put_entry(part, i, text, from, distance);
+        i += 1;
+    }
+}
+
+// Bucket j of height e of a segment's tree, at x, with `count` entries.
 pub fn print_tree_bucket(
     part: &mut [u8],
     text: &[u8],
@@ -291,15 +271,40 @@ pub fn print_tree_bucket(
         &distances,
         count,
     );
-    let below = e - 1;
-    let span = power(f.n, below);
-    let full = full_size(f.n, below);
-    let first = j * f.n;
-    let mut i = 0;
-    while i < count {
-        let from = tag_place(f, source, s, span, first + i as u64);
-        let distance = tree_distance(f, s, e, j, x, full, i as u64);
-        put_entry(part, i, text, from, distance);
-        i += 1;
-    }
+    put_entries(part, text, f, source, s, e, j, x, count);
+}
+
+// The path bucket of level i of a segment, at x.
+pub fn print_path_bucket(
+    part: &mut [u8],
+    text: &[u8],
+    f: Figures,
+    source: Source,
+    s: Segment,
+    i: u64,
+    x: u64,
+)
+    requires { ⌜ length (now part) ≡ bucketLength ⌝ }
+    requires { ⌜ Printing f source (now text) s ⌝ }
+    requires { ⌜ PathPlace f s i x ⌝ }
+    ensures { λ _. ⌜ now (part .exit) ≡ printBucket (cycleBucket (planIn f source (now (text .entry))) x) ⌝ }
+{
+    let b = s.number;
+    let h = (f.copies + 1 - i) as usize;
+    let e = (f.k + 1 - i) as usize;
+    let j = b / power(f.n, h);
+    let count = child_count(f, e, j);
+    let first = last_sent_tag(text, f, source, s.first);
+    let tags = pair_tags(text, f, source, b, i, first);
+    let distances = pair_distances(f, b, i, x);
+    start_index(
+        part,
+        head_at(f, s, x),
+        s.first == 0,
+        i as usize,
+        &tags,
+        &distances,
+        count,
+    );
+    put_entries(part, text, f, source, s, e, j, x, count);
 }

@@ -25,7 +25,7 @@ ghost use Rattle.cycle.specs.Cycle.{cycleSize};
 ghost use Rattle.cycle.specs.Refusals.{firstRefusal};
 ghost use Rattle.cycle.specs.Judging;
 ghost use Rattle.cycle.specs.Judging.{judged, sizeConditions, planConditions};
-ghost use Rattle.cycle.specs.Held.{planOf, Shaped, sized, placeOr};
+ghost use Rattle.cycle.specs.Inner.Held.{planOf, Shaped, sized, placeOr};
 
 // The first misprinted line, or the number of lines if there is none.
 fn first_misprint(list: &[u8], lines: u64) -> u64

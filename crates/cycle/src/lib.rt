@@ -1,9 +1,26 @@
 // Tree, layouts and cycle: document 01, "The tree"; judging, building and reading back.
+//
+// A list goes through these files in this order; each answers to the definition named, under specs/, and its laws are in the
+// folder named, under proofs/.
+//
+//   judge      a list and settings held against conditions 1 to 7: Judging, Building.conditions. Laws: Building.
+//              1 settings, 2 length, 3 misprints, 4 falling tags, 5 copies, 6 N, 7 room
+//   sizes      data buckets, levels, subtrees, paths and N by arithmetic: Tree.plan, Cycle.cycleSize. Laws: Trees, Sequences
+//   segments   the segments of a cycle and where each stands: Layouts.slots. Laws: Segmenting
+//   places     where a bucket and a line stand: Layouts.slots, Cycle.toNext. Laws: Reach
+//   index      what stands in an index bucket: Cycle.pairs, Cycle.entries, as bytes. Laws: Buckets, Reach
+//   build      the image, segment by segment: Building.build, Cycle.image. Laws: Building
+//
+// and an image goes back by
+//
+//   read_back  an image held against the cycle of its own lines, and their list: ReadingBack.readBack. Laws: ReadingBack
+//
+// Figures, Segment and Source are what these files hand on; specs/Inner says what each stands for.
 pub mod build;
 mod index;
 pub mod judge;
 mod places;
-pub mod restore;
+pub mod read_back;
 mod segments;
 mod sizes;
 
@@ -28,7 +45,7 @@ pub enum Built {
 }
 
 // What reading back answers: the list's number of lines, or a refusal's number and place.
-pub enum Restored {
+pub enum ReadBack {
     Lines(u64),
     Refused(u64, u64),
 }

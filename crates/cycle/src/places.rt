@@ -19,8 +19,9 @@ ghost use Prim.Native.Nat.{_+_, _-_, _*_, _≤_, _<_, min};
 ghost use lib.ListN.{length};
 ghost use Rattle.cycle.specs.Tree.{largestTag};
 ghost use Rattle.buckets.specs.declared.Line.{Line};
-ghost use Rattle.cycle.specs.Held.{planOf, Ready, InTree, Placed, firstPlace, lineAt, TextFits, tagAt, planIn};
-ghost use Rattle.cycle.specs.Held.{Spans, SpansIn, tagPlace};
+ghost use Rattle.cycle.specs.Cycle.{firstPlace};
+ghost use Rattle.cycle.specs.Inner.Held.{planOf, Ready, InTree, HoldsSegment, lineAt, TextFits, tagAt, planIn};
+ghost use Rattle.cycle.specs.Inner.Held.{Spans, SpansIn, tagPlace};
 ghost use Rattle.cycle.specs.declared.Source.the-variants as Source;
 
 // The first position in layout 1 of bucket j of a level up to r + 1.
@@ -72,7 +73,7 @@ pub fn line_place(f: Figures, source: Source, i: u64) -> usize
         Source::List => (LINE * i) as usize,
         Source::Image => {
             let at = data_place(f, i / f.p);
-            (BUCKET * at + (Bucket::LINES as u64 + Line::FIGURES as u64 * (i % f.p))) as usize
+            (BUCKET * at + (Bucket::LINES as u64 + Line::COLUMNS as u64 * (i % f.p))) as usize
         }
     }
 }
@@ -107,7 +108,7 @@ pub fn largest_tag(text: &[u8], f: Figures, source: Source, e: usize, j: u64) ->
 // Where the image has that line, if the data buckets under the bucket are those of a segment of layout 1.
 fn segment_place(f: Figures, s: Segment, span: u64, j: u64) -> usize
     requires { ⌜ Ready f ⌝ }
-    requires { ⌜ ((ls : List Line) → Placed (planOf f ls) s) ⌝ }
+    requires { ⌜ ((ls : List Line) → HoldsSegment (planOf f ls) s) ⌝ }
     requires { ⌜ f .layout ≡ 1 ⌝ }
     requires { ⌜ 1 ≤ f .d ⌝ }
     requires { ⌜ SpansIn f s span j ⌝ }
@@ -117,19 +118,22 @@ fn segment_place(f: Figures, s: Segment, span: u64, j: u64) -> usize
     let lines = lesser(f.p, f.lines - q * f.p);
     let x = s.data_at + (q - s.first);
     (Bucket::LENGTH as u64 * x
-        + (Bucket::LINES as u64 + Line::FIGURES as u64 * (lines - 1))) as usize
+        + (Bucket::LINES as u64 + Line::COLUMNS as u64 * (lines - 1))) as usize
 }
 
-// The same in either layout, the bucket in a segment's tree.
+// The same wherever they stand: in layout 1, a bucket below the root of the segment's tree has them in the segment.
 fn image_place(f: Figures, s: Segment, span: u64, j: u64) -> usize
     requires { ⌜ Ready f ⌝ }
-    requires { ⌜ ((ls : List Line) → Placed (planOf f ls) s) ⌝ }
+    requires { ⌜ ((ls : List Line) → HoldsSegment (planOf f ls) s) ⌝ }
     requires { ⌜ 1 ≤ f .d ⌝ }
-    requires { ⌜ SpansIn f s span j ⌝ }
+    requires { ⌜ Spans f span j ⌝ }
+    requires { ⌜ (span < f .span → SpansIn f s span j) ⌝ }
     ensures { λ r. ⌜ r ≡ tagPlace f Source.Image span j ⌝ }
 {
     if f.layout == 1 {
-        return segment_place(f, s, span, j);
+        if span < f.span {
+            return segment_place(f, s, span, j);
+        }
     }
     line_place(f, Source::Image, last_line(f, span, j))
 }
@@ -137,9 +141,10 @@ fn image_place(f: Figures, s: Segment, span: u64, j: u64) -> usize
 // Where a text has it.
 pub fn tag_place(f: Figures, source: Source, s: Segment, span: u64, j: u64) -> usize
     requires { ⌜ Ready f ⌝ }
-    requires { ⌜ ((ls : List Line) → Placed (planOf f ls) s) ⌝ }
+    requires { ⌜ ((ls : List Line) → HoldsSegment (planOf f ls) s) ⌝ }
     requires { ⌜ 1 ≤ f .d ⌝ }
-    requires { ⌜ SpansIn f s span j ⌝ }
+    requires { ⌜ Spans f span j ⌝ }
+    requires { ⌜ (span < f .span → SpansIn f s span j) ⌝ }
     ensures { λ r. ⌜ r ≡ tagPlace f source span j ⌝ }
 {
     match source {

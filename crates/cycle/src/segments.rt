@@ -11,7 +11,8 @@ ghost use lib.ListN.{length};
 ghost use Rattle.columns.specs.Lists.{joined, range};
 ghost use Rattle.buckets.specs.declared.Line.{Line};
 ghost use Rattle.cycle.specs.Layouts.{pathTop, distributedSegment};
-ghost use Rattle.cycle.specs.Held.{planOf, Ready, Placed, segmentCount, treeAt};
+ghost use Rattle.cycle.specs.Judging.{treeAt};
+ghost use Rattle.cycle.specs.Inner.Held.{planOf, Ready, HoldsSegment, segmentCount};
 
 // How many segments there are.
 pub fn segment_count(f: Figures) -> u64
@@ -69,7 +70,7 @@ pub fn segment_tree(f: Figures, b: u64) -> u64
 // Segment b of layout 1.
 fn distributed_segment(f: Figures, b: u64) -> Segment
     requires { ⌜ Ready f × (f .layout ≡ 1) × (b < segmentCount (planOf f [])) ⌝ }
-    ensures { λ r. ⌜ ((ls : List Line) → Placed (planOf f ls) r) × (r .number ≡ b) ⌝ }
+    ensures { λ r. ⌜ ((ls : List Line) → HoldsSegment (planOf f ls) r) × (r .number ≡ b) ⌝ }
 {
     let start = distributed_start(f, b);
     let e = (f.k - f.copies) as usize;
@@ -95,7 +96,7 @@ fn distributed_segment(f: Figures, b: u64) -> Segment
 // Part i of layout 2.
 fn whole_segment(f: Figures, i: u64) -> Segment
     requires { ⌜ Ready f × (f .layout ≡ 2) × (i < f .copies) ⌝ }
-    ensures { λ r. ⌜ ((ls : List Line) → Placed (planOf f ls) r) × (r .number ≡ i) ⌝ }
+    ensures { λ r. ⌜ ((ls : List Line) → HoldsSegment (planOf f ls) r) × (r .number ≡ i) ⌝ }
 {
     let tree = f.last;
     let first = i * f.d / f.copies;
@@ -119,7 +120,7 @@ fn whole_segment(f: Figures, i: u64) -> Segment
 // A segment by its number.
 pub fn segment_of(f: Figures, number: u64) -> Segment
     requires { ⌜ Ready f × (number < segmentCount (planOf f [])) ⌝ }
-    ensures { λ r. ⌜ ((ls : List Line) → Placed (planOf f ls) r) × (r .number ≡ number) ⌝ }
+    ensures { λ r. ⌜ ((ls : List Line) → HoldsSegment (planOf f ls) r) × (r .number ≡ number) ⌝ }
 {
     if f.layout == 1 {
         return distributed_segment(f, number);

@@ -8,12 +8,14 @@ ghost use Prim.Native.Nat.{_+_, _*_, _^_, _≤_, _<_, min};
 ghost use lib.ListN.{length};
 ghost use Rattle.columns.specs.Lists;
 ghost use Rattle.columns.specs.Lists.{joined, range};
-ghost use Rattle.buckets.specs.Lengths.{linesMost, entriesMost, bucketLinesMost};
+ghost use Rattle.buckets.specs.Lengths.{linesMost, entriesMost};
 ghost use Rattle.cycle.specs.Tree.{settings, levelsMost, levels};
 ghost use Rattle.cycle.specs.Layouts.{path};
 ghost use Rattle.cycle.specs.Cycle.{cycleSize};
 ghost use Rattle.cycle.specs.Building.{settingsFit, copiesFit};
-ghost use Rattle.cycle.specs.Held.{planOf, fullSize, spanMost, Shaped, InTree, treeAt, treeHeight, lastPlace, Trees, sized};
+ghost use Rattle.cycle.specs.Judging.{fullSize, treeAt, treeHeight, lastPlace};
+ghost use Rattle.cycle.specs.Inner.Held.{planOf, spanMost, Shaped, InTree, Trees, sized};
+ghost use Rattle.cycle.specs.Inner.Settings.{SettingsFit, Figured};
 
 // a divided by b, rounded up
 pub fn up(a: u64, b: u64) -> u64
@@ -99,9 +101,8 @@ pub fn settings_fit(n: u64, p: u64, layout: u64) -> bool
 
 // The figures of settings within their ranges and of a number of lines, N left 0.
 pub fn figures_of(n: u64, p: u64, layout: u64, copies: u64, lines: u64) -> Figures
-    requires { ⌜ (2 ≤ n) × (n ≤ entriesMost) × (1 ≤ p) × (p ≤ bucketLinesMost) × (1 ≤ layout) × (layout ≤ 2)
-        × (lines ≤ linesMost) ⌝ }
-    ensures { λ r. ⌜ Shaped r × (r .n ≡ n) × (r .p ≡ p) × (r .layout ≡ layout) × (r .copies ≡ copies) × (r .lines ≡ lines) ⌝ }
+    requires { ⌜ SettingsFit (settings n p layout copies) × (lines ≤ linesMost) ⌝ }
+    ensures { λ r. ⌜ Figured (settings n p layout copies) r × (r .lines ≡ lines) ⌝ }
 {
     let d = up(lines, p);
     Figures {

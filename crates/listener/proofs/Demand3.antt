@@ -18,27 +18,27 @@ use Rattle.cycle.specs.Tree.{Settings, Plan, plan}
 use Rattle.cycle.specs.Building.{build}
 use Rattle.cycle.specs.Cycle.{cycleSize, image}
 use Rattle.cycle.specs.ReadingBack.{wholeBuckets}
-use Rattle.cycle.specs.Held.{cycleBucket}
-use Rattle.cycle.proofs.DataTags.{Laid}
-use Rattle.cycle.proofs.BuiltImage.{CycleOf}
+use Rattle.cycle.specs.Inner.Held.{cycleBucket}
+use Rattle.cycle.proofs.Lines.DataTags.{AcceptedPlan}
+use Rattle.cycle.proofs.Building.BuiltImage.{CycleOf}
 use Rattle.listener.specs.Listener.{start}
 use Rattle.listener.specs.Hearing.{Taken, at, hearing, End, found, absent, endOf, heardIn, elapsedIn, linesGot, listenerAfter}
 use Rattle.listener.specs.Lookup
 use Rattle.listener.specs.Lookup.{Finish, run, wholeRun, lookup}
-use Rattle.listener.specs.OnRun.{concluded}
+use Rattle.listener.specs.Inner.OnRun.{concluded}
 use Rattle.listener.specs.Demand3.{heardLimit, linesWanted, endWanted, Looks, Demand3, EveryHearing}
 use Rattle.listener.specs.EndPlace.{endPlace}
 use Rattle.listener.specs.declared.Listener.{Listener}
 use Rattle.listener.specs.declared.Phase.{Phase}
 use Rattle.listener.specs.declared.Looked.the-variants
-use Rattle.listener.proofs.Walk.{Walk, misses-here, finds-here, hops}
-use Rattle.listener.proofs.Mechanics.{start-awaits}
-use Rattle.listener.proofs.WalkedSteps.{goneBy, finish, Walked}
-use Rattle.listener.proofs.Walked.{Reads, walked}
-use Rattle.listener.proofs.Arrival.{wanted, runs}
-use Rattle.listener.proofs.TuneIn.{FromTuneIn, tunes-in-at}
-use Rattle.listener.proofs.Lookups.{lookup-by-tests}
-use Rattle.listener.proofs.Images.{image-reads, image-whole, image-count, cycle-answered, of-built}
+use Rattle.listener.proofs.Walks.Walk.{Walk, misses-here, finds-here, hops}
+use Rattle.listener.proofs.Steps.Mechanics.{start-awaits}
+use Rattle.listener.proofs.Walks.WalkedSteps.{goneBy, finish, Walked}
+use Rattle.listener.proofs.Walks.Walked.{Reads, walked}
+use Rattle.listener.proofs.Walks.Arrival.{wanted, runs}
+use Rattle.listener.proofs.Walks.TuneIn.{FromTuneIn, tunes-in-at}
+use Rattle.listener.proofs.Lookups.LookupOutcomes.{lookup-by-tests}
+use Rattle.listener.proofs.Lookups.Images.{image-reads, image-whole, image-count, cycle-answered, of-built}
 
 -- each step of a walk moves on
 pub walk-length :
@@ -59,7 +59,7 @@ pub past-tests :
     concluded space f
 past-tests c tune space f w l = rw (w, lt-leb (c / 240) tune l)
 
-module _ (t : Plan) (a : Laid t) (c : CycleOf (image t) (cycleSize t) (cycleBucket t)) (tag tune : ℕ) (early : tune < cycleSize t) (m : ℕ) (strays : ℕ → List ℕ) where
+module _ (t : Plan) (a : AcceptedPlan t) (c : CycleOf (image t) (cycleSize t) (cycleBucket t)) (tag tune : ℕ) (early : tune < cycleSize t) (m : ℕ) (strays : ℕ → List ℕ) where
   -- the hearing
   unfoldable pub log : List Taken
   log = hearing (image t) (cycleSize t) strays tag tune m
@@ -127,7 +127,7 @@ wanted-is s list tag = refl
 
 -- of the cycle of a plan
 pub of-plan :
-    (s : Settings) (list : List ℕ) → Laid (plan s (listLines list)) →
+    (s : Settings) (list : List ℕ) → AcceptedPlan (plan s (listLines list)) →
     CycleOf (image (plan s (listLines list))) (cycleSize (plan s (listLines list))) (cycleBucket (plan s (listLines list))) → (tag tune : ℕ) → tune < cycleSize (plan s (listLines list)) → (m : ℕ)
     (strays : ℕ → List ℕ) →
     Demand3 s list (image (plan s (listLines list))) (cycleSize (plan s (listLines list))) tag tune m

@@ -10,18 +10,18 @@ use Rattle.buckets.specs.ListLine.{listLines}
 use Rattle.cycle.specs.Tree.{Plan, plan}
 use Rattle.cycle.specs.Building.{build}
 use Rattle.cycle.specs.Cycle.{cycleSize, image}
-use Rattle.cycle.specs.Held.{cycleBucket}
-use Rattle.cycle.proofs.DataTags.{Laid}
-use Rattle.cycle.proofs.BuiltImage.{CycleOf}
+use Rattle.cycle.specs.Inner.Held.{cycleBucket}
+use Rattle.cycle.proofs.Lines.DataTags.{AcceptedPlan}
+use Rattle.cycle.proofs.Building.BuiltImage.{CycleOf}
 use Rattle.listener.specs.Listener.{start}
 use Rattle.listener.specs.Hearing.{hearing, End, endOf, elapsedIn}
 use Rattle.listener.specs.EndPlace.{endPlace, EveryEnd}
-use Rattle.listener.proofs.Images.{cycle-answered, of-built}
+use Rattle.listener.proofs.Lookups.Images.{cycle-answered, of-built}
 use Rattle.listener.proofs.Demand3.{elapsed-gone, log, told}
 
 -- of the cycle of a plan
 pub end-of-plan :
-    (t : Plan) → Laid t → CycleOf (image t) (cycleSize t) (cycleBucket t) → (tag tune : ℕ) → tune < cycleSize t → (m : ℕ)
+    (t : Plan) → AcceptedPlan t → CycleOf (image t) (cycleSize t) (cycleBucket t) → (tag tune : ℕ) → tune < cycleSize t → (m : ℕ)
     (strays : ℕ → List ℕ) (e : End) → endOf (hearing (image t) (cycleSize t) strays tag tune m) ≡ some e →
     tune + elapsedIn (hearing (image t) (cycleSize t) strays tag tune m) ≡ endPlace t tag tune + 1
 unfolding log start

@@ -15,7 +15,7 @@ use Rattle.buckets.specs.ListLine.{listLines}
 use Rattle.cycle.specs.Tree.{Settings, Plan, plan, lastTag}
 use Rattle.cycle.specs.Layouts.{slot, slots}
 use Rattle.cycle.specs.Cycle.{toNext, toNextSegment, cycleSize}
-use Rattle.cycle.specs.Held.{firstPlace}
+use Rattle.cycle.specs.Cycle.{firstPlace}
 use Rattle.cycle.specs.Building
 use Rattle.cycle.specs.Building.{build}
 use Rattle.listener.specs.Hearing.{hearing, End, endOf, elapsedIn, runsWith}

@@ -22,17 +22,17 @@ pub record Taken : Type 0 where
   pub outcome : Stepped
 
 -- where the next step's bytes come from: a place of the cycle, or anywhere once an answer was no doze
-pub data Source : Type 0 where
-  at : ℕ → Source
-  anywhere : Source
+pub data Supply : Type 0 where
+  at : ℕ → Supply
+  anywhere : Supply
 
 -- "any bytes at all" are those that strays gives, of which nothing is known
-abbrev pub given : List ℕ → (ℕ → List ℕ) → ℕ → Source → List ℕ
+abbrev pub given : List ℕ → (ℕ → List ℕ) → ℕ → Supply → List ℕ
 given image strays m (at x) = bucketAt image x
 given image strays m anywhere = strays m
 
 -- "After doze by d its bucket is the one d places on, counted round by N"
-abbrev pub onward : ℕ → Source → Answer → Source
+abbrev pub onward : ℕ → Supply → Answer → Supply
 onward n (at x) (Doze d) = at ((x + d) % n)
 onward n (at x) Found = anywhere
 onward n (at x) Absent = anywhere
@@ -40,7 +40,7 @@ onward n (at x) (Refused number) = anywhere
 onward n anywhere a = anywhere
 
 -- m steps from a listener and a source on: "each later one the listener that the step before it returned"
-abbrev pub stepsFrom : List ℕ → ℕ → (ℕ → List ℕ) → Listener → Source → ℕ → List Taken
+abbrev pub stepsFrom : List ℕ → ℕ → (ℕ → List ℕ) → Listener → Supply → ℕ → List Taken
 stepsFrom image n strays s w zero = []
 stepsFrom image n strays s w (suc m) =
     let bytes : List ℕ = given image strays m w in

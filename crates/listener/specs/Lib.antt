@@ -5,7 +5,6 @@ pub mod Lookup
 pub mod Demand3
 pub mod EndPlace
 pub mod SampleYard
-pub mod OnReading
-pub mod OnRun
 pub mod State
 pub mod Started
+pub mod Inner

@@ -1,14 +1,14 @@
 // What a listener chooses from a bucket: distances of control pairs and entries, and lines.
-use buckets::Index;
+use buckets::IndexItems;
 ghost use mathlib.Core.Path.{_≡_};
 ghost use Prim.Native.Nat.{_≤_};
 ghost use lib.ListN.{drop, length};
 ghost use Rattle.buckets.specs.Lengths.{pairsMost, entriesMost, bucketLinesMost};
 ghost use Rattle.listener.specs.Listener.{before, matching};
-ghost use Rattle.listener.specs.OnReading.{SoundIndex, held, pairsHeld, chosen, below, reached, firstChosen, taggedLines};
+ghost use Rattle.listener.specs.Inner.OnReading.{SoundIndex, held, pairsHeld, chosen, below, reached, firstChosen, taggedLines};
 
 // The distance of the first control pair if its tag is printed and ours is at most it, else 0.
-pub fn first_pair(tag: u64, x: Index) -> u64
+pub fn first_pair(tag: u64, x: IndexItems) -> u64
     requires { ⌜ SoundIndex x ⌝ }
     ensures { λ r. ⌜ r ≡ firstChosen tag (x .blank) (pairsHeld x) ⌝ }
 {

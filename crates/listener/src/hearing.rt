@@ -10,7 +10,7 @@ ghost use Rattle.buckets.specs.Lengths.{bucketLength, bucketsMost};
 ghost use Rattle.cycle.specs.ReadingBack.{wholeBuckets};
 ghost use Rattle.listener.specs.Listener.{step};
 ghost use Rattle.cycle.specs.Cycle.{bucketAt};
-ghost use Rattle.listener.specs.OnRun.{refusalOf, heardNext, RanFrom};
+ghost use Rattle.listener.specs.Inner.OnRun.{refusalOf, heardNext, RanFrom};
 
 // A bucket that a run heard: its place in the image, and what its step handed back.
 pub struct Heard {

@@ -14,7 +14,7 @@ ghost use Rattle.columns.specs.Lists.{put, joined};
 ghost use Rattle.buckets.specs.Lengths.{bucketLength, bucketsMost, bucketLinesMost, lineLength};
 ghost use Rattle.buckets.specs.ListLine.{printLine};
 ghost use Rattle.listener.specs.Lookup.{numbers, lookup, gotBy};
-ghost use Rattle.listener.specs.OnRun.{WasHeard, runOn, Finds, linesIn};
+ghost use Rattle.listener.specs.Inner.OnRun.{WasHeard, runOn, FoundWithin, linesIn};
 
 // The lines that a step names in bucket x of the image, behind those already in out.
 fn copy_named(image: &[u8], x: u64, first: u64, count: u64, out: &mut [u8], lines: u64)
@@ -26,7 +26,7 @@ fn copy_named(image: &[u8], x: u64, first: u64, count: u64, out: &mut [u8], line
 {
     let at = Listener::BUCKET * x as usize;
     let to = at + Listener::BUCKET;
-    let from = Listener::LINES + Listener::FIGURES * first as usize;
+    let from = Listener::LINES + Listener::COLUMNS * first as usize;
     copy_lines(
         out,
         Listener::LINE * lines as usize,
@@ -40,7 +40,7 @@ fn copy_named(image: &[u8], x: u64, first: u64, count: u64, out: &mut [u8], line
 fn write_found(image: &[u8], count: u64, from: Heard, out: &mut [u8])
     requires { ⌜ (count ≤ bucketsMost) × (bucketLength * count ≤ length (now image)) ⌝ }
     requires { ⌜ WasHeard (now image) count from ⌝ }
-    requires { ⌜ Finds (runOn (now image) count from []) (length (now out)) ⌝ }
+    requires { ⌜ FoundWithin (runOn (now image) count from []) (length (now out)) ⌝ }
     ensures { λ _.
         ⌜ now (out .exit) ≡
         put (now (out .entry)) 0 (joined printLine (gotBy (runOn (now (image .entry)) count from []))) ⌝ }

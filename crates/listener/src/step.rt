@@ -6,7 +6,7 @@ use super::Stepped;
 use super::choose;
 use buckets::Bucket;
 use buckets::Head;
-use buckets::Index;
+use buckets::IndexItems;
 use buckets::Kind;
 use buckets::Line;
 use buckets::Reading;
@@ -18,11 +18,11 @@ ghost use Prim.Native.Nat.{ℕ, _+_, _≤_};
 ghost use lib.Dec.{eqb};
 ghost use Rattle.buckets.specs.Lengths.{bucketsMost, bucketLinesMost};
 ghost use Rattle.buckets.specs.Bucket.{Body, dataBody, readBucket};
-ghost use Rattle.buckets.specs.Held.{bucketWith, indexOf, asReading};
+ghost use Rattle.buckets.specs.Inner.Held.{bucketWith, indexOf, asReading};
 ghost use Rattle.listener.specs.Listener.{start, isEnded, isIndex, countsFit, ended, stepped, refused, refusedEnded};
 ghost use Rattle.listener.specs.Listener.{heardWith, elapsedWith, awaited, dozes, decided, bodyChoice, dataChoice};
 ghost use Rattle.listener.specs.Listener.{heed, heedRead, step, stepNumbers};
-ghost use Rattle.listener.specs.OnReading.{isTuneIn, Counts, SoundHead, SoundIndex, WasRead, taggedLines};
+ghost use Rattle.listener.specs.Inner.OnReading.{isTuneIn, Counts, SoundHead, SoundIndex, WasRead, taggedLines};
 
 // Whether the tune-in bucket is awaited.
 fn is_tune_in(phase: Phase) -> bool
@@ -56,7 +56,7 @@ impl Listener {
 
     pub const LINES: usize = Bucket::LINES;
 
-    pub const FIGURES: usize = Line::FIGURES;
+    pub const COLUMNS: usize = Line::COLUMNS;
 
     pub const LINE: usize = Line::LENGTH;
 
@@ -210,7 +210,7 @@ impl Listener {
     }
 
     // An index bucket: the first pair, else a later pair, else an entry, else absent.
-    fn index_step(self, h: Head, x: Index) -> Stepped
+    fn index_step(self, h: Head, x: IndexItems) -> Stepped
         requires { ⌜ Counts self ⌝ }
         requires { ⌜ SoundHead h ⌝ }
         requires { ⌜ SoundIndex x ⌝ }
@@ -261,7 +261,7 @@ impl Listener {
     }
 
     // An index bucket that was read: 9, the tune-in, or its choice.
-    fn take_index(self, h: Head, x: Index) -> Stepped
+    fn take_index(self, h: Head, x: IndexItems) -> Stepped
         requires { ⌜ Counts self ⌝ }
         requires { ⌜ SoundHead h ⌝ }
         requires { ⌜ SoundIndex x ⌝ }

@@ -7,7 +7,7 @@ use lib.Dec.{eqb}
 use lib.ListN.{getD}
 use Rattle.columns.specs.Lists.{pick}
 use Rattle.cycle.specs.declared.Built.{Built}
-use Rattle.cycle.specs.declared.Restored.{Restored}
+use Rattle.cycle.specs.declared.ReadBack.{ReadBack}
 use Rattle.cycle.specs.Building as building
 use Rattle.cycle.specs.ReadingBack as readingBack
 use Rattle.listener.specs.declared.Looked.{Looked}
@@ -15,27 +15,27 @@ use Rattle.listener.specs.declared.Stepped.{Stepped}
 use Rattle.listener.specs.Lookup as lookups
 use Rattle.listener.specs.Listener as listening
 use Rattle.listener.specs.State.{saved, restored}
-use Rattle.listener.specs.declared.Answer.{Answer as Answer′}
-use Rattle.listener.specs.declared.Answer.the-variants.{Doze, Found as Found′, Absent, Refused}
-use Rattle.pansdaoh.specs.declared.Answer.{Answer}
-use Rattle.pansdaoh.specs.declared.Found.{Found}
-use Rattle.pansdaoh.specs.declared.Step.{Step}
+use Rattle.listener.specs.declared.Answer.{Answer}
+use Rattle.listener.specs.declared.Answer.the-variants.{Doze, Found, Absent, Refused}
+use Rattle.pansdaoh.specs.declared.CountAnswer.{CountAnswer}
+use Rattle.pansdaoh.specs.declared.LookupAnswer.{LookupAnswer}
+use Rattle.pansdaoh.specs.declared.StepAnswer.{StepAnswer}
 use Rattle.pansdaoh.specs.declared.LineAnswer.{LineAnswer}
 
 -- number, place and count, 0 where there is none: "every count in that result 0"
-unfoldable pub answerOf : List ℕ → Answer
+unfoldable pub answerOf : List ℕ → CountAnswer
 answerOf a = record { number = getD a 0 0; place = getD a 1 0; count = getD a 2 0 }
 
 -- building's answer
-unfoldable pub builtAnswer : Built → Answer
+unfoldable pub builtAnswer : Built → CountAnswer
 builtAnswer b = answerOf (building.numbers b)
 
 -- reading back's answer
-unfoldable pub restoredAnswer : Restored → Answer
-restoredAnswer b = answerOf (readingBack.numbers b)
+unfoldable pub readBackAnswer : ReadBack → CountAnswer
+readBackAnswer b = answerOf (readingBack.numbers b)
 
 -- a lookup's answer
-unfoldable pub lookedAnswer : Looked → Found
+unfoldable pub lookedAnswer : Looked → LookupAnswer
 lookedAnswer l =
     let a : List ℕ = lookups.numbers l in
     record {
@@ -48,7 +48,7 @@ lookedAnswer l =
     }
 
 -- a step's answer, and which lines match
-unfoldable pub stepAnswer : Stepped → Step
+unfoldable pub stepAnswer : Stepped → StepAnswer
 stepAnswer r =
     let a : List ℕ = listening.numbers (r .answer) in
     record { answer = getD a 0 0; value = getD a 1 0; first = r .first; count = r .count }
@@ -58,9 +58,9 @@ unfoldable pub stepFrom : List ℕ → List ℕ → Stepped
 stepFrom state bucket = listening.step (restored state) bucket
 
 -- "14 hands it back unchanged"
-abbrev pub wasEnded : Answer′ → Bool
+abbrev pub wasEnded : Answer → Bool
 wasEnded (Doze d) = false
-wasEnded Found′ = false
+wasEnded Found = false
 wasEnded Absent = false
 wasEnded (Refused number) = eqb number 14
 

@@ -3,9 +3,9 @@
 use buckets::BucketLine;
 use buckets::bucket_line;
 use cycle::Built;
-use cycle::Restored;
+use cycle::ReadBack;
 use cycle::build;
-use cycle::restore;
+use cycle::read_back;
 use listener::Listener;
 use listener::Looked;
 use listener::Stepped;
@@ -24,11 +24,11 @@ ghost use Rattle.cycle.specs.ReadingBack.{readBack};
 ghost use Rattle.listener.specs.Listener.{start};
 ghost use Rattle.listener.specs.Lookup;
 ghost use Rattle.listener.specs.State.{saved, restored};
-ghost use Rattle.pansdaoh.specs.Calls.{builtAnswer, restoredAnswer, lookedAnswer, stepAnswer, stepFrom, wasEnded, stateAfter, lineAnswer};
+ghost use Rattle.pansdaoh.specs.Calls.{builtAnswer, readBackAnswer, lookedAnswer, stepAnswer, stepFrom, wasEnded, stateAfter, lineAnswer};
 
 // A refusal's number (0: not refused) and place, and the number of buckets built or of lines read back.
 #[repr(C)]
-pub struct Answer {
+pub struct CountAnswer {
     pub number: u64,
     pub place: u64,
     pub count: u64,
@@ -37,7 +37,7 @@ pub struct Answer {
 // A refusal's number (0: not refused) and place; how the lookup ended (1 found, 2 absent, 0 refused), its heard and elapsed,
 // and the number of lines written.
 #[repr(C)]
-pub struct Found {
+pub struct LookupAnswer {
     pub number: u64,
     pub place: u64,
     pub end: u64,
@@ -49,7 +49,7 @@ pub struct Found {
 // The answer (1 doze, 2 found, 3 absent, 4 refused), the distance to doze or the refusal's number (else 0), and which lines of
 // the bucket match: the first, from 0, and how many.
 #[repr(C)]
-pub struct Step {
+pub struct StepAnswer {
     pub answer: u64,
     pub value: u64,
     pub first: u64,
@@ -69,16 +69,16 @@ pub struct LineAnswer {
 }
 
 // Building's answer as numbers.
-fn built_answer(built: Built) -> Answer
+fn built_answer(built: Built) -> CountAnswer
     ensures { λ r. ⌜ r ≡ builtAnswer built ⌝ }
 {
     match built {
-        Built::Cycle(n) => Answer {
+        Built::Cycle(n) => CountAnswer {
             number: 0,
             place: 0,
             count: n,
         },
-        Built::Refused(number, place) => Answer {
+        Built::Refused(number, place) => CountAnswer {
             number: number,
             place: place,
             count: 0,
@@ -87,16 +87,16 @@ fn built_answer(built: Built) -> Answer
 }
 
 // Reading back's answer as numbers.
-fn restored_answer(restored: Restored) -> Answer
-    ensures { λ r. ⌜ r ≡ restoredAnswer restored ⌝ }
+fn read_back_answer(restored: ReadBack) -> CountAnswer
+    ensures { λ r. ⌜ r ≡ readBackAnswer restored ⌝ }
 {
     match restored {
-        Restored::Lines(lines) => Answer {
+        ReadBack::Lines(lines) => CountAnswer {
             number: 0,
             place: 0,
             count: lines,
         },
-        Restored::Refused(number, place) => Answer {
+        ReadBack::Refused(number, place) => CountAnswer {
             number: number,
             place: place,
             count: 0,
@@ -105,7 +105,7 @@ fn restored_answer(restored: Restored) -> Answer
 }
 
 // A lookup's answer as numbers.
-fn looked_answer(looked: Looked) -> Found
+fn looked_answer(looked: Looked) -> LookupAnswer
     ensures { λ r. ⌜ r ≡ lookedAnswer looked ⌝ }
 {
     match looked {
@@ -113,7 +113,7 @@ fn looked_answer(looked: Looked) -> Found
             heard,
             elapsed,
             lines,
-        } => Found {
+        } => LookupAnswer {
             number: 0,
             place: 0,
             end: 1,
@@ -121,7 +121,7 @@ fn looked_answer(looked: Looked) -> Found
             elapsed: elapsed,
             lines: lines,
         },
-        Looked::Absent { heard, elapsed } => Found {
+        Looked::Absent { heard, elapsed } => LookupAnswer {
             number: 0,
             place: 0,
             end: 2,
@@ -129,7 +129,7 @@ fn looked_answer(looked: Looked) -> Found
             elapsed: elapsed,
             lines: 0,
         },
-        Looked::Refused(number, place) => Found {
+        Looked::Refused(number, place) => LookupAnswer {
             number: number,
             place: place,
             end: 0,
@@ -141,30 +141,30 @@ fn looked_answer(looked: Looked) -> Found
 }
 
 // A step's answer as numbers.
-fn step_answer(r: Stepped) -> Step
+fn step_answer(r: Stepped) -> StepAnswer
     ensures { λ s. ⌜ s ≡ stepAnswer r ⌝ }
 {
     let answer = r.answer;
     match answer {
-        listener::Answer::Doze(d) => Step {
+        listener::Answer::Doze(d) => StepAnswer {
             answer: 1,
             value: d,
             first: r.first,
             count: r.count,
         },
-        listener::Answer::Found => Step {
+        listener::Answer::Found => StepAnswer {
             answer: 2,
             value: 0,
             first: r.first,
             count: r.count,
         },
-        listener::Answer::Absent => Step {
+        listener::Answer::Absent => StepAnswer {
             answer: 3,
             value: 0,
             first: r.first,
             count: r.count,
         },
-        listener::Answer::Refused(number) => Step {
+        listener::Answer::Refused(number) => StepAnswer {
             answer: 4,
             value: number,
             first: r.first,
@@ -228,7 +228,7 @@ pub extern "C" fn pansdaoh_build(
     layout: u64,
     copies: u64,
     out: &mut [u8],
-) -> Answer
+) -> CountAnswer
     ensures { λ r.
         ⌜ (r ≡
         builtAnswer (Building.build (settings n p layout copies) (now (list .entry)) (length (now (out .entry))) .answer)) ×
@@ -249,20 +249,20 @@ pub extern "C" fn pansdaoh_read_back(
     layout: u64,
     copies: u64,
     out: &mut [u8],
-) -> Answer
+) -> CountAnswer
     ensures { λ r.
-        ⌜ (r ≡ restoredAnswer (readBack (settings n p layout copies) (now (image .entry)) (length (now (out .entry))) .answer)) ×
+        ⌜ (r ≡ readBackAnswer (readBack (settings n p layout copies) (now (image .entry)) (length (now (out .entry))) .answer)) ×
         (now (out .exit) ≡
         onto (readBack (settings n p layout copies) (now (image .entry)) (length (now (out .entry))) .output)
         (now (out .entry))) ⌝ }
 {
-    let restored = restore::read_back(image, n, p, layout, copies, out);
-    restored_answer(restored)
+    let restored = read_back::read_back(image, n, p, layout, copies, out);
+    read_back_answer(restored)
 }
 
 // Looks a tag up in an image, tuning in at the bucket named, and writes the matching lines to the front of out.
 #[no_mangle]
-pub extern "C" fn pansdaoh_lookup(image: &[u8], tag: u64, tune_in: u64, out: &mut [u8]) -> Found
+pub extern "C" fn pansdaoh_lookup(image: &[u8], tag: u64, tune_in: u64, out: &mut [u8]) -> LookupAnswer
     ensures { λ r.
         ⌜ (r ≡ lookedAnswer (Lookup.lookup (now (image .entry)) tag «tune_in» (length (now (out .entry))) .answer)) ×
         (now (out .exit) ≡
@@ -283,7 +283,7 @@ pub extern "C" fn pansdaoh_start(state: &mut [u64; 8], tag: u64)
 
 // Gives a listener one bucket.
 #[no_mangle]
-pub extern "C" fn pansdaoh_step(state: &mut [u64; 8], bucket: &[u8]) -> Step
+pub extern "C" fn pansdaoh_step(state: &mut [u64; 8], bucket: &[u8]) -> StepAnswer
     ensures { λ r.
         ⌜ (r ≡ stepAnswer (stepFrom (now (state .entry)) (now (bucket .entry)))) ×
         (now (state .exit) ≡ stateAfter (now (state .entry)) (stepFrom (now (state .entry)) (now (bucket .entry)))) ⌝ }

@@ -6,11 +6,10 @@ use lib.ListN.{length-replicate}
 use Rattle.cases.proofs.main.Statement.{statement}
 use Rattle.cases.proofs.main.Tie as tie
 
-slice-aggregate-serve : tie.Need-slice-aggregate-serve
-slice-aggregate-serve c = sym (length-replicate {A = ℕ} 2400000 0)
-
-slice-aggregate-serve-2 : tie.Need-slice-aggregate-serve-2
-slice-aggregate-serve-2 c = sym (length-replicate {A = ℕ} 2400000 0)
-
 pub main-spec : {M : Type 1} → statement M
-main-spec = tie.close (tie.spec slice-aggregate-serve slice-aggregate-serve-2 (λ c κs. tt) (λ c. tt))
+main-spec = tie.close
+    (tie.spec
+    (λ c. sym (length-replicate {A = ℕ} 2400000 0))
+    (λ c. sym (length-replicate {A = ℕ} 2400000 0))
+    (λ c κs. tt)
+    (λ c. tt))

@@ -10,6 +10,7 @@ use lib.Dec.{eqb}
 use lib.ListN.{length, drop, getD, drop-of-length-le}
 use lib.Seq.{drop-cons}
 use borrow.Author.Needs.{needs}
+use Rattle.columns.proofs.Rows.{_▹_, _▹₄_}
 use Rattle.columns.proofs.Strict.{and-true, and-assoc}
 use Rattle.columns.specs.PrintedNumbers.{allBlank}
 use Rattle.columns.proofs.all_blank.Statement.{statement}
@@ -37,19 +38,8 @@ loop-again c =
     let turn = c .before .before in
     (omega arith, one-more _ _ (turn .before .loop .blank) (turn .before .loop .inv .1) (turn .loop-test .taken) _ (c .still-blank .ensures))
 
-returns : tie.Need-returns Inv-loop μ-loop
-returns c = all-passed _ _ (c .before .loop .blank) (c .before .loop .inv .1) (c .loop-test .left)
-
 pub all-blank-spec : {M : Type 1} → statement M
 all-blank-spec =
     tie.close
-    (tie.spec
-    Inv-loop
-    μ-loop
-    (λ c. (omega arith, refl))
-    (λ c. omega arith)
-    (λ c κs. search needs)
-    (λ c. omega arith)
-    (λ c. omega arith)
-    loop-again
-    returns)
+    (tie.spec Inv-loop μ-loop ▹ (λ c. (omega arith, refl)) ▹₄ search needs ▹ loop-again
+    ▹ (λ c. all-passed _ _ (c .before .loop .blank) (c .before .loop .inv .1) (c .loop-test .left)))

@@ -9,6 +9,7 @@ use native.Mathlib.Omega.{arith}
 use lib.ListN.{length, getD, drop, drop-of-length-le}
 use lib.Seq.{drop-cons}
 use borrow.Author.Needs.{needs}
+use Rattle.columns.proofs.Rows.{_▹_, _▹₂_}
 use Rattle.columns.specs.Lists.{every}
 use Rattle.columns.specs.PrintedNumbers.{digit}
 use Rattle.columns.proofs.Digits.{digit-near, digit-far}
@@ -40,20 +41,8 @@ loop-again c =
     let turn = c .before .before .before in
     (omega arith, one-more _ _ (turn .loop-test .taken) (turn .before .loop .inv .1) (digit-near _ _ (c .before .wrapping-sub-u8 .ensures) (c .if1 .left)))
 
-returns-2 : tie.Need-returns-2 Inv-loop μ-loop
-returns-2 c = sym (c .before .loop .inv .1 ∙ rw (drop-of-length-le _ (c .loop-test .left)))
-
 pub all-digits-spec : {M : Type 1} → statement M
 all-digits-spec =
     tie.close
-    (tie.spec
-    Inv-loop
-    μ-loop
-    (λ c. (omega arith, refl))
-    (λ c. omega arith)
-    (λ c κs. search needs)
-    returns
-    (λ c. omega arith)
-    (λ c. omega arith)
-    loop-again
-    returns-2)
+    (tie.spec Inv-loop μ-loop ▹ (λ c. (omega arith, refl)) ▹₂ search needs ▹ returns ▹₂ omega arith ▹ loop-again
+    ▹ (λ c. sym (c .before .loop .inv .1 ∙ rw (drop-of-length-le _ (c .loop-test .left)))))

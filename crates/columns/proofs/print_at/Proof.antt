@@ -1,11 +1,12 @@
 -- `columns::print_at` meets its contract: the columns are lent to `print_digits`.
 -- Assumes nothing.
-use Prim.Native.Nat.{ℕ, _-_, _+_, _≤_}
+use Prim.Native.Nat.{ℕ, _-_, _≤_}
 use mathlib.Core.Path.{_≡_, _∙_, sym, ap}
 use mathlib.Core.List.{List, _++_}
 use native.Mathlib.Omega.{arith}
 use lib.ListN.{length, take, drop}
 use borrow.Author.Needs.{needs}
+use Rattle.columns.proofs.Rows.{_▹_, _▹₃_}
 use Rattle.columns.specs.Lists.{put}
 use Rattle.columns.specs.PrintedNumbers.{print, blanks}
 use Rattle.columns.proofs.Printed.{length-print}
@@ -24,22 +25,10 @@ module _ (d : List ℕ) (a b : ℕ) (h : a ≤ b) (f : b ≤ length d) where
       take a d ++ (last ++ drop (b - a) (drop a d)) ≡ put d a (print (b - a) x)
   back x e = rw (e, wide) (put-part d a (b - a) (print (b - a) x) (length-print (b - a) x))
 
-sub-print-digits : tie.Need-sub-print-digits
-sub-print-digits c = search needs
-
-part-print-digits-start : tie.Need-part-print-digits-start
-part-print-digits-start c = search needs
-
-part-print-digits-end : tie.Need-part-print-digits-end
-part-print-digits-end c = search needs
-
 print-digits-requires : tie.Need-print-digits-requires
 print-digits-requires c κs =
     let start = c .before .before in
     lent (start .args .part .now) (start .args .at) (start .args .end) (start .pre .0) (start .pre .1 .0) (start .pre .1 .1)
-
-same-length : tie.Need-same-length
-same-length c = search needs
 
 returns : tie.Need-returns
 returns c =
@@ -50,10 +39,4 @@ returns c =
 pub print-at-spec : {M : Type 1} → statement M
 print-at-spec =
     tie.close
-    (tie.spec
-    sub-print-digits
-    part-print-digits-start
-    part-print-digits-end
-    print-digits-requires
-    same-length
-    returns)
+    (tie.spec ▹₃ search needs ▹ print-digits-requires ▹ search needs ▹ returns)

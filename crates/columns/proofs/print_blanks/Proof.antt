@@ -8,6 +8,7 @@ use lib.ListN.{length, replicate, drop, length-set}
 use lib.Seq.{drop-length}
 use borrow.Author.Needs.{needs}
 use borrow.Author.Fill.{fill-more}
+use Rattle.columns.proofs.Rows.{_▹_, _▹₂_}
 use Rattle.columns.specs.PrintedNumbers.{blanks}
 use Rattle.columns.proofs.print_blanks.Statement.{statement}
 use Rattle.columns.proofs.print_blanks.Tie as tie
@@ -18,18 +19,6 @@ Inv-loop part₀ i₀ part i = (i ≤ length part₀) × ((length part ≡ lengt
 abbrev μ-loop : tie.MeasureT-loop
 μ-loop part₀ i₀ part i = length part₀ - i
 
-loop-holds : tie.Need-loop-holds Inv-loop μ-loop
-loop-holds c = search needs
-
-slice-write-part : tie.Need-slice-write-part Inv-loop μ-loop
-slice-write-part c = search needs
-
-add-i : tie.Need-add-i Inv-loop μ-loop
-add-i c = omega arith
-
-loop-less : tie.Need-loop-less Inv-loop μ-loop
-loop-less c = omega arith
-
 loop-again : tie.Need-loop-again Inv-loop μ-loop
 loop-again c = (
   omega arith,
@@ -38,9 +27,6 @@ loop-again c = (
     rw (c .before .loop .inv .1 .1) (fill-more (c .before .loop .i) 32 (c .before .before .args .part .now) (omega arith)),
   ),
 )
-
-same-length : tie.Need-same-length Inv-loop μ-loop
-same-length c = c .before .loop .inv .1 .0
 
 returns : tie.Need-returns Inv-loop μ-loop
 unfolding blanks
@@ -51,13 +37,5 @@ returns c =
 pub print-blanks-spec : {M : Type 1} → statement M
 print-blanks-spec =
     tie.close
-    (tie.spec
-    Inv-loop
-    μ-loop
-    loop-holds
-    slice-write-part
-    add-i
-    loop-less
-    loop-again
-    same-length
-    returns)
+    (tie.spec Inv-loop μ-loop ▹₂ search needs ▹₂ omega arith ▹ loop-again ▹ (λ c. c .before .loop .inv .1 .0)
+    ▹ returns)

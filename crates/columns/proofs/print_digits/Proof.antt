@@ -1,12 +1,13 @@
 -- `columns::print_digits` meets its contract. The loop's invariant: the columns from i on hold the number as far as it goes, those
 -- before are blank, and the rest is the number without the columns that are written.
 -- Assumes nothing.
-use Prim.Native.Nat.{ℕ, zero, suc, _+_, _-_, _/_, _%_, _^_, _≤_, _<_}
+use Prim.Native.Nat.{ℕ, suc, _+_, _-_, _/_, _%_, _^_, _≤_, _<_}
 use mathlib.Core.Path.{_≡_, refl, _∙_, sym, ap}
-use mathlib.Core.List.{List, [], _∷_, _++_, append-nil}
+use mathlib.Core.List.{List, _++_, append-nil}
 use native.Mathlib.Nat.{div-one}
 use native.Mathlib.Omega.{arith}
 use lib.ListN.{length, set, length-append, length-set}
+use Rattle.columns.proofs.Rows.{_▹_, _▹₂_, _▹₃_}
 use Rattle.columns.specs.PrintedNumbers.{print, blanks}
 use Rattle.columns.proofs.FromTheRight.{length-blanks, blanks-set-last, print-digit, next-quotient, print-whole}
 use Rattle.columns.proofs.Printed.{length-print}
@@ -97,80 +98,11 @@ first-column : (c : tie.Then3 Inv-loop μ-loop) →
     (length (c .before .before .before .args .part .now)) 0 (c .before .before .loop .rest / 10)
 first-column c = digit _ _ _ _ _ _ _ _ (c .before .before .loop .inv) (omega (arith, c .if3 .taken)) refl (omega (arith, c .if3 .taken)) refl
 
-loop-holds : tie.Need-loop-holds Inv-loop μ-loop
-loop-holds c = none _ _ _ (c .pre)
-
-cast-part : tie.Need-cast-part Inv-loop μ-loop
-cast-part c = omega arith
-
-add-part : tie.Need-add-part Inv-loop μ-loop
-add-part c = omega arith
-
-sub-part : tie.Need-sub-part Inv-loop μ-loop
-sub-part c = omega arith
-
-slice-write-part : tie.Need-slice-write-part Inv-loop μ-loop
-slice-write-part c = omega (arith, inside (c .before))
-
-same-length : tie.Need-same-length Inv-loop μ-loop
-same-length c = long _ _ _ _ _ (last-digit c)
-
-returns : tie.Need-returns Inv-loop μ-loop
-returns c = done _ _ _ _ _ (last-digit c) (omega (arith, inside (c .before))) (omega arith)
-
-cast-two : tie.Need-cast-two Inv-loop μ-loop
-cast-two c = omega arith
-
-add-part-2 : tie.Need-add-part-2 Inv-loop μ-loop
-add-part-2 c = omega arith
-
-sub-part-2 : tie.Need-sub-part-2 Inv-loop μ-loop
-sub-part-2 c = omega arith
-
-slice-write-part-2 : tie.Need-slice-write-part-2 Inv-loop μ-loop
-slice-write-part-2 c = omega (arith, inside (c .before))
-
-add-part-3 : tie.Need-add-part-3 Inv-loop μ-loop
-add-part-3 c = omega arith
-
-sub-part-3 : tie.Need-sub-part-3 Inv-loop μ-loop
-sub-part-3 c = omega arith
-
-slice-write-part-3 : tie.Need-slice-write-part-3 Inv-loop μ-loop
-slice-write-part-3 c = simp length-set (omega (arith, inside (c .before)))
-
-sub-i : tie.Need-sub-i Inv-loop μ-loop
-sub-i c = omega arith
-
-same-length-2 : tie.Need-same-length-2 Inv-loop μ-loop
-same-length-2 c = long _ _ _ _ _ (both-digits (c .before))
-
 returns-2 : tie.Need-returns-2 Inv-loop μ-loop
 returns-2 c = done _ _ _ _ _ (both-digits (c .before)) (omega (arith, inside (c .before .before))) (c .if2 .taken)
 
-loop-less : tie.Need-loop-less Inv-loop μ-loop
-loop-less c = omega arith
-
-loop-again : tie.Need-loop-again Inv-loop μ-loop
-loop-again c = record { so-far = both-digits (c .before); more = λ h. omega (arith, c .if2 .left) }
-
-cast-part-2 : tie.Need-cast-part-2 Inv-loop μ-loop
-cast-part-2 c = omega arith
-
-add-part-4 : tie.Need-add-part-4 Inv-loop μ-loop
-add-part-4 c = omega arith
-
 slice-write-part-4 : tie.Need-slice-write-part-4 Inv-loop μ-loop
 slice-write-part-4 c = let f = c .before .before .loop .inv .so-far in omega (arith, long _ _ _ _ _ f, f .whole, c .if3 .taken)
-
-same-length-3 : tie.Need-same-length-3 Inv-loop μ-loop
-same-length-3 c = long _ _ _ _ _ (first-column c)
-
-returns-3 : tie.Need-returns-3 Inv-loop μ-loop
-returns-3 c = full _ _ _ _ _ (first-column c) refl
-
-same-length-4 : tie.Need-same-length-4 Inv-loop μ-loop
-same-length-4 c = long _ _ _ _ _ (c .before .before .loop .inv .so-far)
 
 returns-4 : tie.Need-returns-4 Inv-loop μ-loop
 returns-4 c = full _ _ _ _ _ (c .before .before .loop .inv .so-far) (omega (arith, c .before .loop-test .left, c .if3 .left))
@@ -178,32 +110,12 @@ returns-4 c = full _ _ _ _ _ (c .before .before .loop .inv .so-far) (omega (arit
 pub print-digits-spec : {M : Type 1} → statement M
 print-digits-spec =
     tie.close
-    (tie.spec
-    Inv-loop
-    μ-loop
-    loop-holds
-    cast-part
-    add-part
-    sub-part
-    slice-write-part
-    same-length
-    returns
-    cast-two
-    add-part-2
-    sub-part-2
-    slice-write-part-2
-    add-part-3
-    sub-part-3
-    slice-write-part-3
-    sub-i
-    same-length-2
-    returns-2
-    loop-less
-    loop-again
-    cast-part-2
-    add-part-4
-    slice-write-part-4
-    same-length-3
-    returns-3
-    same-length-4
-    returns-4)
+    (tie.spec Inv-loop μ-loop ▹ (λ c. none _ _ _ (c .pre)) ▹₃ omega arith ▹ (λ c. omega (arith, inside (c .before)))
+    ▹ (λ c. long _ _ _ _ _ (last-digit c))
+    ▹ (λ c. done _ _ _ _ _ (last-digit c) (omega (arith, inside (c .before))) (omega arith)) ▹₃ omega arith
+    ▹ (λ c. omega (arith, inside (c .before))) ▹₂ omega arith
+    ▹ (λ c. simp length-set (omega (arith, inside (c .before)))) ▹ omega arith
+    ▹ (λ c. long _ _ _ _ _ (both-digits (c .before))) ▹ returns-2 ▹ omega arith
+    ▹ (λ c. record { so-far = both-digits (c .before); more = λ h. omega (arith, c .if2 .left) }) ▹₂ omega arith
+    ▹ slice-write-part-4 ▹ (λ c. long _ _ _ _ _ (first-column c)) ▹ (λ c. full _ _ _ _ _ (first-column c) refl)
+    ▹ (λ c. long _ _ _ _ _ (c .before .before .loop .inv .so-far)) ▹ returns-4)

@@ -25,4 +25,4 @@ returns-2 : tie.Need-returns-2
 returns-2 c = one-digit _ _ (c .before .wrapping-sub-u8 .ensures) (c .if1 .left)
 
 pub read-digit-spec : {M : Type 1} → statement M
-read-digit-spec = tie.close (tie.spec (λ c κs. search needs) returns (λ c. search needs) returns-2)
+read-digit-spec = tie.close (tie.spec (search needs) returns (search needs) returns-2)

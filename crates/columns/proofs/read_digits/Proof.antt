@@ -10,9 +10,10 @@ use lib.Dec.{eqb}
 use lib.ListN.{length, getD, drop}
 use borrow.Author.Needs.{needs}
 use borrow.Author.Tests.{eqb-true, eqb-false, not-true, not-false}
+use Rattle.columns.proofs.Rows.{_▹_, _▹₂_, _▹₄_}
 use Rattle.columns.specs.Lists.{pick, every}
 use Rattle.columns.specs.PrintedNumbers.{value, digit, readNumber, orMisprint}
-use Rattle.columns.specs.Starts.{Starts}
+use Rattle.columns.specs.Inner.Starts.{Starts}
 use Rattle.columns.proofs.OnePass.{read-zero, read-digits}
 use Rattle.columns.proofs.Digits.{first-near, first-far}
 use Rattle.columns.proofs.Put.{to-the-end}
@@ -90,23 +91,8 @@ rest c = behind (c .before) ∙ not-false _ (c .if3 .left)
 spelled-requires : tie.Need-spelled-requires
 spelled-requires c κs = (start (c .before .before .before .before) .pre .most, first (c .before .before .before) .0 ∙ rest c)
 
-returns-4 : tie.Need-returns-4
-returns-4 c = c .spelled .ensures ∙ rw (first (c .before .before .before .before) .1, rest (c .before))
-
 pub read-digits-spec : {M : Type 1} → statement M
 read-digits-spec =
     tie.close
-    (tie.spec
-    (λ c. search needs)
-    (λ c κs. search needs)
-    returns
-    (λ c. search needs)
-    (λ c κs. search needs)
-    returns-2
-    (λ c. search needs)
-    (λ c. search needs)
-    (λ c. search needs)
-    (λ c κs. search needs)
-    returns-3
-    spelled-requires
-    returns-4)
+    (tie.spec ▹₂ search needs ▹ returns ▹₂ search needs ▹ returns-2 ▹₄ search needs ▹ returns-3 ▹ spelled-requires
+    ▹ (λ c. c .spelled .ensures ∙ rw (first (c .before .before .before .before) .1, rest (c .before))))

@@ -1,37 +1,12 @@
 -- `columns::read_eight` meets its contract. Assumes nothing.
-use mathlib.Core.Path.{_∙_}
-use native.Mathlib.Omega.{arith}
 use borrow.Author.Needs.{needs}
-use Rattle.columns.proofs.LeadingBlanks.{all-read, behind-one, behind-two, starts-last}
+use Rattle.columns.proofs.Rows.{_▹_, _▹₄_}
+use Rattle.columns.proofs.LeadingBlanks.{first-used, second-used, all-read, behind-one, behind-two}
 use Rattle.columns.proofs.read_eight.Statement.{statement}
 use Rattle.columns.proofs.read_eight.Tie as tie
 
 pub read-eight-spec : {M : Type 1} → statement M
 read-eight-spec =
     tie.close
-    (tie.spec
-    (λ c. search needs)
-    (λ c. search needs)
-    (λ c. search needs)
-    (λ c. search needs)
-    (λ c κs.
-    let start = c .before .before .before .before in
-    starts-last 0 7 (start .args .part .now) (start .pre) (omega arith) (λ b. absurd (c .before .if1 .taken b)))
-    (λ c. c .read-digits .ensures ∙ all-read 7 _ (c .before .before .before .before .before .pre))
-    (λ c. search needs)
-    (λ c. search needs)
-    (λ c. search needs)
-    (λ c. search needs)
-    (λ c κs.
-    let start = c .before .before .before .before .before .before in
-    starts-last 1 6 (start .args .part .now) (start .pre) (omega arith) (λ b. absurd (c .before .if2 .taken b)))
-    (λ c.
-    let at = c .before .before .before .before in
-    c .read-digits2 .ensures ∙ behind-one 6 _ (at .before .before .before .pre) (at .if1 .left))
-    (λ c. search needs)
-    (λ c. search needs)
-    (λ c. search needs)
-    (λ c κs. search needs)
-    (λ c.
-    let at = c .before .before .before .before in
-    c .read-six .ensures ∙ behind-two 5 _ (at .before .before .before .pre) (at .if1 .left) (c .before .before .if2 .left)))
+    (tie.spec ▹₄ search needs ▹ (λ c κs. search first-used) ▹ (λ c. search all-read) ▹₄ search needs
+    ▹ (λ c κs. search second-used) ▹ (λ c. search behind-one) ▹₄ search needs ▹ (λ c. search behind-two))

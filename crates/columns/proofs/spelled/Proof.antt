@@ -11,6 +11,7 @@ use lib.Dec.{leb, lit<}
 use lib.ListN.{length, getD, drop, drop-of-length-le}
 use lib.Seq.{drop-cons}
 use borrow.Author.Tests.{leb-true}
+use Rattle.columns.proofs.Rows.{_▹_, _▹₂_}
 use Rattle.columns.specs.Lists.{every}
 use Rattle.columns.specs.PrintedNumbers.{value, digit}
 use Rattle.columns.proofs.Strict.{both}
@@ -75,9 +76,6 @@ Inv-loop part x₀ i₀ x i = Spelled part x i
 abbrev μ-loop : tie.MeasureT-loop
 μ-loop part x₀ i₀ x i = length part - i
 
-loop-holds : tie.Need-loop-holds Inv-loop μ-loop
-loop-holds c = none-read _ (c .before .pre .1)
-
 abbrev start : tie.In-loop Inv-loop μ-loop → tie.Start Inv-loop μ-loop
 start c = c .before .before .before
 
@@ -93,40 +91,19 @@ fit c = fits _ _ _ (c .before .loop .inv) (c .loop-test .taken) (start c .pre .0
 ten : (c : tie.After-ten-to Inv-loop μ-loop) → c .ten-to .result ≡ 10
 ten c = c .ten-to .ensures
 
-mul-x : tie.Need-mul-x Inv-loop μ-loop
-mul-x c = rw (ten c) (omega (arith, fit (c .before), digit-at (c .before) .low))
-
-cast-x : tie.Need-cast-x Inv-loop μ-loop
-cast-x c = omega (arith, digit-at (c .before .before) .high)
-
 add-x : tie.Need-add-x Inv-loop μ-loop
 add-x c = rw (ten (c .before)) (omega (arith, fit (c .before .before), digit-at (c .before .before) .low))
-
-sub-x : tie.Need-sub-x Inv-loop μ-loop
-sub-x c = omega (arith, digit-at (c .before .before) .low)
 
 loop-again : tie.Need-loop-again Inv-loop μ-loop
 loop-again c =
     let turn = c .before .before in
     rw (ten (c .before)) (next _ _ _ (turn .before .loop .inv) (turn .loop-test .taken))
 
-returns : tie.Need-returns Inv-loop μ-loop
-returns c = all-read _ _ _ (c .before .loop .inv) (c .loop-test .left)
-
 pub spelled-spec : {M : Type 1} → statement M
 spelled-spec =
     tie.close
-    (tie.spec
-    Inv-loop
-    μ-loop
-    loop-holds
-    (λ c κs. lit< tt)
-    mul-x
-    (λ c. omega arith)
-    cast-x
-    add-x
-    sub-x
-    (λ c. omega arith)
-    (λ c. omega arith)
-    loop-again
-    returns)
+    (tie.spec Inv-loop μ-loop ▹ (λ c. none-read _ (c .before .pre .1)) ▹ (λ c κs. lit< tt)
+    ▹ (λ c. rw (ten c) (omega (arith, fit (c .before), digit-at (c .before) .low))) ▹ omega arith
+    ▹ (λ c. omega (arith, digit-at (c .before .before) .high)) ▹ add-x
+    ▹ (λ c. omega (arith, digit-at (c .before .before) .low)) ▹₂ omega arith ▹ loop-again
+    ▹ (λ c. all-read _ _ _ (c .before .loop .inv) (c .loop-test .left)))

@@ -1,14 +1,14 @@
 -- `columns::still_printed` meets its contract: its tests, put together, are the definition's.
 -- Assumes nothing.
 use Prim.Native.Nat.{ℕ, _+_, _%_, _^_, _<_}
-use mathlib.Core.Path.{_≡_, refl, sym, ap}
+use mathlib.Core.Path.{_≡_, refl, sym}
 use mathlib.Core.Bool.{Bool, true, false, _&&_, _||_, not}
 use native.Mathlib.Omega.{arith}
 use lib.Dec.{ltb, eqb}
 use borrow.Author.Tests.{ltb-true, ltb-false}
 use Rattle.columns.specs.Lists.{pick}
 use Rattle.columns.specs.PrintedNumbers.{digit}
-use Rattle.columns.specs.Places.{leading, columnPrinted}
+use Rattle.columns.specs.Inner.Places.{leading, columnPrinted}
 use Rattle.columns.proofs.Strict.{and-false, and-true}
 use Rattle.columns.proofs.Digits.{digit-near, digit-far}
 use Rattle.columns.proofs.still_printed.Statement.{statement}

@@ -6,6 +6,7 @@ use Prim.Native.Nat.{ℕ, _^_}
 use lib.Dec.{eqb, eqb→eq}
 use lib.ListN.{getD}
 use borrow.Author.Needs.{needs}
+use Rattle.columns.proofs.Rows.{_▹_, _▹₂_}
 use Rattle.columns.proofs.Table.{at}
 use Rattle.columns.proofs.ten_to.Statement.{statement}
 use Rattle.columns.proofs.ten_to.Tie as tie
@@ -16,15 +17,11 @@ tens = 1 ∷ 10 ∷ 100 ∷ 1000 ∷ 10000 ∷ 100000 ∷ 1000000 ∷ 10000000 �
 right : ℕ → ℕ → Bool
 right k x = eqb x (10 ^ k)
 
-mul-result : tie.Need-mul-result
-mul-result c = search needs
-
-array-read-result : tie.Need-array-read-result
-array-read-result c = search needs
-
 returns : tie.Need-returns
 unfolding tens right
 returns c = eqb→eq (getD tens (c .args .e) 0) (10 ^ (c .args .e)) (at right tens tt (c .args .e) (search needs))
 
 pub ten-to-spec : {M : Type 1} → statement M
-ten-to-spec = tie.close (tie.spec mul-result array-read-result returns)
+ten-to-spec =
+    tie.close
+    (tie.spec ▹₂ search needs ▹ returns)

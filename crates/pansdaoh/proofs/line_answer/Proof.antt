@@ -1,7 +1,6 @@
 -- `pansdaoh::line_answer` meets its contract: case by case. Assumes nothing.
-use mathlib.Core.Path.{refl, ap, _∙_, sym}
+use mathlib.Core.Path.{refl}
 use borrow.Author.Needs.{needs}
-use Rattle.buckets.specs.BucketLines.{numbers}
 use Rattle.pansdaoh.specs.Calls.{lineAnswer}
 use Rattle.pansdaoh.proofs.line_answer.Statement.{statement}
 use Rattle.pansdaoh.proofs.line_answer.Tie as tie
@@ -22,11 +21,7 @@ pub line-answer-spec : {M : Type 1} → statement M
 line-answer-spec =
     tie.close
     (tie.spec
-    (λ c. search needs)
-    (λ c. search needs)
-    (λ c κs. search needs)
-    (λ c. search needs)
-    (λ c κs. search needs)
+    (λ c. search needs) (λ c. search needs) (λ c κs. search needs) (λ c. search needs) (λ c κs. search needs)
     returns
     returns-2
     returns-3)

@@ -19,4 +19,9 @@ returns-3 c = rw (c .before .looked3 .given .1) refl
 
 pub looked-answer-spec : {M : Type 1} → statement M
 looked-answer-spec =
-    tie.close (tie.spec (λ c. search needs) (λ c. search needs) (λ c. search needs) returns returns-2 returns-3)
+    tie.close
+    (tie.spec
+    (λ c. search needs) (λ c. search needs) (λ c. search needs)
+    returns
+    returns-2
+    returns-3)

@@ -1,6 +1,5 @@
 -- `pansdaoh::no_line` meets its contract. Assumes nothing.
 use mathlib.Core.Path.{refl}
-use borrow.Author.Needs.{needs}
 use Rattle.pansdaoh.specs.Calls.{lineAnswer}
 use Rattle.pansdaoh.proofs.no_line.Statement.{statement}
 use Rattle.pansdaoh.proofs.no_line.Tie as tie

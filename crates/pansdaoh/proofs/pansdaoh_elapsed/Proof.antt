@@ -4,8 +4,9 @@ use borrow.Author.Needs.{needs}
 use Rattle.pansdaoh.proofs.pansdaoh_elapsed.Statement.{statement}
 use Rattle.pansdaoh.proofs.pansdaoh_elapsed.Tie as tie
 
-returns : tie.Need-returns
-returns c = c .elapsed .ensures ∙ ap (λ l. l .elapsed) (c .before .restored .ensures)
-
 pub pansdaoh-elapsed-spec : {M : Type 1} → statement M
-pansdaoh-elapsed-spec = tie.close (tie.spec (λ c κs. search needs) (λ c κs. search needs) returns)
+pansdaoh-elapsed-spec = tie.close
+    (tie.spec
+    (λ c κs. search needs)
+    (λ c κs. search needs)
+    (λ c. c .elapsed .ensures ∙ ap (λ l. l .elapsed) (c .before .restored .ensures)))

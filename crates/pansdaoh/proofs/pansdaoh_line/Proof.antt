@@ -5,8 +5,9 @@ use Rattle.pansdaoh.specs.Calls.{lineAnswer}
 use Rattle.pansdaoh.proofs.pansdaoh_line.Statement.{statement}
 use Rattle.pansdaoh.proofs.pansdaoh_line.Tie as tie
 
-returns : tie.Need-returns
-returns c = c .line-answer .ensures ∙ ap lineAnswer (c .before .line-of .ensures)
-
 pub pansdaoh-line-spec : {M : Type 1} → statement M
-pansdaoh-line-spec = tie.close (tie.spec (λ c κs. search needs) (λ c κs. search needs) returns)
+pansdaoh-line-spec = tie.close
+    (tie.spec
+    (λ c κs. search needs)
+    (λ c κs. search needs)
+    (λ c. c .line-answer .ensures ∙ ap lineAnswer (c .before .line-of .ensures)))

@@ -3,7 +3,7 @@ use mathlib.Core.Path.{ap, _∙_}
 use borrow.Author.Needs.{needs}
 use lib.ListN.{length}
 use Rattle.listener.specs.Lookup.{lookup}
-use Rattle.listener.proofs.Told.{looked-told}
+use Rattle.listener.proofs.Steps.Told.{looked-told}
 use Rattle.pansdaoh.specs.Calls.{lookedAnswer}
 use Rattle.pansdaoh.proofs.pansdaoh_lookup.Statement.{statement}
 use Rattle.pansdaoh.proofs.pansdaoh_lookup.Tie as tie

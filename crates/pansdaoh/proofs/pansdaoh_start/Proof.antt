@@ -5,8 +5,9 @@ use Rattle.listener.specs.State.{saved}
 use Rattle.pansdaoh.proofs.pansdaoh_start.Statement.{statement}
 use Rattle.pansdaoh.proofs.pansdaoh_start.Tie as tie
 
-returns : tie.Need-returns
-returns c = c .saved .ensures ∙ ap saved (c .before .new .ensures)
-
 pub pansdaoh-start-spec : {M : Type 1} → statement M
-pansdaoh-start-spec = tie.close (tie.spec (λ c κs. search needs) (λ c κs. search needs) returns)
+pansdaoh-start-spec = tie.close
+    (tie.spec
+    (λ c κs. search needs)
+    (λ c κs. search needs)
+    (λ c. c .saved .ensures ∙ ap saved (c .before .new .ensures)))

@@ -4,7 +4,7 @@ use mathlib.Core.Path.{_≡_, sym, ap, _∙_}
 use borrow.Author.Needs.{needs}
 use Rattle.listener.specs.Listener.{step}
 use Rattle.listener.specs.State.{saved}
-use Rattle.listener.proofs.Told.{step-told}
+use Rattle.listener.proofs.Steps.Told.{step-told}
 use Rattle.pansdaoh.specs.Calls.{stepAnswer, stepFrom, wasEnded, stateAfter}
 use Rattle.pansdaoh.proofs.pansdaoh_step.Statement.{statement}
 use Rattle.pansdaoh.proofs.pansdaoh_step.Tie as tie
@@ -43,11 +43,7 @@ pub pansdaoh-step-spec : {M : Type 1} → statement M
 pansdaoh-step-spec =
     tie.close
     (tie.spec
-    (λ c κs. search needs)
-    (λ c κs. search needs)
-    (λ c κs. search needs)
-    (λ c κs. search needs)
+    (λ c κs. search needs) (λ c κs. search needs) (λ c κs. search needs) (λ c κs. search needs)
     returns
-    (λ c κs. search needs)
-    (λ c κs. search needs)
+    (λ c κs. search needs) (λ c κs. search needs)
     returns-2)

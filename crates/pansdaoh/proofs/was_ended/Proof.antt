@@ -4,18 +4,10 @@ use borrow.Author.Needs.{needs}
 use Rattle.pansdaoh.proofs.was_ended.Statement.{statement}
 use Rattle.pansdaoh.proofs.was_ended.Tie as tie
 
-returns-4 : tie.Need-returns-4
-returns-4 c = rw (c .before .answer .given .1) refl
-
 pub was-ended-spec : {M : Type 1} → statement M
 was-ended-spec =
     tie.close
     (tie.spec
-    (λ c. search needs)
-    (λ c. search needs)
-    (λ c. search needs)
-    (λ c. search needs)
-    (λ c. search needs)
-    (λ c. search needs)
-    (λ c. search needs)
-    returns-4)
+    (λ c. search needs) (λ c. search needs) (λ c. search needs) (λ c. search needs) (λ c. search needs)
+    (λ c. search needs) (λ c. search needs)
+    (λ c. rw (c .before .answer .given .1) refl))

@@ -5,7 +5,8 @@ use Prim.Native.Nat.{ℕ, _+_, _-_, _*_}
 use native.Mathlib.Omega.{arith}
 use borrow.Author.Needs.{needs}
 use lib.ListN.{take, drop}
-use Rattle.buckets.specs.Lengths.{figuresWidth, linesStart}
+use Rattle.columns.proofs.Rows.{_▹_, _▹₇_}
+use Rattle.buckets.specs.Lengths.{lineColumnsWidth, linesStart}
 use Rattle.buckets.specs.Bucket.{spelledLine}
 use Rattle.buckets.specs.BucketLines.{lineBytes}
 use Rattle.buckets.proofs.bucket_line.line_at.Statement.{statement}
@@ -15,19 +16,11 @@ returns : tie.Need-returns
 unfolding lineBytes
 returns c =
     let s = c .before .before .before in
-    let at : ℕ = linesStart + figuresWidth * s .args .i in
-    let wide : at + figuresWidth - at ≡ figuresWidth = omega arith in
+    let at : ℕ = linesStart + lineColumnsWidth * s .args .i in
+    let wide : at + lineColumnsWidth - at ≡ lineColumnsWidth = omega arith in
     c .spelled-line .ensures ∙ ap (λ w. spelledLine (take w (drop at (s .args .bucket .now)))) wide
 
 pub line-at-spec : {M : Type 1} → statement M
 line-at-spec =
     tie.close
-    (tie.spec
-    (λ c. search needs)
-    (λ c. search needs)
-    (λ c. search needs)
-    (λ c. search needs)
-    (λ c. search needs)
-    (λ c. search needs)
-    (λ c κs. search needs)
-    returns)
+    (tie.spec ▹₇ search needs ▹ returns)

@@ -5,10 +5,11 @@ use Prim.Native.Nat.{ℕ}
 use native.Mathlib.Omega.{arith}
 use mathlib.Core.List.{List}
 use borrow.Author.Needs.{needs}
+use Rattle.columns.proofs.Rows.{_▹_, _▹₄_}
 use Rattle.buckets.specs.Bucket.{readBucket}
 use Rattle.buckets.specs.BucketLines.{bucketLine, numbers}
 use Rattle.buckets.specs.declared.BucketLine.the-variants.{Line as IsLine}
-use Rattle.buckets.specs.Held.{asReading}
+use Rattle.buckets.specs.Inner.Held.{asReading}
 use Rattle.buckets.proofs.BucketLines.{DataRead, LineStands, of-misprinted, of-index, of-data}
 use Rattle.buckets.proofs.bucket_line.line_of.Statement.{statement}
 use Rattle.buckets.proofs.bucket_line.line_of.Tie as tie
@@ -59,19 +60,7 @@ returns-3 c =
     let r = c .before .before in
     ap numbers (sym (of-index _ (readBucket (bytes r)) (ap (λ x. x .kind) (sym (read r)) ∙ c .enum-told2 .given .1)))
 
-returns-4 : tie.Need-returns-4
-returns-4 c = answered c
-
 pub line-of-spec : {M : Type 1} → statement M
 line-of-spec =
     tie.close
-    (tie.spec
-    (λ c κs. search needs)
-    (λ c. search needs)
-    (λ c. search needs)
-    (λ c. search needs)
-    returns
-    line-at-requires
-    returns-2
-    returns-3
-    returns-4)
+    (tie.spec ▹₄ search needs ▹ returns ▹ line-at-requires ▹ returns-2 ▹ returns-3 ▹ (λ c. answered c))

@@ -6,6 +6,7 @@ use mathlib.Core.List.{List, [], _∷_}
 use native.Mathlib.Omega.{arith}
 use lib.ListN.{length, getD}
 use borrow.Author.Needs.{needs}
+use Rattle.columns.proofs.Rows.{_▹_, _▹₂_}
 use Rattle.columns.specs.PrintedNumbers.{readNumber, asNumber, orMisprint}
 use Rattle.columns.proofs.OnePass.{read-blank}
 use Rattle.buckets.specs.Lengths.{countWidth}
@@ -35,4 +36,6 @@ returns-2 c =
     (read .read-digit .ensures ∙ ap orMisprint (second-alone s (start .pre .0) (blank .if1 .left)))
 
 pub digit-within-spec : {M : Type 1} → statement M
-digit-within-spec = tie.close (tie.spec (λ c. search needs) returns (λ c. search needs) (λ c κs. search needs) (λ c κs. tt) returns-2)
+digit-within-spec =
+    tie.close
+    (tie.spec ▹ search needs ▹ returns ▹₂ search needs ▹ (λ c κs. tt) ▹ returns-2)

@@ -4,10 +4,8 @@ use borrow.Author.Needs.{needs}
 use Rattle.buckets.proofs.fields.six_within.Statement.{statement}
 use Rattle.buckets.proofs.fields.six_within.Tie as tie
 
-returns : tie.Need-returns
-returns c =
-    let read = c .before in
-    c .within .ensures _ (omega (arith, read .before .before .pre)) (read .read-six .ensures)
-
 pub six-within-spec : {M : Type 1} → statement M
-six-within-spec = tie.close (tie.spec (λ c κs. search needs) (λ c κs. tt) returns)
+six-within-spec =
+    tie.close
+    (tie.spec (search needs) (λ c κs. tt)
+    (λ c. c .within .ensures _ (omega (arith, c .before .before .before .pre)) (c .before .read-six .ensures)))

@@ -1,6 +1,7 @@
 -- `buckets::lines::copy_line` meets its contract: the columns, then the newline behind them.
 -- Assumes nothing.
 use borrow.Author.Needs.{needs}
+use Rattle.columns.proofs.Rows.{_▹_, _▹₉_}
 use Rattle.buckets.proofs.CopiedLines.{copied-line}
 use Rattle.buckets.proofs.lines.copy_line.Statement.{statement}
 use Rattle.buckets.proofs.lines.copy_line.Tie as tie
@@ -17,16 +18,4 @@ returns c =
 pub copy-line-spec : {M : Type 1} → statement M
 copy-line-spec =
     tie.close
-    (tie.spec
-    (λ c. search needs)
-    (λ c. search needs)
-    (λ c. search needs)
-    (λ c. search needs)
-    (λ c. search needs)
-    (λ c. search needs)
-    (λ c. search needs)
-    (λ c. search needs)
-    (λ c κs. search needs)
-    (λ c. search needs)
-    (λ c. search needs)
-    returns)
+    (tie.spec ▹₉ search needs ▹ search needs ▹ (λ c. search needs) ▹ returns)

@@ -4,8 +4,9 @@ use mathlib.Core.Path.{_≡_, refl, sym, _∙_, ap}
 use Prim.Native.Nat.{_+_, _-_, _*_, _≤_}
 use native.Mathlib.Omega.{arith}
 use lib.ListN.{length, drop}
+use Rattle.columns.proofs.Rows.{_▹_, _▹₂_, _▹₄_}
 use Rattle.columns.specs.Lists.{put}
-use Rattle.buckets.specs.Lengths.{figuresWidth, lineLength}
+use Rattle.buckets.specs.Lengths.{lineColumnsWidth, lineLength}
 use Rattle.buckets.specs.ListLine.{endedLine, endedLines}
 use Rattle.buckets.proofs.CopiedLines.{none-copied, copied-more}
 use Rattle.buckets.proofs.lines.copy_lines.Statement.{statement}
@@ -30,7 +31,7 @@ loop-again c =
       omega arith,
       c .before .before .copy-line .kept .0 ∙ c .before .before .before .before .before .loop .inv .1,
       c .before .before .copy-line .ensures
-          ∙ (ap (λ o. put o (s .args .to + lineLength * i) (endedLine (drop (s .args .from + figuresWidth * i) (s .args .text .now))))
+          ∙ (ap (λ o. put o (s .args .to + lineLength * i) (endedLine (drop (s .args .from + lineColumnsWidth * i) (s .args .text .now))))
           (c .before .before .before .before .before .loop .inv .2)
           ∙ copied-more (s .args .out .now) (s .args .text .now) (s .args .from) (s .args .to) i (omega arith) (omega arith)),
     )
@@ -45,17 +46,6 @@ returns c =
 pub copy-lines-spec : {M : Type 1} → statement M
 copy-lines-spec =
     tie.close
-    (tie.spec
-    Inv-loop
-    μ-loop
-    loop-holds
-    (λ c. omega arith)
-    (λ c. omega arith)
-    (λ c. omega arith)
-    (λ c. omega arith)
-    (λ c κs. (omega (arith, c .before .before .loop .inv .1), omega arith))
-    (λ c. omega arith)
-    (λ c. omega arith)
-    loop-again
-    (λ c. c .before .loop .inv .1)
-    returns)
+    (tie.spec Inv-loop μ-loop ▹ loop-holds ▹₄ omega arith
+    ▹ (λ c κs. (omega (arith, c .before .before .loop .inv .1), omega arith)) ▹₂ omega arith ▹ loop-again
+    ▹ (λ c. c .before .loop .inv .1) ▹ returns)

@@ -9,9 +9,10 @@ use native.Mathlib.Omega.{arith}
 use lib.ListN.{length, drop, getD, drop-of-length-le}
 use lib.Seq.{drop-cons}
 use borrow.Author.Needs.{needs}
-use Rattle.columns.specs.Places.{columnPrinted, columnsPrinted}
+use Rattle.columns.proofs.Rows.{_▹_, _▹₂_}
+use Rattle.columns.specs.Inner.Places.{columnPrinted, columnsPrinted}
 use Rattle.columns.proofs.Strict.{and-true, and-assoc}
-use Rattle.buckets.specs.Columns.{restPlaces}
+use Rattle.buckets.specs.Inner.Columns.{restPlaces}
 use Rattle.buckets.specs.Lengths.{restWidth}
 use Rattle.buckets.proofs.lines.rest_printed.Statement.{statement}
 use Rattle.buckets.proofs.lines.rest_printed.Tie as tie
@@ -51,14 +52,6 @@ returns c = all-passed restPlaces _ _ (c .before .loop .before) (c .before .loop
 pub rest-printed-spec : {M : Type 1} → statement M
 rest-printed-spec =
     tie.close
-    (tie.spec
-    Inv-loop
-    μ-loop
-    (λ c. (omega arith, refl))
-    (λ c. omega (arith, c .before .before .before .before .pre))
-    (λ c. search needs)
-    (λ c κs. tt)
-    (λ c. omega arith)
-    (λ c. omega arith)
-    loop-again
-    returns)
+    (tie.spec Inv-loop μ-loop ▹ (λ c. (omega arith, refl))
+    ▹ (λ c. omega (arith, c .before .before .before .before .pre)) ▹ search needs ▹ (λ c κs. tt) ▹₂ omega arith
+    ▹ loop-again ▹ returns)

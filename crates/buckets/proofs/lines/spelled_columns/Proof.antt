@@ -11,6 +11,7 @@ use mathlib.Core.List.{List}
 use lib.Dec.{lit<}
 use lib.ListN.{length, getD, take, drop}
 use lib.Seq.{drop-cons}
+use Rattle.columns.proofs.Rows.{_▹_, _▹₂_}
 use Rattle.columns.specs.PrintedNumbers.{value}
 use Rattle.buckets.specs.Lengths.{tagWidth}
 use Rattle.buckets.proofs.lines.spelled_columns.Statement.{statement}
@@ -46,20 +47,8 @@ loop-holds c =
     let whole : c .before .args .width - 0 ≡ c .before .args .width = omega arith in
     (omega arith, omega arith, rw (add-zero, whole))
 
-add-c : tie.Need-add-c Inv-loop μ-loop
-add-c c = omega arith
-
-shared-slice-read-c : tie.Need-shared-slice-read-c Inv-loop μ-loop
-shared-slice-read-c c = omega arith
-
 mul-x : tie.Need-mul-x Inv-loop μ-loop
 mul-x c = let b = small (c .before .before .loop .i) (c .before .before .loop .x) (omega arith) (omega arith) in omega arith
-
-sub-wide : tie.Need-sub-wide Inv-loop μ-loop
-sub-wide c = omega arith
-
-wide-requires : tie.Need-wide-requires Inv-loop μ-loop
-wide-requires c κs = tt
 
 add-x : tie.Need-add-x Inv-loop μ-loop
 add-x c =
@@ -67,12 +56,6 @@ add-x c =
     let l = c .before .before .before .before .loop in
     let b = small (l .i) (l .x) (omega arith) (omega arith) in
     omega (arith, c .before .before .shared-slice-known2 .given (at + l .i), c .wide .ensures)
-
-add-i : tie.Need-add-i Inv-loop μ-loop
-add-i c = omega arith
-
-loop-less : tie.Need-loop-less Inv-loop μ-loop
-loop-less c = omega arith
 
 loop-again : tie.Need-loop-again Inv-loop μ-loop
 loop-again c =
@@ -96,17 +79,5 @@ returns c =
 pub spelled-columns-spec : {M : Type 1} → statement M
 spelled-columns-spec =
     tie.close
-    (tie.spec
-    Inv-loop
-    μ-loop
-    loop-holds
-    add-c
-    shared-slice-read-c
-    mul-x
-    sub-wide
-    wide-requires
-    add-x
-    add-i
-    loop-less
-    loop-again
-    returns)
+    (tie.spec Inv-loop μ-loop ▹ loop-holds ▹₂ omega arith ▹ mul-x ▹ omega arith ▹ (λ c κs. tt) ▹ add-x ▹₂ omega arith
+    ▹ loop-again ▹ returns)

@@ -1,7 +1,7 @@
 -- `buckets::lines::spelled_line` meets its contract: number by number.
 -- Assumes nothing.
-use mathlib.Core.Path.{_≡_}
 use borrow.Author.Needs.{needs}
+use Rattle.columns.proofs.Rows.{_▹_, _▹₄_}
 use Rattle.buckets.proofs.lines.spelled_line.Statement.{statement}
 use Rattle.buckets.proofs.lines.spelled_line.Tie as tie
 
@@ -17,4 +17,4 @@ returns c =
 pub spelled-line-spec : {M : Type 1} → statement M
 spelled-line-spec =
     tie.close
-    (tie.spec (λ c κs. search needs) (λ c κs. search needs) (λ c κs. search needs) (λ c κs. search needs) returns)
+    (tie.spec ▹₄ search needs ▹ returns)

@@ -1,7 +1,7 @@
 -- `buckets::reader::index_reading` meets its contract.
 -- Assumes nothing.
 use mathlib.Core.Path.{refl}
-use Rattle.buckets.specs.Read.{indexReading}
+use Rattle.buckets.specs.Inner.Read.{indexReading}
 use Rattle.buckets.proofs.reader.index_reading.Statement.{statement}
 use Rattle.buckets.proofs.reader.index_reading.Tie as tie
 

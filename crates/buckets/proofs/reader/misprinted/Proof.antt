@@ -1,7 +1,7 @@
 -- `buckets::reader::misprinted` meets its contract.
 -- Assumes nothing.
 use borrow.Author.Needs.{needs}
-use Rattle.buckets.specs.Held.{noHead}
+use Rattle.buckets.specs.Inner.Held.{noHead}
 use Rattle.buckets.proofs.reader.misprinted.Statement.{statement}
 use Rattle.buckets.proofs.reader.misprinted.Tie as tie
 
@@ -10,4 +10,4 @@ unfolding noHead
 returns c = rw (c .no-index .ensures)
 
 pub misprinted-spec : {M : Type 1} → statement M
-misprinted-spec = tie.close (tie.spec (λ c κs. search needs) returns)
+misprinted-spec = tie.close (tie.spec (search needs) returns)

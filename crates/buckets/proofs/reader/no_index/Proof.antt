@@ -1,7 +1,7 @@
 -- `buckets::reader::no_index` meets its contract: every place holds 0.
 -- Assumes nothing.
 use mathlib.Core.Path.{refl}
-use Rattle.buckets.specs.Held.{filled, heldIndex}
+use Rattle.buckets.specs.Inner.Held.{filled, heldIndex}
 use Rattle.buckets.proofs.reader.no_index.Statement.{statement}
 use Rattle.buckets.proofs.reader.no_index.Tie as tie
 

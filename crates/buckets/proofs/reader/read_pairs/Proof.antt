@@ -7,18 +7,18 @@ use mathlib.Core.Logic.{⊎-elim}
 use mathlib.Core.List.{List, [], _∷_, _++_}
 use native.Mathlib.Numerals.{add-one}
 use native.Mathlib.Omega.{arith}
-use lib.ListN.{length, take, drop, set}
+use lib.ListN.{length, take, drop, set, length-take, length-drop}
 use borrow.Author.Needs.{needs}
+use Rattle.columns.proofs.Rows.{_▹_, _▹₅_, _▹₆_}
 use Rattle.buckets.specs.declared.reader.PairRead.{PairRead}
 use Rattle.buckets.specs.declared.reader.Pairs.{Pairs}
 use Rattle.buckets.specs.Bucket.{Pair}
-use Rattle.buckets.specs.Held.{filled, tagOr0, firstBlank}
-use Rattle.buckets.specs.Columns.{readPair, readPairs}
-use Rattle.buckets.specs.Read.{asPairRead, heldPairs}
+use Rattle.buckets.specs.Inner.Held.{filled, tagOr0, firstBlank}
+use Rattle.buckets.specs.Inner.Columns.{readPair, readPairs}
+use Rattle.buckets.specs.Inner.Read.{asPairRead, heldPairs}
 use Rattle.buckets.specs.Lengths.{pairsMost, entryWidth}
-use Rattle.buckets.proofs.Answers.{good-found, good-none}
-use Rattle.buckets.proofs.Progress.{ReadSoFar, nothing-yet, one-more, not-blank-behind, item-misprinted, all-held}
-use Rattle.buckets.proofs.Progress.{filled-more, part-length}
+use Rattle.buckets.proofs.Answers.{good-found, good-none, pair-flag}
+use Rattle.buckets.proofs.Progress.{ReadSoFar, nothing-yet, one-more, not-blank-behind, item-misprinted, all-held, filled-more}
 use Rattle.buckets.proofs.reader.read_pairs.Statement.{statement}
 use Rattle.buckets.proofs.reader.read_pairs.Tie as tie
 
@@ -47,7 +47,7 @@ next-pair : (n c : ℕ) (s : List ℕ) (blank now-blank : Bool) (tags distances 
     → ReadSoFar heldPairs (readPair n) after entryWidth c s
     (arrays now-blank (set tags i (r .tag)) (set distances i (r .distance))) (i + 1) (i + 1)
 next-pair n c s blank now-blank tags distances i r so h few e g blank-more =
-    let (p, found, told) = good-found asPairRead (λ (x : PairRead). x .good) refl (λ x. refl) r _ e g in
+    let (p, found, told) = good-found pair-flag r _ e g in
     let held : Pairs = arrays now-blank (set tags i (r .tag)) (set distances i (r .distance)) in
     subst (λ (m : ℕ). ReadSoFar heldPairs (readPair n) after entryWidth c s held m (i + 1)) (sym (add-one i))
     (one-more heldPairs (readPair n) after entryWidth c s so h found
@@ -65,37 +65,14 @@ Inv-loop part count n used blank₀ tags₀ distances₀ i₀ blank tags distanc
 abbrev μ-loop : tie.MeasureT-loop
 μ-loop part count n used blank₀ tags₀ distances₀ i₀ blank tags distances i = count - i
 
-returns : tie.Need-returns Inv-loop μ-loop
-unfolding readPairs
-returns c =
-    let test = c .before .before .all-blank .ensures in
-    c .no-pairs .ensures ∙ not-blank-behind heldPairs (readPair _) after entryWidth _ _ test (c .before .if1 .taken)
-
-loop-holds : tie.Need-loop-holds Inv-loop μ-loop
-unfolding filled
-loop-holds c = nothing-yet heldPairs (readPair _) after entryWidth _ _ refl
-
-read-pair-requires : tie.Need-read-pair-requires Inv-loop μ-loop
-read-pair-requires c κs =
-    let turn = c .before in
-    let i = turn .before .loop .i in
-    let s = turn .before .before .before .before .before .before .args .part .now in
-    let room : i * entryWidth + entryWidth ≤ length s = omega arith in
-    part-length (i * entryWidth) entryWidth s room
-
-returns-2 : tie.Need-returns-2 Inv-loop μ-loop
-unfolding readPairs
-returns-2 c =
-    let read = c .before .before .before in
-    let turn = read .before .before in
-    let passed = turn .before .before in
-    c .no-pairs2 .ensures
-    ∙ item-misprinted heldPairs (readPair _) after entryWidth _ _ (passed .before .all-blank .ensures) (passed .if1 .left)
-    (turn .before .loop .inv) (turn .loop-test .taken)
-    (good-none asPairRead (λ (x : PairRead). x .good) refl (λ x. refl) _ _ (read .read-pair .ensures) (c .before .if2 .taken))
-
-loop-again : tie.Need-loop-again Inv-loop μ-loop
-loop-again c =
+pub read-pairs-spec : {M : Type 1} → statement M
+unfolding readPairs filled
+read-pairs-spec =
+    tie.close
+    (tie.spec Inv-loop μ-loop ▹₆ search needs ▹ (λ c. search (not-blank-behind heldPairs)) ▹ (λ c. search (nothing-yet heldPairs))
+    ▹₅ omega arith ▹ (λ c κs. simp (length-take, length-drop) (omega arith)) ▹ search needs
+    ▹ (λ c. search (item-misprinted heldPairs, good-none pair-flag)) ▹₆ omega arith
+    ▹ (λ c.
     let passed = c .before in
     let read = passed .before .before in
     let turn = read .before .before in
@@ -104,42 +81,5 @@ loop-again c =
     (λ xs p count held told.
     ⊎-elim (λ w. w .1 ∙ told ∙ sym (first-told xs p (count ∙ w .0 .taken)))
     (λ w. w .1 ∙ held ∙ sym (later-passed xs p (λ z. w .0 .left (sym count ∙ z))))
-    (c .if3 .came))
-
-returns-3 : tie.Need-returns-3 Inv-loop μ-loop
-unfolding readPairs
-returns-3 c =
-    let passed = c .before .before in
-    all-held heldPairs (readPair _) after entryWidth _ _ (passed .before .all-blank .ensures) (passed .if1 .left)
-    (c .before .loop .inv) (c .loop-test .left)
-
-pub read-pairs-spec : {M : Type 1} → statement M
-read-pairs-spec =
-    tie.close
-    (tie.spec
-    Inv-loop
-    μ-loop
-    (λ c. omega arith)
-    (λ c. omega arith)
-    (λ c. omega arith)
-    (λ c. omega arith)
-    (λ c κs. search needs)
-    (λ c κs. search needs)
-    returns
-    loop-holds
-    (λ c. omega arith)
-    (λ c. omega arith)
-    (λ c. omega arith)
-    (λ c. omega arith)
-    (λ c. omega arith)
-    read-pair-requires
-    (λ c κs. search needs)
-    returns-2
-    (λ c. omega arith)
-    (λ c. omega arith)
-    (λ c. omega arith)
-    (λ c. omega arith)
-    (λ c. omega arith)
-    (λ c. omega arith)
-    loop-again
-    returns-3)
+    (c .if3 .came)))
+    ▹ (λ c. search (all-held heldPairs)))

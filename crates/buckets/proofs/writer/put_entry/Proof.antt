@@ -9,7 +9,7 @@ use borrow.Author.Needs.{needs}
 use Rattle.columns.specs.Lists.{put}
 use Rattle.columns.specs.PrintedNumbers.{print, blanks}
 use Rattle.columns.proofs.Put.{length-part, length-put, put-part, put-put, part-behind}
-use Rattle.buckets.specs.Held.{entryStart, EntryBlank}
+use Rattle.buckets.specs.Inner.Held.{entryStart, EntryBlank}
 use Rattle.buckets.specs.Lengths.{tagWidth, placeWidth, distanceStart, entryWidth, entriesMost, bucketLength}
 use Rattle.buckets.proofs.writer.put_entry.Statement.{statement}
 use Rattle.buckets.proofs.writer.put_entry.Tie as tie

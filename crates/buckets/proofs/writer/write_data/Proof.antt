@@ -6,11 +6,12 @@ use mathlib.Core.List.{List, [], _∷_, _++_}
 use lib.Dec.{lit≤}
 use lib.ListN.{length, take, drop, set, length-append}
 use borrow.Author.Needs.{needs}
+use Rattle.columns.proofs.Rows.{_▹_, _▹₃_, _▹₄_}
 use Rattle.columns.specs.Lists.{joined, padded}
 use Rattle.columns.specs.PrintedNumbers.{blanks}
 use Rattle.columns.proofs.FromTheRight.{length-blanks}
 use Rattle.columns.proofs.Padded.{padded-nil, lent-blank, back-padded}
-use Rattle.buckets.specs.ListLine.{figures, listLines}
+use Rattle.buckets.specs.ListLine.{lineColumns, listLines}
 use Rattle.buckets.specs.Lengths.{newline, letterData, lineLength, positionStart, headWidth, bucketEnd, bucketLength}
 use Rattle.buckets.specs.Lengths.{linesStart, linesWidth}
 use Rattle.buckets.proofs.Lists.{length-listLines}
@@ -35,11 +36,11 @@ start2 c = start0 (blank1 (head2 c))
 abbrev front1 : tie.Start → List ℕ
 front1 s = frontOf (s .args .head) (s .args .follow-on) letterData 0 (length (s .args .lines .now) / lineLength)
 
-abbrev lineColumns : tie.Start → List ℕ
-lineColumns s = padded linesWidth (joined figures (listLines (s .args .lines .now)))
+abbrev linesColumns : tie.Start → List ℕ
+linesColumns s = padded linesWidth (joined lineColumns (listLines (s .args .lines .now)))
 
 abbrev front2 : tie.Start → List ℕ
-front2 s = front1 s ++ lineColumns s
+front2 s = front1 s ++ linesColumns s
 
 -- the columns themselves
 abbrev columns1 : tie.After-write-head → List ℕ
@@ -57,48 +58,21 @@ filled1 c = back-padded bucketLength positionStart headWidth [] (blanked (blank1
 lent2 : (c : tie.After-write-head) → take linesWidth (drop linesStart (columns1 c)) ≡ blanks linesWidth
 lent2 c = lent-blank bucketLength linesStart linesWidth (front1 (start0 (blank1 c))) (filled1 c) refl (lit≤ tt)
 
-lines-wide : (c : tie.After-write-lines) → length (lineColumns (start2 c)) ≡ linesWidth
+lines-wide : (c : tie.After-write-lines) → length (linesColumns (start2 c)) ≡ linesWidth
 lines-wide c = sym (ap length (c .write-lines .ensures)) ∙ c .write-lines .kept .0 ∙ ap length (lent2 (head2 c)) ∙ length-blanks linesWidth
 
 filled2 : (c : tie.After-write-lines) → columns2 c ≡ padded bucketLength (front2 (start2 c))
 filled2 c =
-    back-padded bucketLength linesStart linesWidth (front1 (start2 c)) (filled1 (head2 c)) refl (lit≤ tt) (lineColumns (start2 c)) (c .write-lines .ensures) (lines-wide c)
+    back-padded bucketLength linesStart linesWidth (front1 (start2 c)) (filled1 (head2 c)) refl (lit≤ tt) (linesColumns (start2 c)) (c .write-lines .ensures) (lines-wide c)
 
 to-newline : (c : tie.After-write-lines) → length (front2 (start2 c)) ≡ bucketEnd
-to-newline c = length-append (front1 (start2 c)) (lineColumns (start2 c)) ∙ ap (λ (k : ℕ). headWidth + k) (lines-wide c)
+to-newline c = length-append (front1 (start2 c)) (linesColumns (start2 c)) ∙ ap (λ (k : ℕ). headWidth + k) (lines-wide c)
 
 whole : (c : tie.After-write-lines) → set (columns2 c) bucketEnd newline ≡ front2 (start2 c) ++ newline ∷ []
 whole c = newline-filled (front2 (start2 c)) (filled2 c) (to-newline c)
 
-print-blanks-requires : tie.Need-print-blanks-requires
-print-blanks-requires c κs = search needs
-
-sub-write-head : tie.Need-sub-write-head
-sub-write-head c = search needs
-
-part-write-head-start : tie.Need-part-write-head-start
-part-write-head-start c = search needs
-
-part-write-head-end : tie.Need-part-write-head-end
-part-write-head-end c = search needs
-
 write-head-requires : tie.Need-write-head-requires
 write-head-requires c κs = lent-blank bucketLength positionStart headWidth [] (blanked (c .before .before .before)) refl (lit≤ tt)
-
-sub-write-lines : tie.Need-sub-write-lines
-sub-write-lines c = search needs
-
-part-write-lines-start : tie.Need-part-write-lines-start
-part-write-lines-start c = search needs
-
-part-write-lines-end : tie.Need-part-write-lines-end
-part-write-lines-end c = search needs
-
-write-lines-requires : tie.Need-write-lines-requires
-write-lines-requires c κs = let p = c .before .before .before in (lent2 p, start0 (blank1 p) .pre .1)
-
-slice-write-part : tie.Need-slice-write-part
-slice-write-part c = search needs
 
 same-length : tie.Need-same-length
 same-length c =
@@ -116,16 +90,6 @@ returns c =
 pub write-data-spec : {M : Type 1} → statement M
 write-data-spec =
     tie.close
-    (tie.spec
-    print-blanks-requires
-    sub-write-head
-    part-write-head-start
-    part-write-head-end
-    write-head-requires
-    sub-write-lines
-    part-write-lines-start
-    part-write-lines-end
-    write-lines-requires
-    slice-write-part
-    same-length
-    returns)
+    (tie.spec ▹₄ search needs ▹ write-head-requires ▹₃ search needs
+    ▹ (λ c κs. let p = c .before .before .before in (lent2 p, start0 (blank1 p) .pre .1)) ▹ search needs ▹ same-length
+    ▹ returns)

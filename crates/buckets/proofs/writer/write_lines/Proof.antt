@@ -6,17 +6,18 @@ use mathlib.Core.List.{List, [], _++_}
 use native.Mathlib.Omega.{arith}
 use lib.ListN.{length, take, drop, getD}
 use lib.Seq.{take-length}
+use Rattle.columns.proofs.Rows.{_▹_, _▹₂_}
 use Rattle.columns.specs.Lists.{joined, padded}
 use Rattle.columns.proofs.FromTheRight.{length-blanks}
 use Rattle.columns.proofs.Printed.{length-padded}
 use Rattle.columns.proofs.Put.{length-part}
 use Rattle.columns.proofs.Padded.{padded-nil, back-padded}
 use Rattle.buckets.specs.declared.Line.{Line}
-use Rattle.buckets.specs.ListLine.{figures, printLine, spelled, listLines}
-use Rattle.buckets.specs.Lengths.{figuresWidth, lineLength, bucketLinesMost, linesWidth}
-use Rattle.buckets.proofs.ListLines.{length-figures}
+use Rattle.buckets.specs.ListLine.{lineColumns, printLine, spelled, listLines}
+use Rattle.buckets.specs.Lengths.{lineColumnsWidth, lineLength, bucketLinesMost, linesWidth}
+use Rattle.buckets.proofs.ListLines.{length-line-columns}
 use Rattle.buckets.proofs.Lists.{length-listLines, print-of-list}
-use Rattle.buckets.proofs.Fronts.{linesTo, length-lines-to, line-written, figures-at}
+use Rattle.buckets.proofs.Fronts.{linesTo, length-lines-to, line-written, line-columns-at}
 use Rattle.buckets.proofs.writer.write_lines.Statement.{statement}
 use Rattle.buckets.proofs.writer.write_lines.Tie as tie
 
@@ -31,7 +32,7 @@ record Front (s part : List ℕ) (from at : ℕ) : Type 0 where
   i : ℕ
   within : i ≤ length (listLines s)
   source : from ≡ i * lineLength
-  place : at ≡ i * figuresWidth
+  place : at ≡ i * lineColumnsWidth
   is : part ≡ padded linesWidth (linesTo (listLines s) i)
 
 module _ (s part : List ℕ) (from at : ℕ) (l : Printed s) (o : Front s part from at) where
@@ -41,7 +42,7 @@ module _ (s part : List ℕ) (from at : ℕ) (l : Printed s) (o : Front s part f
   long : length part ≡ linesWidth
   long = ap length (o .is) ∙ length-padded linesWidth (linesTo (listLines s) (o .i)) (omega (arith, wide, o .place, o .within, l .count, l .few))
 
-  done : length s ≤ from → part ≡ padded linesWidth (joined figures (listLines s))
+  done : length s ≤ from → part ≡ padded linesWidth (joined lineColumns (listLines s))
   done h =
       let end : o .i ≡ length (listLines s) = omega (arith, o .within, o .source, l .count) in
       o .is ∙ rw (end, take-length (listLines s))
@@ -51,26 +52,26 @@ module _ (s part : List ℕ) (from at : ℕ) (l : Printed s) (o : Front s part f
   more : o .i < length (listLines s)
   more = omega (arith, o .source, l .count)
 
-  source-end : from + figuresWidth ≤ length s
+  source-end : from + lineColumnsWidth ≤ length s
   source-end = omega (arith, o .source, l .count)
 
-  place-end : at + figuresWidth ≤ linesWidth
+  place-end : at + lineColumnsWidth ≤ linesWidth
   place-end = omega (arith, more, o .place, l .count, l .few)
 
-  lent-width : (k : ℕ) → k + figuresWidth - k ≡ figuresWidth
+  lent-width : (k : ℕ) → k + lineColumnsWidth - k ≡ lineColumnsWidth
   lent-width k = omega arith
 
-  as-wide : length (take (from + figuresWidth - from) (drop from s)) ≡ length (take (at + figuresWidth - at) (drop at part))
+  as-wide : length (take (from + lineColumnsWidth - from) (drop from s)) ≡ length (take (at + lineColumnsWidth - at) (drop at part))
   as-wide =
       rw (lent-width from, lent-width at)
-      (length-part s from figuresWidth source-end ∙ sym (length-part part at figuresWidth (omega (arith, long s part from at l o, place-end))))
+      (length-part s from lineColumnsWidth source-end ∙ sym (length-part part at lineColumnsWidth (omega (arith, long s part from at l o, place-end))))
 
-  next : {last : List ℕ} → last ≡ take (from + figuresWidth - from) (drop from s) →
-      Front s (take at part ++ (last ++ drop (at + figuresWidth - at) (drop at part))) (from + lineLength) (at + figuresWidth)
+  next : {last : List ℕ} → last ≡ take (from + lineColumnsWidth - from) (drop from s) →
+      Front s (take at part ++ (last ++ drop (at + lineColumnsWidth - at) (drop at part))) (from + lineLength) (at + lineColumnsWidth)
   next {last} e =
       let none : Line = spelled [] in
-      let line : last ≡ figures (getD (listLines s) (o .i) none) =
-      e ∙ rw (lent-width from, o .source) (figures-at s (listLines s) none (o .i) (l .is) more) in
+      let line : last ≡ lineColumns (getD (listLines s) (o .i) none) =
+      e ∙ rw (lent-width from, o .source) (line-columns-at s (listLines s) none (o .i) (l .is) more) in
       record {
         i = o .i + 1;
         within = omega (arith, more);
@@ -78,8 +79,8 @@ module _ (s part : List ℕ) (from at : ℕ) (l : Printed s) (o : Front s part f
         place = omega (arith, o .place);
         is =
             rw (lent-width at)
-            (back-padded linesWidth at figuresWidth (linesTo (listLines s) (o .i)) (o .is) (wide s part from at l o) place-end (figures (getD (listLines s) (o .i) none))
-            line (length-figures (getD (listLines s) (o .i) none)))
+            (back-padded linesWidth at lineColumnsWidth (linesTo (listLines s) (o .i)) (o .is) (wide s part from at l o) place-end (lineColumns (getD (listLines s) (o .i) none))
+            line (length-line-columns (getD (listLines s) (o .i) none)))
             ∙ ap (padded linesWidth) (line-written (listLines s) none (o .i) more);
       }
 
@@ -105,7 +106,7 @@ printed s =
 record Ends (s part : List ℕ) (from at : ℕ) : Type 0 where
   source : from + lineLength ≤ length s
   few : length s ≤ bucketLinesMost * lineLength
-  place : at + figuresWidth ≤ linesWidth
+  place : at + lineColumnsWidth ≤ linesWidth
   long : length part ≡ linesWidth
 
 ends : (c : tie.In-loop Inv-loop μ-loop) →
@@ -123,43 +124,10 @@ ends c =
 loop-holds : tie.Need-loop-holds Inv-loop μ-loop
 loop-holds c = record { i = 0; within = omega arith; source = refl; place = refl; is = c .before .before .pre .0 ∙ sym (padded-nil linesWidth) }
 
-add-copy-columns : tie.Need-add-copy-columns Inv-loop μ-loop
-add-copy-columns c = omega (arith, ends c)
-
-sub-copy-columns : tie.Need-sub-copy-columns Inv-loop μ-loop
-sub-copy-columns c = omega arith
-
-part-copy-columns-start : tie.Need-part-copy-columns-start Inv-loop μ-loop
-part-copy-columns-start c = omega arith
-
-part-copy-columns-end : tie.Need-part-copy-columns-end Inv-loop μ-loop
-part-copy-columns-end c = omega (arith, ends c)
-
-add-copy-columns-2 : tie.Need-add-copy-columns-2 Inv-loop μ-loop
-add-copy-columns-2 c = omega (arith, ends (c .before))
-
-sub-copy-columns-2 : tie.Need-sub-copy-columns-2 Inv-loop μ-loop
-sub-copy-columns-2 c = omega arith
-
-part-copy-columns-start-2 : tie.Need-part-copy-columns-start-2 Inv-loop μ-loop
-part-copy-columns-start-2 c = omega arith
-
-part-copy-columns-end-2 : tie.Need-part-copy-columns-end-2 Inv-loop μ-loop
-part-copy-columns-end-2 c = omega (arith, ends (c .before))
-
 copy-columns-requires : tie.Need-copy-columns-requires Inv-loop μ-loop
 copy-columns-requires c κs =
     let t = c .before .before in
     as-wide _ _ _ _ (printed (start (t .before))) (t .before .loop .inv) (t .loop-test .taken)
-
-add-from : tie.Need-add-from Inv-loop μ-loop
-add-from c = omega (arith, ends (c .before .before .before .before .before))
-
-add-at : tie.Need-add-at Inv-loop μ-loop
-add-at c = omega (arith, ends (c .before .before .before .before .before))
-
-loop-less : tie.Need-loop-less Inv-loop μ-loop
-loop-less c = omega (arith, ends (c .before .before .before .before .before))
 
 loop-again : tie.Need-loop-again Inv-loop μ-loop
 loop-again c =
@@ -171,28 +139,13 @@ same-length c =
     let s = start (c .before) in
     long _ _ _ _ (printed s) (c .before .loop .inv) ∙ sym (ap length (s .pre .0) ∙ length-blanks linesWidth)
 
-returns : tie.Need-returns Inv-loop μ-loop
-returns c = done _ _ _ _ (printed (start (c .before))) (c .before .loop .inv) (c .loop-test .left)
-
 pub write-lines-spec : {M : Type 1} → statement M
 write-lines-spec =
     tie.close
-    (tie.spec
-    Inv-loop
-    μ-loop
-    loop-holds
-    add-copy-columns
-    sub-copy-columns
-    part-copy-columns-start
-    part-copy-columns-end
-    add-copy-columns-2
-    sub-copy-columns-2
-    part-copy-columns-start-2
-    part-copy-columns-end-2
-    copy-columns-requires
-    add-from
-    add-at
-    loop-less
-    loop-again
-    same-length
-    returns)
+    (tie.spec Inv-loop μ-loop ▹ loop-holds ▹ (λ c. omega (arith, ends c)) ▹₂ omega arith
+    ▹ (λ c. omega (arith, ends c)) ▹ (λ c. omega (arith, ends (c .before))) ▹₂ omega arith
+    ▹ (λ c. omega (arith, ends (c .before))) ▹ copy-columns-requires
+    ▹ (λ c. omega (arith, ends (c .before .before .before .before .before)))
+    ▹ (λ c. omega (arith, ends (c .before .before .before .before .before)))
+    ▹ (λ c. omega (arith, ends (c .before .before .before .before .before))) ▹ loop-again ▹ same-length
+    ▹ (λ c. done _ _ _ _ (printed (start (c .before))) (c .before .loop .inv) (c .loop-test .left)))

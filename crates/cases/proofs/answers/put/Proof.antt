@@ -1,5 +1,5 @@
 -- `cases::answers::put` meets its contract: a u64 has at most 20 digits. Assumes nothing.
-use Prim.Native.Nat.{ℕ, _+_, _-_, _^_, _≤_, _<_}
+use Prim.Native.Nat.{ℕ, _-_, _^_, _≤_, _<_}
 use mathlib.Core.Path.{_≡_, refl}
 use mathlib.Core.Bool.{Bool, true, false}
 use native.Mathlib.Nat.{pow-le-pow-right}
@@ -30,12 +30,9 @@ put-spec =
     (tie.spec
     (λ c κs. search needs)
     (λ c. omega (arith, few c))
-    (λ c. search needs)
-    (λ c. search needs)
+    (λ c. search needs) (λ c. search needs)
     (λ c. omega (arith, few c))
-    (λ c. search needs)
-    (λ c. search needs)
-    (λ c κs. search needs)
+    (λ c. search needs) (λ c. search needs) (λ c κs. search needs)
     (λ c. omega (arith, few (c .before .before .before .before .before)))
     (λ c. omega (arith, few (c .before .before .before .before .before)))
     (λ c. search needs)

@@ -14,65 +14,14 @@ Inv-loop numbers line₀ at₀ i₀ line at i = (length line ≡ 147) × (i ≤ 
 abbrev μ-loop : tie.MeasureT-loop
 μ-loop numbers line₀ at₀ i₀ line at i = length numbers - i
 
-loop-holds : tie.Need-loop-holds Inv-loop μ-loop
-loop-holds c = omega arith
-
-slice-aggregate-put : tie.Need-slice-aggregate-put Inv-loop μ-loop
-slice-aggregate-put c = omega arith
-
-mul-put : tie.Need-mul-put Inv-loop μ-loop
-mul-put c = omega arith
-
-shared-slice-read-put : tie.Need-shared-slice-read-put Inv-loop μ-loop
-shared-slice-read-put c = omega arith
-
-put-requires : tie.Need-put-requires Inv-loop μ-loop
-put-requires c κs = omega arith
-
-add-i : tie.Need-add-i Inv-loop μ-loop
-add-i c = omega arith
-
-loop-less : tie.Need-loop-less Inv-loop μ-loop
-loop-less c = omega arith
-
-loop-again : tie.Need-loop-again Inv-loop μ-loop
-loop-again c = omega (arith, c .before .put .kept .0)
-
-sub-line : tie.Need-sub-line Inv-loop μ-loop
-sub-line c = omega arith
-
-array-write-line : tie.Need-array-write-line Inv-loop μ-loop
-array-write-line c = omega arith
-
-array-share-prefix-line : tie.Need-array-share-prefix-line Inv-loop μ-loop
-array-share-prefix-line c = simp length-set (omega arith)
-
-slice-aggregate-write-all : tie.Need-slice-aggregate-write-all Inv-loop μ-loop
-slice-aggregate-write-all c = front _ _ (simp length-set (omega arith))
-
-write-all-requires : tie.Need-write-all-requires Inv-loop μ-loop
-write-all-requires c κs = tt
-
-returns : tie.Need-returns Inv-loop μ-loop
-returns c = tt
-
 pub say-spec : {M : Type 1} → statement M
 say-spec =
     tie.close
-    (tie.spec
-    Inv-loop
-    μ-loop
-    loop-holds
-    slice-aggregate-put
-    mul-put
-    shared-slice-read-put
-    put-requires
-    add-i
-    loop-less
-    loop-again
-    sub-line
-    array-write-line
-    array-share-prefix-line
-    slice-aggregate-write-all
-    write-all-requires
-    returns)
+    (tie.spec Inv-loop μ-loop
+    (λ c. omega arith) (λ c. omega arith) (λ c. omega arith) (λ c. omega arith) (λ c κs. omega arith)
+    (λ c. omega arith) (λ c. omega arith)
+    (λ c. omega (arith, c .before .put .kept .0))
+    (λ c. omega arith) (λ c. omega arith)
+    (λ c. simp length-set (omega arith))
+    (λ c. front _ _ (simp length-set (omega arith)))
+    (λ c κs. tt) (λ c. tt))

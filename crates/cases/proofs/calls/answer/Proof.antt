@@ -5,20 +5,10 @@ use Rattle.io.proofs.Counting.{front}
 use Rattle.cases.proofs.calls.answer.Statement.{statement}
 use Rattle.cases.proofs.calls.answer.Tie as tie
 
-slice-aggregate-part : tie.Need-slice-aggregate-part
-slice-aggregate-part c = front _ _ (omega arith)
-
 pub answer-spec : {M : Type 1} → statement M
 answer-spec =
     tie.close
     (tie.spec
-    (λ c κs. tt)
-    (λ c. search needs)
-    (λ c κs. tt)
-    (λ c. tt)
-    (λ c. omega arith)
-    slice-aggregate-part
-    (λ c κs. tt)
-    (λ c κs. tt)
-    (λ c. search needs)
-    (λ c. tt))
+    (λ c κs. tt) (λ c. search needs) (λ c κs. tt) (λ c. tt) (λ c. omega arith)
+    (λ c. front _ _ (omega arith))
+    (λ c κs. tt) (λ c κs. tt) (λ c. search needs) (λ c. tt))

@@ -36,52 +36,20 @@ loop-holds c =
     let none : c .args .at - c .args .at ≡ 0 = omega arith in
     (omega arith, omega arith, rw none (lit< tt))
 
-element-copy-out-c : tie.Need-element-copy-out-c Inv-loop μ-loop
-element-copy-out-c c = omega arith
-
-returns : tie.Need-returns Inv-loop μ-loop
-returns c = tt
-
-returns-2 : tie.Need-returns-2 Inv-loop μ-loop
-returns-2 c = tt
-
-mul-x : tie.Need-mul-x Inv-loop μ-loop
-mul-x c = omega (arith, small (c .before .before .before .before) (omega arith))
-
-cast-x : tie.Need-cast-x Inv-loop μ-loop
-cast-x c = omega arith
-
-add-x : tie.Need-add-x Inv-loop μ-loop
-add-x c = omega (arith, small (c .before .before .before .before) (omega arith))
-
-add-i : tie.Need-add-i Inv-loop μ-loop
-add-i c = omega arith
-
-loop-less : tie.Need-loop-less Inv-loop μ-loop
-loop-less c = omega arith
-
 loop-again : tie.Need-loop-again Inv-loop μ-loop
 loop-again c =
     let s = c .before .before .before .before in
     (omega arith, omega arith, digit-more (s .before .args .at) (s .loop .i) (s .loop .x) _ (s .loop .inv .0) (s .loop .inv .2) (omega arith))
 
-returns-3 : tie.Need-returns-3 Inv-loop μ-loop
-returns-3 c = tt
-
 pub digits-spec : {M : Type 1} → statement M
 digits-spec =
     tie.close
-    (tie.spec
-    Inv-loop
-    μ-loop
+    (tie.spec Inv-loop μ-loop
     loop-holds
-    element-copy-out-c
-    returns
-    returns-2
-    mul-x
-    cast-x
-    add-x
-    add-i
-    loop-less
+    (λ c. omega arith) (λ c. tt) (λ c. tt)
+    (λ c. omega (arith, small (c .before .before .before .before) (omega arith)))
+    (λ c. omega arith)
+    (λ c. omega (arith, small (c .before .before .before .before) (omega arith)))
+    (λ c. omega arith) (λ c. omega arith)
     loop-again
-    returns-3)
+    (λ c. tt))

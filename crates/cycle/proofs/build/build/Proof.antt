@@ -8,8 +8,8 @@ use Rattle.cycle.specs.Tree.{Settings, settings}
 use Rattle.cycle.specs.Judging.{judge}
 use Rattle.cycle.specs.declared.Figures.{Figures}
 use Rattle.cycle.specs.declared.Judged.the-variants.{Cycle}
-use Rattle.cycle.proofs.Telling.{judged-told}
-use Rattle.cycle.proofs.Answering.{builds-refusal, sending-judged, builds-judged}
+use Rattle.cycle.proofs.Basics.Telling.{judged-told}
+use Rattle.cycle.proofs.Building.Answering.{builds-refusal, sending-judged, builds-judged}
 use Rattle.cycle.proofs.build.build.Statement.{statement}
 use Rattle.cycle.proofs.build.build.Tie as tie
 
@@ -60,9 +60,7 @@ pub build-spec : {M : Type 1} → statement M
 build-spec =
     tie.close
     (tie.spec
-    (λ c κs. search needs)
-    (λ c. search needs)
-    (λ c. search needs)
+    (λ c κs. search needs) (λ c. search needs) (λ c. search needs)
     write-cycle-requires
     returns
     (λ c. search needs)

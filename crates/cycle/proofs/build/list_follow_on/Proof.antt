@@ -9,12 +9,13 @@ use native.Mathlib.Omega.{arith}
 use borrow.Author.Tests.{ne-eqb, eq-eqb}
 use Rattle.columns.specs.Lists.{pick}
 use Rattle.buckets.specs.Lengths.{tagWidth, lineLength, linesMost}
-use Rattle.cycle.specs.Held.{planOf, firstPlace, tagAt}
+use Rattle.cycle.specs.Cycle.{firstPlace}
+use Rattle.cycle.specs.Inner.Held.{planOf, tagAt}
 use Rattle.cycle.specs.declared.Figures.{Figures}
 use Rattle.cycle.specs.declared.Source.the-variants.{List as InList}
-use Rattle.cycle.proofs.Readiness.{data-high}
-use Rattle.cycle.proofs.PrintedTags.{same-columns, other-columns}
-use Rattle.cycle.proofs.SentLines.{full-lines, follow-last, follow-next, follow-far}
+use Rattle.cycle.proofs.Trees.Readiness.{data-high}
+use Rattle.cycle.proofs.Lines.PrintedTags.{same-columns, other-columns}
+use Rattle.cycle.proofs.Lines.FollowOns.{full-lines, follow-last, follow-next, follow-far}
 use Rattle.cycle.proofs.build.list_follow_on.Statement.{statement}
 use Rattle.cycle.proofs.build.list_follow_on.Tie as tie
 
@@ -48,18 +49,6 @@ lines c =
       whole = s .pre .0 .whole;
       before = omega arith;
     }
-
-mul-at : tie.Need-mul-at
-mul-at c = omega (arith, lines c)
-
-mul-at-2 : tie.Need-mul-at-2
-mul-at-2 c = omega (arith, lines c)
-
-sub-same-tags : tie.Need-sub-same-tags
-sub-same-tags c = omega (arith, lines c)
-
-same-tags-requires : tie.Need-same-tags-requires
-same-tags-requires c κs = (omega (arith, lines c), omega (arith, lines c))
 
 data-place-requires : tie.Need-data-place-requires
 data-place-requires c κs =
@@ -115,10 +104,10 @@ list-follow-on-spec =
     (tie.spec
     add-next
     returns
-    mul-at
-    mul-at-2
-    sub-same-tags
-    same-tags-requires
+    (λ c. omega (arith, lines c))
+    (λ c. omega (arith, lines c))
+    (λ c. omega (arith, lines c))
+    (λ c κs. (omega (arith, lines c), omega (arith, lines c)))
     data-place-requires
     sub-result
     returns-2

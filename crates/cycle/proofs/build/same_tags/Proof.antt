@@ -9,7 +9,7 @@ use lib.ListN.{length, take, drop, getD}
 use lib.Seq.{getD-take, getD-drop, ext-getD}
 use Rattle.columns.proofs.Put.{length-part}
 use Rattle.buckets.specs.Lengths.{tagWidth}
-use Rattle.cycle.proofs.Deciding.{decides-no, decides-yes}
+use Rattle.cycle.proofs.Basics.Deciding.{decides-no, decides-yes}
 use Rattle.cycle.proofs.build.same_tags.Statement.{statement}
 use Rattle.cycle.proofs.build.same_tags.Tie as tie
 
@@ -23,24 +23,6 @@ abbrev μ-loop : tie.MeasureT-loop
 column : (s : List ℕ) (a k : ℕ) → k < tagWidth → getD (take tagWidth (drop a s)) k 0 ≡ getD s (a + k) 0
 column s a k h = getD-take tagWidth (drop a s) k 0 h ∙ getD-drop a s k 0
 
-loop-holds : tie.Need-loop-holds Inv-loop μ-loop
-loop-holds c = (omega arith, λ k l h. absurd (omega arith))
-
-sub-i : tie.Need-sub-i Inv-loop μ-loop
-sub-i c = omega arith
-
-add-if1 : tie.Need-add-if1 Inv-loop μ-loop
-add-if1 c = let s = c .before .before in omega (arith, s .pre .0, s .good .0 .0)
-
-shared-slice-read-if1 : tie.Need-shared-slice-read-if1 Inv-loop μ-loop
-shared-slice-read-if1 c = let s = c .before .before .before in omega (arith, s .pre .0)
-
-add-if1-2 : tie.Need-add-if1-2 Inv-loop μ-loop
-add-if1-2 c = let s = c .before .before .before in omega (arith, s .pre .1, s .good .0 .0)
-
-shared-slice-read-if1-2 : tie.Need-shared-slice-read-if1-2 Inv-loop μ-loop
-shared-slice-read-if1-2 c = let s = c .before .before .before .before in omega (arith, s .pre .1)
-
 returns : tie.Need-returns Inv-loop μ-loop
 returns c =
     let l = c .before .before .before .before .loop in
@@ -53,9 +35,6 @@ returns c =
     (sym (column (s .args .list .now) (s .args .a) k small)
     ∙ ap (λ (t : List ℕ). getD t k 0) e
     ∙ column (s .args .list .now) (s .args .b) k small))
-
-loop-less : tie.Need-loop-less Inv-loop μ-loop
-loop-less c = omega (arith, c .before .before .before .loop-test .taken)
 
 loop-again : tie.Need-loop-again Inv-loop μ-loop
 loop-again c =
@@ -87,16 +66,14 @@ returns-2 c =
 pub same-tags-spec : {M : Type 1} → statement M
 same-tags-spec =
     tie.close
-    (tie.spec
-    Inv-loop
-    μ-loop
-    loop-holds
-    sub-i
-    add-if1
-    shared-slice-read-if1
-    add-if1-2
-    shared-slice-read-if1-2
+    (tie.spec Inv-loop μ-loop
+    (λ c. (omega arith, λ k l h. absurd (omega arith)))
+    (λ c. omega arith)
+    (λ c. let s = c .before .before in omega (arith, s .pre .0, s .good .0 .0))
+    (λ c. let s = c .before .before .before in omega (arith, s .pre .0))
+    (λ c. let s = c .before .before .before in omega (arith, s .pre .1, s .good .0 .0))
+    (λ c. let s = c .before .before .before .before in omega (arith, s .pre .1))
     returns
-    loop-less
+    (λ c. omega (arith, c .before .before .before .loop-test .taken))
     loop-again
     returns-2)

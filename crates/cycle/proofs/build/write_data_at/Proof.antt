@@ -9,12 +9,13 @@ use borrow.Author.Needs.{needs}
 use Rattle.columns.proofs.Put.{length-part}
 use Rattle.buckets.specs.Lengths.{lineLength, linesMost, bucketLinesMost, bucketLength}
 use Rattle.cycle.specs.Layouts.{slot}
-use Rattle.cycle.specs.Held.{planOf, Stand}
-use Rattle.cycle.proofs.Readiness.{data-high}
-use Rattle.cycle.proofs.SegmentParts.{Seated, data-there}
-use Rattle.cycle.proofs.BucketsWritten.{DataText, data-text, data-written}
-use Rattle.cycle.proofs.Written.{lent-written}
-use Rattle.cycle.proofs.Writings.{seats, head-asked, data-in}
+use Rattle.cycle.specs.Inner.Held.{planOf, StandsAt}
+use Rattle.cycle.proofs.Trees.Readiness.{data-high}
+use Rattle.cycle.proofs.Segmenting.SegmentParts.{Seated, data-there}
+use Rattle.cycle.proofs.Building.BucketsWritten.{DataText, data-text, data-written}
+use Rattle.cycle.proofs.Building.Written.{lent-written}
+use Rattle.cycle.proofs.Segmenting.TreePlaces.{head-asked}
+use Rattle.cycle.proofs.Building.Writings.{seats, data-in}
 use Rattle.cycle.proofs.build.write_data_at.Statement.{statement}
 use Rattle.cycle.proofs.build.write_data_at.Tie as tie
 
@@ -22,15 +23,15 @@ seated : (c : tie.Start) → Seated (c .args .f) (c .args .s)
 seated c = seats (c .args .f) (c .args .list .now) (c .args .s) (length (c .args .image .now)) (c .pre .0)
 
 in-data : (c : tie.Start) → c .args .q < c .args .f .d
-in-data c = data-in (c .args .f) (c .args .list .now) (c .args .s) (length (c .args .image .now)) (c .pre .0) (c .args .q) (c .pre .2)
+in-data c = data-in (c .args .f) (c .args .list .now) (c .args .s) (length (c .args .image .now)) (c .pre .0) (c .args .q) (c .pre .1 .high)
 
-stands : (c : tie.Start) → Stand (planOf (c .args .f) []) (c .args .x) (slot (c .args .f .k + 1) (c .args .q) ∷ [])
+stands : (c : tie.Start) → StandsAt (planOf (c .args .f) []) (c .args .x) (slot (c .args .f .k + 1) (c .args .q) ∷ [])
 stands c =
-    subst (λ y. Stand (planOf (c .args .f) []) y (slot (c .args .f .k + 1) (c .args .q) ∷ [])) (sym (c .pre .3))
-    (data-there (c .args .f) (c .args .s) (c .pre .0 .sending .ready) (c .pre .0 .placed) [] (c .args .q) (c .pre .1) (c .pre .2))
+    subst (λ y. StandsAt (planOf (c .args .f) []) y (slot (c .args .f .k + 1) (c .args .q) ∷ [])) (sym (c .pre .1 .here))
+    (data-there (c .args .f) (c .args .s) (c .pre .0 .sending .ready) (c .pre .0 .placed) [] (c .args .q) (c .pre .1 .low) (c .pre .1 .high))
 
 below : (c : tie.Start) → c .args .x < c .args .s .end
-below c = omega (arith, c .pre .0 .placed [] .ends, c .pre .1, c .pre .2, c .pre .3)
+below c = omega (arith, c .pre .0 .placed [] .ends, c .pre .1 .low, c .pre .1 .high, c .pre .1 .here)
 
 -- the lines, with what `lesser` gave
 abbrev start : tie.After-lesser → tie.Start
@@ -53,46 +54,16 @@ list-follow-on-requires : tie.Need-list-follow-on-requires
 list-follow-on-requires c κs =
     let s = c .before .before in (s .pre .0 .sending, in-data s, stands s)
 
-mul-from : tie.Need-mul-from
-mul-from c = omega (arith, small (c .before .before .before .before))
-
-mul-from-2 : tie.Need-mul-from-2
-mul-from-2 c = omega (arith, small (c .before .before .before .before))
-
 add-lesser : tie.Need-add-lesser
 add-lesser c =
     let s = c .before .before .before .before in
     omega (arith, in-data s, data-high (s .args .f) (s .pre .0 .sending .ready .shaped))
 
-mul-lesser : tie.Need-mul-lesser
-mul-lesser c = omega (arith, small (c .before .before .before .before .before))
-
-mul-end : tie.Need-mul-end
-mul-end c = omega (arith, text c .within, start c .pre .0 .sending .whole, text c .few-all)
-
-mul-at : tie.Need-mul-at
-mul-at c = omega (arith, seated (start c), below (start c))
-
-add-to : tie.Need-add-to
-add-to c = omega (arith, seated (start c), below (start c))
-
-part-write-data-end : tie.Need-part-write-data-end
-part-write-data-end c = omega (arith, seated (start c), below (start c), start c .pre .0 .roomy)
-
 head-at-requires : tie.Need-head-at-requires
 head-at-requires c κs =
     let s = start (c .before) in
-    head-asked (s .args .f) (s .args .list .now) (s .args .s) (length (s .args .image .now)) (s .pre .0) (s .args .x)
-    (omega (arith, seated s, s .pre .3)) (below s)
-
-sub-write-data-2 : tie.Need-sub-write-data-2
-sub-write-data-2 c = text (c .before .before) .ordered
-
-part-write-data-start-2 : tie.Need-part-write-data-start-2
-part-write-data-start-2 c = omega (arith, text (c .before .before) .ordered, text (c .before .before) .within)
-
-part-write-data-end-2 : tie.Need-part-write-data-end-2
-part-write-data-end-2 c = omega (arith, text (c .before .before) .within)
+    head-asked (s .args .f) (s .args .s) (s .pre .0 .sending .ready) (s .pre .0 .placed) (s .args .x)
+    (omega (arith, seated s, s .pre .1 .here)) (below s)
 
 write-data-requires : tie.Need-write-data-requires
 write-data-requires c κs =
@@ -121,21 +92,20 @@ write-data-at-spec =
     tie.close
     (tie.spec
     list-follow-on-requires
-    mul-from
-    mul-from-2
+    (λ c. omega (arith, small (c .before .before .before .before)))
+    (λ c. omega (arith, small (c .before .before .before .before)))
     add-lesser
-    mul-lesser
+    (λ c. omega (arith, small (c .before .before .before .before .before)))
     (λ c κs. search needs)
-    mul-end
-    mul-at
-    add-to
-    (λ c. search needs)
-    (λ c. search needs)
-    part-write-data-end
+    (λ c. omega (arith, text c .within, start c .pre .0 .sending .whole, text c .few-all))
+    (λ c. omega (arith, seated (start c), below (start c)))
+    (λ c. omega (arith, seated (start c), below (start c)))
+    (λ c. search needs) (λ c. search needs)
+    (λ c. omega (arith, seated (start c), below (start c), start c .pre .0 .roomy))
     head-at-requires
-    sub-write-data-2
-    part-write-data-start-2
-    part-write-data-end-2
+    (λ c. text (c .before .before) .ordered)
+    (λ c. omega (arith, text (c .before .before) .ordered, text (c .before .before) .within))
+    (λ c. omega (arith, text (c .before .before) .within))
     write-data-requires
     (λ c. search needs)
     returns)

@@ -1,17 +1,14 @@
 -- `cycle::build::write_path` meets its contract. The loop's invariant: the path's levels before i are written, and x is the
 -- place of level i.
 -- Assumes nothing.
-use mathlib.Core.Path.{_≡_, sym, ap, _∙_, subst}
+use mathlib.Core.Path.{_≡_, ap, _∙_}
 use Prim.Native.Nat.{_+_, _-_, _≤_, _<_, max}
 use native.Mathlib.Omega.{arith}
 use lib.ListN.{length}
-use Rattle.buckets.specs.declared.Index.{Index}
-use Rattle.buckets.specs.Lengths.{pairsMost, entriesMost}
-use Rattle.cycle.specs.Held.{planIn, written}
+use Rattle.cycle.specs.Inner.Held.{planIn, written}
 use Rattle.cycle.specs.declared.Source.the-variants.{List as InList}
-use Rattle.cycle.proofs.SegmentParts.{Seated, path-size, path-layout, path-few}
-use Rattle.cycle.proofs.BucketsWritten.{index-written}
-use Rattle.cycle.proofs.Writings.{seats, placed-in, head-asked, path-held, begun, grown, grown-length}
+use Rattle.cycle.proofs.Segmenting.SegmentParts.{Seated, path-size, path-layout, path-few}
+use Rattle.cycle.proofs.Building.Writings.{seats, printing, lent-wide, bucket-written, begun, grown, grown-length}
 use Rattle.cycle.proofs.build.write_path.Statement.{statement}
 use Rattle.cycle.proofs.build.write_path.Tie as tie
 
@@ -47,52 +44,38 @@ loop-holds c =
       begun (s .args .f) (s .args .list .now) (s .pre .sending) (s .args .image .now) (s .pre .roomy) (s .args .s .start),
     )
 
-path-index-requires : tie.Need-path-index-requires Inv-loop μ-loop
-path-index-requires c κs =
-    let loop = c .before .before in
+-- ---- a turn
+
+abbrev at-turn : tie.Then1 Inv-loop μ-loop → tie.At-loop Inv-loop μ-loop
+at-turn c = c .before .before
+
+below : (c : tie.Then1 Inv-loop μ-loop) → at-turn c .loop .x < start (at-turn c) .args .f .size
+below c =
+    let loop = at-turn c in
+    omega (arith, seated (start loop), path-end (start loop), c .if1 .taken, loop .loop .inv .0, loop .loop .inv .2)
+
+short : (c : tie.Then1 Inv-loop μ-loop) → at-turn c .loop .x < 100000
+short c = omega (arith, below c, seated (start (at-turn c)))
+
+print-path-bucket-requires : tie.Need-print-path-bucket-requires Inv-loop μ-loop
+print-path-bucket-requires c κs =
+    let turn = c .before in
+    let loop = at-turn turn in
     let s = start loop in (
-      s .pre .sending .ready,
-      s .pre .sending .whole,
-      placed-in (s .args .f) (s .args .list .now) (s .args .s) (length (s .args .image .now)) (s .pre),
-      path-layout (s .args .f) (s .args .s) (s .pre .sending .ready) (s .pre .placed) (loop .loop .i) (loop .loop .inv .0) (c .if1 .taken),
-      loop .loop .inv .0,
-      c .if1 .taken,
-      loop .loop .inv .2,
+      lent-wide (s .args .f) (s .args .list .now) (s .args .s) (length (s .args .image .now)) (s .pre) (loop .loop .x) (below turn) (loop .loop .image) (long loop),
+      (
+        printing (s .args .f) (s .args .list .now) (s .args .s) (length (s .args .image .now)) (s .pre),
+        record { from-top = loop .loop .inv .0; high = turn .if1 .taken; here = loop .loop .inv .2 },
+      ),
     )
 
-head-at-requires : tie.Need-head-at-requires Inv-loop μ-loop
-head-at-requires c κs =
-    let turn = c .before .before in
-    let loop = turn .before .before in
-    let s = start loop in
-    head-asked (s .args .f) (s .args .list .now) (s .args .s) (length (s .args .image .now)) (s .pre) (loop .loop .x)
-    (omega arith) (omega (arith, seated s, path-end s, turn .if1 .taken, loop .loop .inv))
-
-write-index-at-requires : tie.Need-write-index-at-requires Inv-loop μ-loop
-write-index-at-requires c κs =
-    let call = c .before .before in
-    let turn = call .before in
-    let loop = turn .before .before in
-    let s = start loop in
-    let held = path-held (s .args .f) (s .args .list .now) (s .args .s) (length (s .args .image .now)) (s .pre) (loop .loop .i) (loop .loop .inv .0) (turn .if1 .taken) in
-    let is = call .path-index .ensures in
-    let at = loop .loop .inv .2 in (
-      omega (arith, seated s, path-end s, turn .if1 .taken, loop .loop .inv, long loop, s .pre .roomy),
-      omega (arith, seated s, path-end s, turn .if1 .taken, loop .loop .inv),
-      subst (λ (i : Index). i .pairs ≤ pairsMost) (sym is) (rw (← at) at (held .few-pairs)),
-      subst (λ (i : Index). i .entries ≤ entriesMost) (sym is) (rw (← at) at (held .few-entries)),
-    )
-
-add-x : tie.Need-add-x Inv-loop μ-loop
-add-x c =
-    let turn = c .before .before .before .before .before .before in
-    let loop = turn .before .before in
-    omega (arith, seated (start loop), path-end (start loop), turn .if1 .taken, loop .loop .inv)
+abbrev turned : tie.After-slice-known2 Inv-loop μ-loop → tie.Then1 Inv-loop μ-loop
+turned c = c .before .before .before .before
 
 add-i : tie.Need-add-i Inv-loop μ-loop
 add-i c =
-    let turn = c .before .before .before .before .before .before in
-    let loop = turn .before .before in
+    let turn = turned c in
+    let loop = at-turn turn in
     let s = start loop in
     let one = path-layout (s .args .f) (s .args .s) (s .pre .sending .ready) (s .pre .placed) (loop .loop .i) (loop .loop .inv .0) (turn .if1 .taken) in
     omega (arith, path-few (s .args .f) (s .args .s) (s .pre .sending .ready) (s .pre .placed) one, turn .if1 .taken)
@@ -100,23 +83,17 @@ add-i c =
 loop-again : tie.Need-loop-again Inv-loop μ-loop
 loop-again c =
     let wrote = c .before .before in
-    let head = wrote .before in
-    let call = head .before .before in
-    let turn = call .before in
-    let loop = turn .before .before in
+    let turn = turned c in
+    let loop = at-turn turn in
     let s = start loop in
-    let x = loop .loop .x in
-    let at = loop .loop .inv .2 in
-    let held = path-held (s .args .f) (s .args .list .now) (s .args .s) (length (s .args .image .now)) (s .pre) (loop .loop .i) (loop .loop .inv .0) (turn .if1 .taken) in
-    let below : x < s .args .f .size = omega (arith, seated s, path-end s, turn .if1 .taken, loop .loop .inv) in (
+    let x = loop .loop .x in (
       omega arith,
       omega (arith, turn .if1 .taken),
-      omega (arith, loop .loop .inv .0, at),
+      omega (arith, loop .loop .inv .0, loop .loop .inv .2),
       grown (s .args .f) (s .args .list .now) (s .pre .sending) (s .args .image .now) (s .pre .roomy) (s .args .s .start)
-          (loop .loop .image) _ x (x + 1) (omega arith) (omega arith) (omega (arith, below)) (loop .loop .inv .3)
-          (wrote .write-index-at .ensures
-          ∙ index-written (s .args .f) (s .args .list .now) (s .pre .sending) x below
-          (loop .loop .image) (omega (arith, long loop, s .pre .roomy)) _ (head .head-at .ensures) _ _ (call .path-index .ensures) (rw (← at) at held)),
+          (loop .loop .image) _ x (x + 1) (omega arith) (omega arith) (omega (arith, below turn)) (loop .loop .inv .3)
+          (bucket-written (s .args .f) (s .args .list .now) (s .args .s) (length (s .args .image .now)) (s .pre) x (below turn) (loop .loop .image) (long loop)
+          (wrote .print-path-bucket .kept .0) (wrote .print-path-bucket .ensures)),
     )
 
 same-length : tie.Need-same-length Inv-loop μ-loop
@@ -136,10 +113,13 @@ write-path-spec =
     Inv-loop
     μ-loop
     loop-holds
-    path-index-requires
-    head-at-requires
-    write-index-at-requires
-    add-x
+    (λ c. omega (arith, short c))
+    (λ c. omega (arith, short c))
+    (λ c. omega arith)
+    (λ c. omega (arith, below c, long (at-turn c), start (at-turn c) .pre .roomy))
+    (λ c. omega (arith, below c, long (at-turn c), start (at-turn c) .pre .roomy))
+    print-path-bucket-requires
+    (λ c. omega (arith, short (turned c)))
     add-i
     (λ c. omega arith)
     loop-again

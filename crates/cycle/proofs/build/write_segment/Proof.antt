@@ -6,10 +6,11 @@ use Prim.Native.Nat.{_+_}
 use native.Mathlib.Omega.{arith}
 use lib.ListN.{length}
 use borrow.Author.Needs.{needs}
-use Rattle.cycle.specs.Held.{planOf, treeAt, planIn, written}
+use Rattle.cycle.specs.Judging.{treeAt}
+use Rattle.cycle.specs.Inner.Held.{planOf, planIn, written}
 use Rattle.cycle.specs.declared.Source.the-variants.{List as InList}
-use Rattle.cycle.proofs.SegmentParts.{Seated}
-use Rattle.cycle.proofs.Writings.{seats, writing-kept, own-tree, grown}
+use Rattle.cycle.proofs.Segmenting.SegmentParts.{Seated}
+use Rattle.cycle.proofs.Building.Writings.{seats, writing-kept, own-tree, grown}
 use Rattle.cycle.proofs.build.write_segment.Statement.{statement}
 use Rattle.cycle.proofs.build.write_segment.Tie as tie
 
@@ -62,4 +63,9 @@ returns c =
 pub write-segment-spec : {M : Type 1} → statement M
 write-segment-spec =
     tie.close
-    (tie.spec (λ c κs. search needs) write-subtree-requires write-datas-requires (λ c. search needs) returns)
+    (tie.spec
+    (λ c κs. search needs)
+    write-subtree-requires
+    write-datas-requires
+    (λ c. search needs)
+    returns)

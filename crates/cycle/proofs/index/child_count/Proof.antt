@@ -9,10 +9,10 @@ use mathlib.Core.List.{[]}
 use Rattle.columns.specs.Lists.{up}
 use Rattle.buckets.specs.Lengths.{entriesMost}
 use Rattle.cycle.specs.Tree.{children}
-use Rattle.cycle.specs.Held.{planOf, spanMost}
-use Rattle.cycle.proofs.Readiness.{Reached}
-use Rattle.cycle.proofs.TreeLaws.{up-least, le-up}
-use Rattle.cycle.proofs.Children.{bucket, first-small, children-count}
+use Rattle.cycle.specs.Inner.Held.{planOf, spanMost}
+use Rattle.cycle.proofs.Trees.Readiness.{Reached}
+use Rattle.cycle.proofs.Trees.TreeLaws.{up-least, le-up}
+use Rattle.cycle.proofs.Trees.Children.{bucket, first-small, children-count}
 use Rattle.cycle.proofs.index.child_count.Statement.{statement}
 use Rattle.cycle.proofs.index.child_count.Tie as tie
 
@@ -35,17 +35,8 @@ counted :
     ≡ min (c .args .j * c .args .f .n + c .args .f .n) (up (c .args .f .d) (span c)) - c .args .j * c .args .f .n
 counted c = children-count (c .args .f) (c .pre .0) (c .args .e) (c .args .j) (c .pre .1) (c .pre .2)
 
-sub-below : tie.Need-sub-below
-sub-below c = c .pre .1
-
-mul-from : tie.Need-mul-from
-mul-from c = omega (arith, small (c .before))
-
 power-requires : tie.Need-power-requires
 power-requires c κs = let s = c .before in (s .pre .0 .shaped .n-low, s .pre .0 .shaped .n-high, omega (arith, at s .height))
-
-add-if1 : tie.Need-add-if1
-add-if1 c = let s = c .before .before .before in omega (arith, small s, s .pre .0 .shaped .n-high)
 
 mul-if1 : tie.Need-mul-if1
 mul-if1 c =
@@ -95,10 +86,10 @@ pub child-count-spec : {M : Type 1} → statement M
 child-count-spec =
     tie.close
     (tie.spec
-    sub-below
-    mul-from
+    (λ c. c .pre .1)
+    (λ c. omega (arith, small (c .before)))
     power-requires
-    add-if1
+    (λ c. let s = c .before .before .before in omega (arith, small s, s .pre .0 .shaped .n-high))
     mul-if1
     returns
     up-requires

@@ -7,17 +7,11 @@ use native.Mathlib.Omega.{arith}
 use lib.ListN.{length}
 use Rattle.buckets.specs.declared.Head.{Head}
 use Rattle.cycle.specs.Layouts.{slots}
-use Rattle.cycle.specs.Held.{planOf}
-use Rattle.cycle.proofs.Positions.{at-position, head-at}
-use Rattle.cycle.proofs.Children.{size-slots}
+use Rattle.cycle.specs.Inner.Held.{planOf}
+use Rattle.cycle.proofs.Segmenting.Positions.{at-position, head-at}
+use Rattle.cycle.proofs.Trees.Children.{size-slots}
 use Rattle.cycle.proofs.index.head_at.Statement.{statement}
 use Rattle.cycle.proofs.index.head_at.Tie as tie
-
-sub-t4 : tie.Need-sub-t4
-sub-t4 c = omega arith
-
-sub-t5 : tie.Need-sub-t5
-sub-t5 c = omega arith
 
 returns : tie.Need-returns
 returns c =
@@ -30,4 +24,8 @@ returns c =
     ∙ ap₂ {C = Head} (λ u v. record { position = x; «to_cycle» = u - x; «to_segment» = v }) (sym n) (start .pre .3))
 
 pub head-at-spec : {M : Type 1} → statement M
-head-at-spec = tie.close (tie.spec sub-t4 sub-t5 returns)
+head-at-spec = tie.close
+    (tie.spec
+    (λ c. omega arith)
+    (λ c. omega arith)
+    returns)

@@ -4,9 +4,9 @@ use mathlib.Core.Path.{sym, ap, _∙_}
 use Prim.Native.Nat.{_*_, _≤_}
 use native.Mathlib.Nat.{mul-le-mul}
 use native.Mathlib.Omega.{arith}
-use Rattle.buckets.specs.Held.{tagOr0}
-use Rattle.cycle.specs.Held.{planIn, lastOf}
-use Rattle.cycle.proofs.SentLines.{full-lines, last-sent}
+use Rattle.buckets.specs.Inner.Held.{tagOr0}
+use Rattle.cycle.specs.Inner.Held.{planIn, lastOf}
+use Rattle.cycle.proofs.Lines.FollowOns.{full-lines, last-sent}
 use Rattle.cycle.proofs.index.last_sent_tag.Statement.{statement}
 use Rattle.cycle.proofs.index.last_sent_tag.Tie as tie
 

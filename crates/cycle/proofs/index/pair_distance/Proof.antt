@@ -2,16 +2,17 @@
 -- Assumes nothing.
 use mathlib.Core.Path.{_≡_, sym, ap, _∙_}
 use mathlib.Core.List.{[]}
-use Prim.Native.Nat.{ℕ, _+_, _-_, _/_, _≤_, _<_}
+use Prim.Native.Nat.{ℕ, _+_, _-_, _*_, _/_, _≤_, _<_}
 use native.Mathlib.Omega.{arith}
 use Rattle.columns.specs.Lists.{up}
-use Rattle.buckets.specs.Lengths.{pairsMost}
+use Rattle.buckets.specs.Lengths.{pairsMost, bucketsMost}
 use Rattle.cycle.specs.Tree.{width, levelsMost}
-use Rattle.cycle.specs.Held.{planOf, firstPlace}
-use Rattle.cycle.proofs.Readiness.{Reached, reached}
-use Rattle.cycle.proofs.Children.{size-slots, first-high}
-use Rattle.cycle.proofs.PathFigures.{few-copies, level-width, width-inside, parent-inside}
-use Rattle.cycle.proofs.PairReach.{reach-last, reach-end, reach-turn}
+use Rattle.cycle.specs.Cycle.{firstPlace}
+use Rattle.cycle.specs.Inner.Held.{planOf, Ready, InTree}
+use Rattle.cycle.proofs.Trees.Readiness.{Reached, reached}
+use Rattle.cycle.proofs.Trees.Children.{size-slots, first-high}
+use Rattle.cycle.proofs.Reach.PathFigures.{few-copies, level-width, width-inside, parent-inside}
+use Rattle.cycle.proofs.Reach.PairReach.{reach-last, reach-end, reach-turn}
 use Rattle.cycle.proofs.index.pair_distance.Statement.{statement}
 use Rattle.cycle.proofs.index.pair_distance.Tie as tie
 
@@ -26,42 +27,21 @@ bounds c = few-copies (c .args .f) (c .pre .0) (c .pre .2)
 place-high : (c : tie.Start) (i j : ℕ) → firstPlace (planOf (c .args .f) []) i j ≤ c .args .f .size
 place-high c i j = omega (arith, size-slots (c .args .f) (c .pre .0), first-high (planOf (c .args .f) []) i j)
 
-add-e : tie.Need-add-e
-add-e c = omega (arith, bounds (c .before) .2)
+-- the bucket above: what its place asks, and a bound on it
+parent-asked : (s : tie.Start) →
+    let f = s .args .f in
+    Ready f × (f .layout ≡ 1) × (1 ≤ s .args .level - 1) × (s .args .level - 1 ≤ f .copies + 1)
+    × InTree f (f .k + 1 - (s .args .level - 1)) (s .args .place / f .n)
+parent-asked s = (
+  s .pre .0,
+  s .pre .2,
+  omega (arith, s .pre .3),
+  omega (arith, s .pre .4),
+  parent-inside (s .args .f) (s .pre .0) (s .pre .2) (s .args .level) (s .args .place) (s .pre .3) (omega (arith, s .pre .4)) (s .pre .5),
+)
 
-sub-e : tie.Need-sub-e
-sub-e c = omega (arith, bounds (c .before) .1, c .before .pre .4)
-
-add-sibling : tie.Need-add-sibling
-add-sibling c = omega (arith, at (c .before) .place)
-
-rem-if1 : tie.Need-rem-if1
-rem-if1 c = omega (arith, c .before .before .pre .0 .shaped .n-low)
-
-sub-first-place : tie.Need-sub-first-place
-sub-first-place c = omega (arith, c .before .before .before .pre .3)
-
-div-first-place : tie.Need-div-first-place
-div-first-place c = omega (arith, c .before .before .before .before .pre .0 .shaped .n-low)
-
-first-place-requires : tie.Need-first-place-requires
-first-place-requires c κs =
-    let s = c .before .before .before .before in (
-      s .pre .0,
-      s .pre .2,
-      omega (arith, s .pre .3),
-      omega (arith, s .pre .4),
-      parent-inside (s .args .f) (s .pre .0) (s .pre .2) (s .args .level) (s .args .place) (s .pre .3) (omega (arith, s .pre .4)) (s .pre .5),
-    )
-
-add-result : tie.Need-add-result
-add-result c =
-    let s = c .before .before .before .before .before .before in
-    omega
-    (arith, s .pre .0 .size-high, c .before .first-place .ensures, place-high s (s .args .level - 1) (s .args .place / s .args .f .n))
-
-sub-result : tie.Need-sub-result
-sub-result c = omega (arith, c .before .before .before .before .before .before .pre .6)
+parent-high : (s : tie.Start) → s .args .f .size + firstPlace (planOf (s .args .f) []) (s .args .level - 1) (s .args .place / s .args .f .n) ≤ 2 * bucketsMost
+parent-high s = omega (arith, s .pre .0 .size-high, place-high s (s .args .level - 1) (s .args .place / s .args .f .n))
 
 returns : tie.Need-returns
 unfolding planOf
@@ -111,12 +91,6 @@ ahead c =
       s .pre .7 (omega (arith, wide (c .before .before), c .before .if2 .taken)) (c .before .before .before .before .if1 .left),
     )
 
-sub-result-2 : tie.Need-sub-result-2
-sub-result-2 c = omega (arith, ahead c)
-
-sub-result-3 : tie.Need-sub-result-3
-sub-result-3 c = omega (arith, ahead c)
-
 returns-2 : tie.Need-returns-2
 unfolding planOf
 returns-2 c =
@@ -125,31 +99,6 @@ returns-2 c =
     ∙ sym
     (reach-turn (planOf (s .args .f) []) (s .args .f .size) (s .args .x) (s .args .level) (s .args .place) (c .before .before .before .before .if1 .left)
     (omega (arith, wide (c .before .before), c .before .if2 .taken)))
-
-sub-first-place-2 : tie.Need-sub-first-place-2
-sub-first-place-2 c = omega (arith, c .before .before .before .before .before .before .pre .3)
-
-div-first-place-2 : tie.Need-div-first-place-2
-div-first-place-2 c = omega (arith, c .before .before .before .before .before .before .before .pre .0 .shaped .n-low)
-
-first-place-requires-3 : tie.Need-first-place-requires-3
-first-place-requires-3 c κs =
-    let s = c .before .before .before .before .before .before .before in (
-      s .pre .0,
-      s .pre .2,
-      omega (arith, s .pre .3),
-      omega (arith, s .pre .4),
-      parent-inside (s .args .f) (s .pre .0) (s .pre .2) (s .args .level) (s .args .place) (s .pre .3) (omega (arith, s .pre .4)) (s .pre .5),
-    )
-
-add-result-2 : tie.Need-add-result-2
-add-result-2 c =
-    let s = c .before .before .before .before .before .before .before .before .before in
-    omega
-    (arith, s .pre .0 .size-high, c .before .first-place3 .ensures, place-high s (s .args .level - 1) (s .args .place / s .args .f .n))
-
-sub-result-4 : tie.Need-sub-result-4
-sub-result-4 c = omega (arith, c .before .before .before .before .before .before .before .before .before .pre .6)
 
 returns-3 : tie.Need-returns-3
 unfolding planOf
@@ -165,25 +114,25 @@ pub pair-distance-spec : {M : Type 1} → statement M
 pair-distance-spec =
     tie.close
     (tie.spec
-    add-e
-    sub-e
-    add-sibling
-    rem-if1
-    sub-first-place
-    div-first-place
-    first-place-requires
-    add-result
-    sub-result
+    (λ c. omega (arith, bounds (c .before) .2))
+    (λ c. omega (arith, bounds (c .before) .1, c .before .pre .4))
+    (λ c. omega (arith, at (c .before) .place))
+    (λ c. omega (arith, c .before .before .pre .0 .shaped .n-low))
+    (λ c. omega (arith, c .before .before .before .pre .3))
+    (λ c. omega (arith, c .before .before .before .before .pre .0 .shaped .n-low))
+    (λ c κs. parent-asked (c .before .before .before .before))
+    (λ c. omega (arith, c .before .first-place .ensures, parent-high (c .before .before .before .before .before .before)))
+    (λ c. omega (arith, c .before .before .before .before .before .before .pre .6))
     returns
     power-requires
     up-requires
     first-place-requires-2
-    sub-result-2
-    sub-result-3
+    (λ c. omega (arith, ahead c))
+    (λ c. omega (arith, ahead c))
     returns-2
-    sub-first-place-2
-    div-first-place-2
-    first-place-requires-3
-    add-result-2
-    sub-result-4
+    (λ c. omega (arith, c .before .before .before .before .before .before .pre .3))
+    (λ c. omega (arith, c .before .before .before .before .before .before .before .pre .0 .shaped .n-low))
+    (λ c κs. parent-asked (c .before .before .before .before .before .before .before))
+    (λ c. omega (arith, c .before .first-place3 .ensures, parent-high (c .before .before .before .before .before .before .before .before .before)))
+    (λ c. omega (arith, c .before .before .before .before .before .before .before .before .before .pre .6))
     returns-3)

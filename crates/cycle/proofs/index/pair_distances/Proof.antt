@@ -5,17 +5,18 @@ use mathlib.Core.List.{[], _∷_, map}
 use Prim.Native.Nat.{ℕ, suc, _+_, _-_, _%_, _≤_, _<_}
 use native.Mathlib.Omega.{arith}
 use Rattle.columns.specs.Lists.{range}
-use Rattle.buckets.specs.Held.{filled}
+use Rattle.buckets.specs.Inner.Held.{filled}
 use Rattle.buckets.specs.Lengths.{pairsMost}
 use Rattle.cycle.specs.Tree.{width, levelsMost}
 use Rattle.cycle.specs.declared.Figures.{Figures}
-use Rattle.cycle.specs.Held.{planOf, Ready, OnPath, firstPlace, placeOver, pairReach, pairDistances}
-use Rattle.cycle.proofs.Filled.{fill-turn-behind}
-use Rattle.cycle.proofs.Paths.{pathTop-low}
-use Rattle.cycle.proofs.Readiness.{sound}
-use Rattle.cycle.proofs.Blocks.{blockCount}
-use Rattle.cycle.proofs.PathFigures.{path-here, path-inside, few-copies, power-some, place-over, over-inside, block-inside}
-use Rattle.cycle.proofs.PairReach.{reach-ahead}
+use Rattle.cycle.specs.Cycle.{firstPlace}
+use Rattle.cycle.specs.Inner.Held.{planOf, Ready, OnPath, placeOver, pairReach, pairDistances}
+use Rattle.cycle.proofs.Basics.Filled.{fill-turn-behind}
+use Rattle.cycle.proofs.Sequences.Paths.{pathTop-low}
+use Rattle.cycle.proofs.Trees.Readiness.{sound}
+use Rattle.cycle.proofs.Sequences.Blocks.{blockCount}
+use Rattle.cycle.proofs.Reach.PathFigures.{path-here, path-inside, few-copies, power-some, place-over, over-inside, block-inside}
+use Rattle.cycle.proofs.Reach.PairReach.{reach-ahead}
 use Rattle.cycle.proofs.index.pair_distances.Statement.{statement}
 use Rattle.cycle.proofs.index.pair_distances.Tie as tie
 

@@ -5,12 +5,12 @@ use mathlib.Core.List.{[], _∷_, map}
 use Prim.Native.Nat.{ℕ, _+_, _-_, _≤_}
 use native.Mathlib.Omega.{arith}
 use Rattle.columns.specs.Lists.{range}
-use Rattle.buckets.specs.Held.{filled}
+use Rattle.buckets.specs.Inner.Held.{filled}
 use Rattle.buckets.specs.Lengths.{pairsMost}
 use Rattle.cycle.specs.Tree.{largestTag, levelsMost}
-use Rattle.cycle.specs.Held.{planIn, linesHeld, InTree, placeOver, pairTags}
-use Rattle.cycle.proofs.Filled.{fill-turn-behind}
-use Rattle.cycle.proofs.PathFigures.{few-copies, power-some, place-over, over-inside}
+use Rattle.cycle.specs.Inner.Held.{planIn, linesHeld, InTree, placeOver, pairTags}
+use Rattle.cycle.proofs.Basics.Filled.{fill-turn-behind}
+use Rattle.cycle.proofs.Reach.PathFigures.{few-copies, power-some, place-over, over-inside}
 use Rattle.cycle.proofs.index.pair_tags.Statement.{statement}
 use Rattle.cycle.proofs.index.pair_tags.Tie as tie
 

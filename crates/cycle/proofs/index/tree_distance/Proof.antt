@@ -11,13 +11,15 @@ use borrow.Author.Tests.{eq-eqb, ne-eqb, lt-ltb}
 use Rattle.columns.specs.Lists.{joined, span}
 use Rattle.cycle.specs.Tree.{children}
 use Rattle.cycle.specs.declared.Figures.{Figures}
-use Rattle.cycle.specs.Held.{planOf, Ready, InTree, Under, treeAt, fullSize, firstPlace, aheadOf, treeDistance}
-use Rattle.cycle.proofs.Readiness.{reached}
-use Rattle.cycle.proofs.Children.{near-here, near-next, few, first-small, under-data, children-count, size-slots, first-high}
-use Rattle.cycle.proofs.TreeSizes.{tree-full}
-use Rattle.cycle.proofs.TreePlaces.{tree-before}
-use Rattle.cycle.proofs.SegmentParts.{seated}
-use Rattle.cycle.proofs.DataRows.{row-place, Row, row-room}
+use Rattle.cycle.specs.Judging.{treeAt, fullSize}
+use Rattle.cycle.specs.Cycle.{firstPlace}
+use Rattle.cycle.specs.Inner.Held.{planOf, Ready, InTree, Under, aheadOf, treeDistance}
+use Rattle.cycle.proofs.Trees.Readiness.{reached}
+use Rattle.cycle.proofs.Trees.Children.{near-here, near-next, few, first-small, under-data, children-count, size-slots, first-high}
+use Rattle.cycle.proofs.Trees.TreeSizes.{tree-full}
+use Rattle.cycle.proofs.Segmenting.TreePlaces.{tree-before}
+use Rattle.cycle.proofs.Segmenting.SegmentParts.{seated}
+use Rattle.cycle.proofs.Reach.DataRows.{row-place, Row, row-room}
 use Rattle.cycle.proofs.index.tree_distance.Statement.{statement}
 use Rattle.cycle.proofs.index.tree_distance.Tie as tie
 

@@ -12,12 +12,12 @@ use Rattle.columns.specs.Lists.{pick, same, strict}
 use Rattle.columns.specs.PrintedNumbers.{value}
 use Rattle.buckets.specs.declared.Line.{Line}
 use Rattle.buckets.specs.ListLine.{spelled, fits, printLine, readLine, cutLines, listLines, taken, misprintFrom, fallFrom}
-use Rattle.buckets.specs.Held.{tagOrMisprint}
+use Rattle.buckets.specs.Inner.Held.{tagOrMisprint}
 use Rattle.buckets.specs.Lengths.{tagWidth, lineLength}
 use Rattle.buckets.proofs.Answers.{tag-found}
 use Rattle.buckets.proofs.Lists.{length-cutLines, length-listLines}
-use Rattle.cycle.proofs.ImageLines.{spelled-front}
-use Rattle.cycle.proofs.Refusals.{count-lines, line-read, lines-read, tag-rises, tags-rise, no-place-misprint, no-place-fall}
+use Rattle.cycle.proofs.ReadingBack.ImageLines.{spelled-front}
+use Rattle.cycle.proofs.Building.Refusals.{count-lines, line-read, lines-read, tag-rises, tags-rise, no-place-misprint, no-place-fall}
 use Rattle.cycle.proofs.judge.all_rise.Statement.{statement}
 use Rattle.cycle.proofs.judge.all_rise.Tie as tie
 
@@ -84,19 +84,11 @@ returns-3 c told =
 pub all-rise-spec : {M : Type 1} → statement M
 all-rise-spec =
     tie.close
-    (tie.spec
-    Inv-loop
-    μ-loop
+    (tie.spec Inv-loop μ-loop
     (λ c. (omega arith, refl, refl))
-    (λ c. omega arith)
-    (λ c. omega arith)
-    (λ c. omega arith)
-    (λ c. omega arith)
-    (λ c. omega arith)
-    (λ c κs. tt)
+    (λ c. omega arith) (λ c. omega arith) (λ c. omega arith) (λ c. omega arith) (λ c. omega arith) (λ c κs. tt)
     (λ c e. absurd (true≢false (sym e)))
     (λ c e. absurd (true≢false (sym e)))
-    (λ c. omega arith)
-    (λ c. omega arith)
+    (λ c. omega arith) (λ c. omega arith)
     loop-again
     returns-3)

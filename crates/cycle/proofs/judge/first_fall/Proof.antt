@@ -6,7 +6,7 @@ use Prim.Native.Nat.{_-_, _≤_}
 use native.Mathlib.Omega.{arith}
 use lib.ListN.{drop}
 use Rattle.buckets.specs.ListLine.{listLines, fallFrom}
-use Rattle.cycle.proofs.Refusals.{tag-rises, tag-falls, tags-rise}
+use Rattle.cycle.proofs.Building.Refusals.{tag-rises, tag-falls, tags-rise}
 use Rattle.cycle.proofs.judge.first_fall.Statement.{statement}
 use Rattle.cycle.proofs.judge.first_fall.Tie as tie
 
@@ -43,14 +43,10 @@ returns-2 c =
 pub first-fall-spec : {M : Type 1} → statement M
 first-fall-spec =
     tie.close
-    (tie.spec
-    Inv-loop
-    μ-loop
+    (tie.spec Inv-loop μ-loop
     (λ c. (omega arith, refl))
-    (λ c. omega arith)
-    (λ c κs. omega arith)
+    (λ c. omega arith) (λ c κs. omega arith)
     returns
-    (λ c. omega arith)
-    (λ c. omega arith)
+    (λ c. omega arith) (λ c. omega arith)
     loop-again
     returns-2)

@@ -8,8 +8,8 @@ use lib.ListN.{drop}
 use Rattle.buckets.specs.ListLine.{readLine, cutLines, taken, misprintFrom}
 use Rattle.buckets.specs.Lengths.{lineLength}
 use Rattle.buckets.proofs.Answers.{tag-found, tag-none}
-use Rattle.buckets.proofs.Figures.{line-tag-small}
-use Rattle.cycle.proofs.Refusals.{line-read, line-misprinted, lines-read}
+use Rattle.buckets.proofs.LineColumns.{line-tag-small}
+use Rattle.cycle.proofs.Building.Refusals.{line-read, line-misprinted, lines-read}
 use Rattle.cycle.proofs.judge.first_misprint.Statement.{statement}
 use Rattle.cycle.proofs.judge.first_misprint.Tie as tie
 
@@ -53,18 +53,10 @@ returns-2 c =
 pub first-misprint-spec : {M : Type 1} → statement M
 first-misprint-spec =
     tie.close
-    (tie.spec
-    Inv-loop
-    μ-loop
+    (tie.spec Inv-loop μ-loop
     (λ c. (omega arith, refl))
-    (λ c. omega arith)
-    (λ c. omega arith)
-    (λ c. omega arith)
-    (λ c. omega arith)
-    (λ c. omega arith)
-    (λ c κs. tt)
+    (λ c. omega arith) (λ c. omega arith) (λ c. omega arith) (λ c. omega arith) (λ c. omega arith) (λ c κs. tt)
     returns
-    (λ c. omega arith)
-    (λ c. omega arith)
+    (λ c. omega arith) (λ c. omega arith)
     loop-again
     returns-2)

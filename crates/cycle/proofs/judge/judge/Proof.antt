@@ -15,9 +15,10 @@ use Rattle.buckets.proofs.Lists.{length-cutLines, length-listLines}
 use Rattle.cycle.specs.Tree.{Settings, settings}
 use Rattle.cycle.specs.Building.{settingsFit}
 use Rattle.cycle.specs.Judging
-use Rattle.cycle.proofs.Accepted
-use Rattle.cycle.proofs.Refusals.{no-place-misprint, no-place-fall, place-found}
-use Rattle.cycle.proofs.Answering.{refused-1, refused-2, refused-3, refused-4, passed, judges-refusal, any-copies, no-multiple, too-long, lines-fit, plan-of, room-judged}
+use Rattle.cycle.proofs.Building.Accepted
+use Rattle.cycle.proofs.Building.Refusals.{no-place-misprint, no-place-fall, place-found}
+use Rattle.cycle.proofs.Building.Answering.{refused-1, refused-2, refused-3, refused-4, passed, judges-refusal, any-copies, no-multiple, too-long, lines-fit, room-judged}
+use Rattle.cycle.proofs.Building.PlanFigures.{plan-same}
 use Rattle.cycle.proofs.judge.judge.Statement.{statement}
 use Rattle.cycle.proofs.judge.judge.Tie as tie
 
@@ -118,8 +119,7 @@ returns-5 c =
 figures-of-requires : tie.Need-figures-of-requires
 figures-of-requires c κs =
     let e3 = c .before .before in
-    let f = Accepted.settings-fit (set (start3 e3)) (fit1 (e3 .before .before)) in
-    (f .n-low, f .n-high, f .p-low, f .p-high, f .layout-low, f .layout-high, omega (arith, e3 .if3 .left))
+    (Accepted.settings-fit (set (start3 e3)) (fit1 (e3 .before .before)), omega (arith, e3 .if3 .left))
 
 -- figures that the settings and the list's length give are judged as the list is
 returns-6 : tie.Need-returns-6
@@ -130,12 +130,12 @@ returns-6 c =
     let s = start3 e3 in
     let list = bytes s in
     let told = made .figures-of .ensures in
-    let lines = told .5 ∙ sym (length-listLines list) in
+    let lines = told .1 ∙ sym (length-listLines list) in
     ap Judging.numbers
     (c .judge-room .ensures
     ∙ room-judged (made .figures-of .result) (set s) list (s .args .room)
     (passed (set s) list (s .args .room) (fit1 (e3 .before .before)) (whole3 e3) (risen met .0) (risen met .1))
-    (plan-of (made .figures-of .result) (set s) (listLines list) (told .0) (told .1) (told .2) (told .3) (told .4) lines)
+    (plan-same (set s) (made .figures-of .result) (listLines list) (told .0) (sym lines))
     lines)
 
 pub judge-spec : {M : Type 1} → statement M
@@ -146,8 +146,7 @@ judge-spec =
     returns
     returns-2
     returns-3
-    (λ c κs. search needs)
-    (λ c κs. search needs)
+    (λ c κs. search needs) (λ c κs. search needs)
     returns-4
     (λ c κs. search needs)
     returns-5

@@ -10,8 +10,9 @@ use Rattle.cycle.specs.Tree.{Plan}
 use Rattle.cycle.specs.Cycle.{cycleSize}
 use Rattle.cycle.specs.Building.{copiesFit}
 use Rattle.cycle.specs.declared.Figures.{Figures}
-use Rattle.cycle.specs.Held.{planOf, sized}
-use Rattle.cycle.proofs.Answering.{refusal-judged, cycle-judged, refused-5, refused-6, size-passed, size-held}
+use Rattle.cycle.specs.Inner.Held.{planOf, sized}
+use Rattle.cycle.proofs.Building.Answering.{refusal-judged, cycle-judged, refused-5, refused-6, size-passed}
+use Rattle.cycle.proofs.Building.PlanFigures.{size-held}
 use Rattle.cycle.proofs.judge.judge_figures.Statement.{statement}
 use Rattle.cycle.proofs.judge.judge_figures.Tie as tie
 
@@ -34,9 +35,6 @@ returns c =
     let s = c .before .before in
     refusal-judged 5 0 _ (whole s) (refused-5 (planned s) (sym (c .before .copies-fit .ensures) ∙ not-true _ (c .if1 .taken)))
 
-with-size-requires : tie.Need-with-size-requires
-with-size-requires c κs = (c .before .before .pre, fit c)
-
 returns-2 : tie.Need-returns-2
 returns-2 c =
     let call = c .before .before in
@@ -51,4 +49,10 @@ returns-3 c =
     (size-passed (planned s) (fit (call .before)) (omega (arith, size-is call, c .if2 .left))) (call .with-size .ensures)
 
 pub judge-figures-spec : {M : Type 1} → statement M
-judge-figures-spec = tie.close (tie.spec (λ c κs. search needs) returns with-size-requires returns-2 returns-3)
+judge-figures-spec = tie.close
+    (tie.spec
+    (λ c κs. search needs)
+    returns
+    (λ c κs. (c .before .before .pre, fit c))
+    returns-2
+    returns-3)

@@ -10,8 +10,9 @@ use Rattle.cycle.specs.Cycle.{cycleSize}
 use Rattle.cycle.specs.Refusals.{firstRefusal}
 use Rattle.cycle.specs.Judging.{sizeConditions}
 use Rattle.cycle.specs.declared.Figures.{Figures}
-use Rattle.cycle.specs.Held.{planOf, sized}
-use Rattle.cycle.proofs.Answering.{judged-refusal, judged-cycle, refusal-judged, cycle-judged, size-short, refused-before-7, refused-7, plan-passed, size-held}
+use Rattle.cycle.specs.Inner.Held.{planOf, sized}
+use Rattle.cycle.proofs.Building.Answering.{judged-refusal, judged-cycle, refusal-judged, cycle-judged, size-short, refused-before-7, refused-7, plan-passed}
+use Rattle.cycle.proofs.Building.PlanFigures.{size-held}
 use Rattle.cycle.proofs.judge.judge_room.Statement.{statement}
 use Rattle.cycle.proofs.judge.judge_room.Tie as tie
 
@@ -71,9 +72,7 @@ pub judge-room-spec : {M : Type 1} → statement M
 judge-room-spec =
     tie.close
     (tie.spec
-    (λ c κs. search needs)
-    (λ c. search needs)
-    (λ c. search needs)
+    (λ c κs. search needs) (λ c. search needs) (λ c. search needs)
     mul-if1
     returns
     returns-2

@@ -6,10 +6,12 @@ use Prim.Native.Nat.{ℕ, _+_, _-_, _*_, _/_, _^_, _≤_, _<_}
 use native.Mathlib.Omega.{arith}
 use lib.ListN.{length}
 use Rattle.cycle.specs.declared.Figures.{Figures}
-use Rattle.cycle.specs.Held.{planOf, segmentCount, treeAt, firstPlace}
-use Rattle.cycle.proofs.PathSizes.{climbs, length-paths}
-use Rattle.cycle.proofs.Readiness.{Block, block, BlockTrees, block-trees}
-use Rattle.cycle.proofs.DataHeld.{data-in-block}
+use Rattle.cycle.specs.Judging.{treeAt}
+use Rattle.cycle.specs.Cycle.{firstPlace}
+use Rattle.cycle.specs.Inner.Held.{planOf, segmentCount}
+use Rattle.cycle.proofs.Sequences.PathSizes.{climbs, length-paths}
+use Rattle.cycle.proofs.Trees.Readiness.{Block, block, BlockTrees, block-trees}
+use Rattle.cycle.proofs.Reach.DataHeld.{data-in-block}
 use Rattle.cycle.proofs.places.distributed_data_place.Statement.{statement}
 use Rattle.cycle.proofs.places.distributed_data_place.Tie as tie
 use Rattle.buckets.specs.Lengths.{linesMost, bucketsMost}
@@ -58,24 +60,6 @@ summed c =
           (sym (t .full));
     })
 
-div-b : tie.Need-div-b
-div-b c = rw (trees (c .before) .span) (known (c .before) .power-low)
-
-mul-result : tie.Need-mul-result
-mul-result c = let s = summed (c .before .before) in omega arith
-
-add-result : tie.Need-add-result
-add-result c = let s = summed (c .before .before) in omega arith
-
-segment-tree-requires : tie.Need-segment-tree-requires
-segment-tree-requires c κs = let start = c .before .before in (start .pre .0, start .pre .1, summed start .among)
-
-add-result-2 : tie.Need-add-result-2
-add-result-2 c = let s = summed (c .before .before .before) in rw (c .segment-tree .ensures) (omega arith)
-
-add-paths-before : tie.Need-add-paths-before
-add-paths-before c = let s = summed (c .before .before .before) in omega arith
-
 paths-before-requires : tie.Need-paths-before-requires
 paths-before-requires c κs =
     let start = c .before .before .before in
@@ -110,12 +94,12 @@ pub distributed-data-place-spec : {M : Type 1} → statement M
 distributed-data-place-spec =
     tie.close
     (tie.spec
-    div-b
-    mul-result
-    add-result
-    segment-tree-requires
-    add-result-2
-    add-paths-before
+    (λ c. rw (trees (c .before) .span) (known (c .before) .power-low))
+    (λ c. let s = summed (c .before .before) in omega arith)
+    (λ c. let s = summed (c .before .before) in omega arith)
+    (λ c κs. let start = c .before .before in (start .pre .0, start .pre .1, summed start .among))
+    (λ c. let s = summed (c .before .before .before) in rw (c .segment-tree .ensures) (omega arith))
+    (λ c. let s = summed (c .before .before .before) in omega arith)
     paths-before-requires
     add-result-3
     returns)

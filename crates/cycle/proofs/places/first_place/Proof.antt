@@ -4,8 +4,8 @@ use mathlib.Core.Path.{_≡_, sym, ap, ap₂, _∙_}
 use Prim.Native.Nat.{ℕ, _+_, _-_, _*_, _^_}
 use native.Mathlib.Omega.{arith}
 use Rattle.cycle.specs.Layouts.{pathTop}
-use Rattle.cycle.proofs.PlacedBlocks.{blockAt}
-use Rattle.cycle.proofs.FirstHeld.{First, first-held}
+use Rattle.cycle.proofs.Segmenting.HeldBlocks.{blockAt}
+use Rattle.cycle.proofs.Reach.FirstHeld.{First, first-held}
 use Rattle.cycle.proofs.places.first_place.Statement.{statement}
 use Rattle.cycle.proofs.places.first_place.Tie as tie
 
@@ -17,25 +17,13 @@ number c = c .args .j * c .args .f .n ^ (c .args .f .copies + 1 - c .args .level
 known : (c : tie.Start) → First (c .args .f) (c .args .level) (c .args .j) (number c)
 known c = first-held (c .args .f) (c .args .level) (c .args .j) (c .pre .0) (c .pre .1) (c .pre .2) (c .pre .3) (c .pre .4)
 
-add-h : tie.Need-add-h
-add-h c = omega (arith, known (c .before) .few)
-
-sub-h : tie.Need-sub-h
-sub-h c = omega arith
-
 power-requires : tie.Need-power-requires
 power-requires c κs = let s = c .before .pre .0 .shaped in (s .n-low, s .n-high, omega (arith, known (c .before) .few))
-
-mul-b : tie.Need-mul-b
-mul-b c = rw (c .power .ensures) (omega (arith, known (c .before .before) .small))
 
 distributed-start-requires : tie.Need-distributed-start-requires
 distributed-start-requires c κs =
     let start = c .before .before in
     (start .pre .0, start .pre .1, rw (c .power .ensures) (known start .among))
-
-path-top-requires : tie.Need-path-top-requires
-path-top-requires c κs = let start = c .before .before .before in (start .pre .0, start .pre .1)
 
 abbrev begun : tie.After-path-top → tie.Start
 begun c = c .before .before .before .before
@@ -57,9 +45,6 @@ start-is c =
     let f = begun c .args .f in
     c .before .distributed-start .ensures ∙ ap (λ x. blockAt f (begun c .args .j * x)) (c .before .before .power .ensures)
 
-sub-result : tie.Need-sub-result
-sub-result c = rw (top-is c) (known (begun c) .top)
-
 add-result : tie.Need-add-result
 add-result c =
     let k = known (begun c) in
@@ -74,12 +59,12 @@ pub first-place-spec : {M : Type 1} → statement M
 first-place-spec =
     tie.close
     (tie.spec
-    add-h
-    sub-h
+    (λ c. omega (arith, known (c .before) .few))
+    (λ c. omega arith)
     power-requires
-    mul-b
+    (λ c. rw (c .power .ensures) (omega (arith, known (c .before .before) .small)))
     distributed-start-requires
-    path-top-requires
-    sub-result
+    (λ c κs. let start = c .before .before .before in (start .pre .0, start .pre .1))
+    (λ c. rw (top-is c) (known (begun c) .top))
     add-result
     returns)

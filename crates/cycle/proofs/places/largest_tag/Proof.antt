@@ -2,9 +2,9 @@
 -- Assumes nothing.
 use mathlib.Core.Path.{sym, ap, _∙_}
 use Prim.Native.Nat.{_+_, _-_, _*_, min}
-use Rattle.cycle.specs.Held.{tagAt}
-use Rattle.cycle.proofs.Readiness.{reached}
-use Rattle.cycle.proofs.LargestTags.{largest-tag}
+use Rattle.cycle.specs.Inner.Held.{tagAt}
+use Rattle.cycle.proofs.Trees.Readiness.{reached}
+use Rattle.cycle.proofs.Trees.LargestTags.{largest-tag}
 use Rattle.cycle.proofs.places.largest_tag.Statement.{statement}
 use Rattle.cycle.proofs.places.largest_tag.Tie as tie
 
@@ -19,9 +19,6 @@ last-line-requires c κs =
     let start = c .before .before in
     (start .pre .0, (start .pre .1, record { height = start .args .e; power = c .power .ensures; inside = start .pre .2 }))
 
-tag-of-requires : tie.Need-tag-of-requires
-tag-of-requires c κs = let p = c .before .before .before .pre in (p .0, c .last-line .ensures .0, p .3)
-
 returns : tie.Need-returns
 returns c =
     let start = c .before .before .before .before in
@@ -34,4 +31,9 @@ returns c =
     (start .args .text .now))
 
 pub largest-tag-spec : {M : Type 1} → statement M
-largest-tag-spec = tie.close (tie.spec power-requires last-line-requires tag-of-requires returns)
+largest-tag-spec = tie.close
+    (tie.spec
+    power-requires
+    last-line-requires
+    (λ c κs. let p = c .before .before .before .pre in (p .0, c .last-line .ensures .0, p .3))
+    returns)

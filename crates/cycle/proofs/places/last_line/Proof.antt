@@ -4,11 +4,9 @@ use mathlib.Core.Path.{ap}
 use Prim.Native.Nat.{_+_, _-_, _*_, _≤_}
 use native.Mathlib.Nat.{mul-le-mul}
 use native.Mathlib.Omega.{arith}
-use Rattle.cycle.proofs.LargestTags.{SpanReached, span-reached}
+use Rattle.cycle.proofs.Trees.LargestTags.{SpanReached, span-reached}
 use Rattle.cycle.proofs.places.last_line.Statement.{statement}
 use Rattle.cycle.proofs.places.last_line.Tie as tie
-use Rattle.cycle.specs.Held.{spanMost}
-use Rattle.buckets.specs.Lengths.{linesMost, bucketLinesMost}
 
 -- what is known at the start
 known : (c : tie.Start) → SpanReached (c .args .f) (c .args .span) (c .args .j)
@@ -24,9 +22,6 @@ mul-lesser-2 c =
 some : (c : tie.After-lesser) → 1 ≤ c .lesser .result
 some c = omega (arith, c .lesser .ensures, known (c .before .before) .lines-some)
 
-returns : tie.Need-returns
-returns c = (omega (arith, some c, c .lesser .ensures), ap (λ x. x - 1) (c .lesser .ensures))
-
 pub last-line-spec : {M : Type 1} → statement M
 last-line-spec =
     tie.close
@@ -36,4 +31,4 @@ last-line-spec =
     mul-lesser-2
     (λ c κs. tt)
     some
-    returns)
+    (λ c. (omega (arith, some c, c .lesser .ensures), ap (λ x. x - 1) (c .lesser .ensures))))

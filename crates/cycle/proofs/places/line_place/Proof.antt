@@ -4,23 +4,12 @@ use borrow.Author.Needs.{needs}
 use mathlib.Core.List.{[]}
 use Prim.Native.Nat.{_+_, _/_, _<_}
 use native.Mathlib.Omega.{arith}
-use Rattle.cycle.specs.Held.{planOf, firstPlace}
-use Rattle.cycle.proofs.DataHeld.{data-ends}
-use Rattle.cycle.proofs.LinesHeld.{line-bucket, line-column}
+use Rattle.cycle.specs.Cycle.{firstPlace}
+use Rattle.cycle.specs.Inner.Held.{planOf}
+use Rattle.cycle.proofs.Reach.DataHeld.{data-ends}
+use Rattle.cycle.proofs.Lines.LinesHeld.{line-bucket, line-column}
 use Rattle.cycle.proofs.places.line_place.Statement.{statement}
 use Rattle.cycle.proofs.places.line_place.Tie as tie
-
-enum-told : tie.Need-enum-told
-enum-told c = search needs
-
-mul-result : tie.Need-mul-result
-mul-result c = search needs
-
-enum-told-2 : tie.Need-enum-told-2
-enum-told-2 c = search needs
-
-div-data-place : tie.Need-div-data-place
-div-data-place c = search needs
 
 data-place-requires : tie.Need-data-place-requires
 data-place-requires c κs =
@@ -39,9 +28,6 @@ mul-result-2 c =
     let start = c .before .before .before .before in
     let place = bucket-place start in
     rw (c .data-place .ensures) (omega (arith, start .pre .0 .size-high))
-
-rem-result : tie.Need-rem-result
-rem-result c = search needs
 
 mul-result-3 : tie.Need-mul-result-3
 mul-result-3 c =
@@ -62,9 +48,6 @@ add-result-2 c =
     let place = bucket-place start in
     rw (c .before .data-place .ensures) (omega (arith, start .pre .0 .size-high))
 
-returns : tie.Need-returns
-returns c = rw (c .enum-told .given .1)
-
 returns-2 : tie.Need-returns-2
 unfolding planOf
 returns-2 c = rw (c .before .before .before .enum-told2 .given .1, c .before .data-place .ensures)
@@ -73,15 +56,12 @@ pub line-place-spec : {M : Type 1} → statement M
 line-place-spec =
     tie.close
     (tie.spec
-    enum-told
-    mul-result
-    enum-told-2
-    div-data-place
+    (λ c. search needs) (λ c. search needs) (λ c. search needs) (λ c. search needs)
     data-place-requires
     mul-result-2
-    rem-result
+    (λ c. search needs)
     mul-result-3
     add-result
     add-result-2
-    returns
+    (λ c. rw (c .enum-told .given .1))
     returns-2)

@@ -4,9 +4,9 @@ use mathlib.Core.Path.{_≡_, sym, ap, _∙_}
 use Prim.Native.Nat.{_+_, _-_, _*_, _/_, _≤_}
 use native.Mathlib.Nat.{mul-le-mul}
 use native.Mathlib.Omega.{arith}
-use Rattle.cycle.proofs.PlacedParts.{wholeTree}
-use Rattle.cycle.proofs.Readiness.{Parts, parts, whole-last}
-use Rattle.cycle.proofs.DataHeld.{InPart, data-in-part}
+use Rattle.cycle.proofs.Segmenting.HeldParts.{wholeTree}
+use Rattle.cycle.proofs.Trees.Readiness.{Parts, parts, whole-last}
+use Rattle.cycle.proofs.Reach.DataHeld.{InPart, data-in-part}
 use Rattle.cycle.proofs.places.one_m_data_place.Statement.{statement}
 use Rattle.cycle.proofs.places.one_m_data_place.Tie as tie
 use Rattle.buckets.specs.Lengths.{linesMost}
@@ -21,27 +21,12 @@ tree c = whole-last (c .args .f) (c .pre .0 .shaped) (c .pre .0 .trees) (λ e. o
 found : (c : tie.Start) → InPart (c .args .f) (c .args .q) (c .pre .0) (c .pre .2) (((c .args .q + 1) * c .args .f .copies - 1) / c .args .f .d)
 found c = data-in-part (c .args .f) (c .args .q) (c .pre .0) (c .pre .2) (λ e. omega arith)
 
-add-part : tie.Need-add-part
-add-part c = omega (arith, known c .some)
-
 -- the product that the code divides
 product : (c : tie.Start) → (1 ≤ (c .args .q + 1) * c .args .f .copies) × ((c .args .q + 1) * c .args .f .copies ≤ linesMost * linesMost)
 product c =
     let k = known c in
     let low : 1 * 1 ≤ (c .args .q + 1) * c .args .f .copies = mul-le-mul {n₁ = 1} {m₁ = 1} (omega arith) (k .parted) in
     (omega arith, mul-le-mul {n₂ = linesMost} {m₂ = linesMost} (omega (arith, k .some)) (k .few))
-
-mul-part : tie.Need-mul-part
-mul-part c = omega (arith, product (c .before) .1)
-
-sub-part : tie.Need-sub-part
-sub-part c = product (c .before) .0
-
-div-part : tie.Need-div-part
-div-part c = omega arith
-
-add-result : tie.Need-add-result
-add-result c = omega (arith, found (c .before .before) .among, known (c .before .before) .few)
 
 mul-result : tie.Need-mul-result
 mul-result c =
@@ -64,4 +49,12 @@ returns c =
 pub one-m-data-place-spec : {M : Type 1} → statement M
 one-m-data-place-spec =
     tie.close
-    (tie.spec add-part mul-part sub-part div-part add-result mul-result add-result-2 returns)
+    (tie.spec
+    (λ c. omega (arith, known c .some))
+    (λ c. omega (arith, product (c .before) .1))
+    (λ c. product (c .before) .0)
+    (λ c. omega arith)
+    (λ c. omega (arith, found (c .before .before) .among, known (c .before .before) .few))
+    mul-result
+    add-result-2
+    returns)

@@ -5,11 +5,11 @@ use Prim.Native.Nat.{ℕ, _+_, _-_, _*_, _^_, _≤_, min}
 use native.Mathlib.Nat.{suc-mul}
 use native.Mathlib.Numerals.{add-one}
 use native.Mathlib.Omega.{arith}
-use Rattle.buckets.specs.Lengths.{figuresWidth, linesStart, bucketLength}
+use Rattle.buckets.specs.Lengths.{lineColumnsWidth, linesStart, bucketLength}
 use Rattle.cycle.specs.declared.Source.the-variants.{Image as InImage}
-use Rattle.cycle.specs.Held.{tagPlace}
-use Rattle.cycle.proofs.LargestTags.{SpanReached, span-reached}
-use Rattle.cycle.proofs.ImagePlaces.{lastData, lastLines, LastLine, Room, last-line-there, place-room, place-there}
+use Rattle.cycle.specs.Inner.Held.{tagPlace}
+use Rattle.cycle.proofs.Trees.LargestTags.{SpanReached, span-reached}
+use Rattle.cycle.proofs.ReadingBack.ImagePlaces.{lastData, lastLines, LastLine, Room, last-line-there, place-room, place-there}
 use Rattle.cycle.proofs.places.segment_place.Statement.{statement}
 use Rattle.cycle.proofs.places.segment_place.Tie as tie
 
@@ -63,8 +63,8 @@ returns c =
     let s = at .before in
     let f = s .args .f in
     let spans = s .pre .1 .1 .1 .1 .spans in
-    ap (λ z. bucketLength * (s .args .s .«data_at» + (at .lesser .result - 1 - s .args .s .first)) + (linesStart + figuresWidth * (z - 1))) (lines-are c)
-    ∙ ap (λ q. bucketLength * (s .args .s .«data_at» + (q - s .args .s .first)) + (linesStart + figuresWidth * (lastLines f (behind s) - 1))) (bucket-is at)
+    ap (λ z. bucketLength * (s .args .s .«data_at» + (at .lesser .result - 1 - s .args .s .first)) + (linesStart + lineColumnsWidth * (z - 1))) (lines-are c)
+    ∙ ap (λ q. bucketLength * (s .args .s .«data_at» + (q - s .args .s .first)) + (linesStart + lineColumnsWidth * (lastLines f (behind s) - 1))) (bucket-is at)
     ∙ place-there f (s .args .s) (s .pre .0) (s .pre .1 .0) (s .pre .1 .1 .0) (s .pre .1 .1 .1 .0) (spans .height) (s .args .j) (spans .inside) (s .pre .1 .1 .1 .1 .under)
     ∙ ap (λ m. tagPlace f InImage m (s .args .j)) (sym (spans .power))
 

@@ -5,13 +5,10 @@ use mathlib.Core.Path.{ap, _∙_}
 use lib.ListN.{length, take, drop}
 use Rattle.columns.specs.PrintedNumbers.{value}
 use Rattle.buckets.specs.Lengths.{tagWidth}
-use Rattle.cycle.specs.Held.{tagAt}
-use Rattle.cycle.proofs.LinesHeld.{line-fits}
+use Rattle.cycle.specs.Inner.Held.{tagAt}
+use Rattle.cycle.proofs.Lines.LinesHeld.{line-fits}
 use Rattle.cycle.proofs.places.tag_of.Statement.{statement}
 use Rattle.cycle.proofs.places.tag_of.Tie as tie
-
-line-place-requires : tie.Need-line-place-requires
-line-place-requires c κs = search needs
 
 spelled-tag-requires : tie.Need-spelled-tag-requires
 spelled-tag-requires c κs =
@@ -26,4 +23,8 @@ returns c =
     ∙ ap (λ x. value 0 (take tagWidth (drop x (c .before .before .before .args .text .now)))) (c .before .line-place .ensures)
 
 pub tag-of-spec : {M : Type 1} → statement M
-tag-of-spec = tie.close (tie.spec line-place-requires spelled-tag-requires returns)
+tag-of-spec = tie.close
+    (tie.spec
+    (λ c κs. search needs)
+    spelled-tag-requires
+    returns)

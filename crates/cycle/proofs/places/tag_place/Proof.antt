@@ -4,7 +4,7 @@ use mathlib.Core.Path.{sym, ap, _∙_}
 use mathlib.Core.List.{[]}
 use borrow.Author.Needs.{needs}
 use Rattle.cycle.specs.declared.Source.the-variants.{List as InList}
-use Rattle.cycle.specs.Held.{planOf, lineAt, tagPlace}
+use Rattle.cycle.specs.Inner.Held.{planOf, lineAt, tagPlace}
 use Rattle.cycle.proofs.places.tag_place.Statement.{statement}
 use Rattle.cycle.proofs.places.tag_place.Tie as tie
 
@@ -25,10 +25,6 @@ pub tag-place-spec : {M : Type 1} → statement M
 tag-place-spec =
     tie.close
     (tie.spec
-    (λ c. search needs)
-    (λ c κs. search needs)
-    (λ c κs. search needs)
-    (λ c. search needs)
-    (λ c κs. search needs)
+    (λ c. search needs) (λ c κs. search needs) (λ c κs. search needs) (λ c. search needs) (λ c κs. search needs)
     returns
     returns-2)

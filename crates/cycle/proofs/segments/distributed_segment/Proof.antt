@@ -9,10 +9,11 @@ use native.Mathlib.Omega.{arith}
 use lib.ListN.{length}
 use Rattle.cycle.specs.Layouts.{pathTop}
 use Rattle.cycle.specs.declared.Figures.{Figures}
-use Rattle.cycle.specs.Held.{planOf, treeAt}
-use Rattle.cycle.proofs.Paths.{pathTop-high}
-use Rattle.cycle.proofs.Readiness.{Block, block, BlockTrees, block-trees}
-use Rattle.cycle.proofs.PlacedBlocks.{blockAt, block-room, block-first, block-grows, placed-block}
+use Rattle.cycle.specs.Judging.{treeAt}
+use Rattle.cycle.specs.Inner.Held.{planOf}
+use Rattle.cycle.proofs.Sequences.Paths.{pathTop-high}
+use Rattle.cycle.proofs.Trees.Readiness.{Block, block, BlockTrees, block-trees}
+use Rattle.cycle.proofs.Segmenting.HeldBlocks.{blockAt, block-room, block-first, block-grows, placed-block}
 use Rattle.cycle.proofs.segments.distributed_segment.Statement.{statement}
 use Rattle.cycle.proofs.segments.distributed_segment.Tie as tie
 use Rattle.buckets.specs.Lengths.{bucketsMost}
@@ -47,29 +48,11 @@ room c =
       ends = block-room f b (c .pre .0) (c .pre .1) (c .pre .2);
     }
 
-distributed-start-requires : tie.Need-distributed-start-requires
-distributed-start-requires c κs = (c .pre .0, c .pre .1, c .pre .2)
-
-sub-e : tie.Need-sub-e
-sub-e c = omega (arith, known (c .before .before) .fits)
-
-path-top-requires : tie.Need-path-top-requires
-path-top-requires c κs = (c .before .before .pre .0, c .before .before .pre .1)
-
-add-tree-at : tie.Need-add-tree-at
-add-tree-at c = omega (arith, known (c .before .before .before .before) .few)
-
-sub-tree-at : tie.Need-sub-tree-at
-sub-tree-at c = omega (arith, room (c .before .before .before .before) .top, c .before .path-top .ensures)
-
 add-tree-at-2 : tie.Need-add-tree-at-2
 add-tree-at-2 c =
     let r = room (c .before .before .before .before) in
     let k = known (c .before .before .before .before) in
     omega (arith, c .before .before .before .distributed-start .ensures)
-
-segment-tree-requires : tie.Need-segment-tree-requires
-segment-tree-requires c κs = let start = c .before .before .before .before in (start .pre .0, start .pre .1, start .pre .2)
 
 add-data-at : tie.Need-add-data-at
 add-data-at c =
@@ -88,9 +71,6 @@ add-lesser c =
     let r = room start in
     let k = known start in
     rw (trees start .span) (omega arith)
-
-lesser-requires : tie.Need-lesser-requires
-lesser-requires c κs = tt
 
 -- the end of a block's data, and the start seen from there
 abbrev blockEnd : Figures → ℕ → ℕ
@@ -153,17 +133,17 @@ pub distributed-segment-spec : {M : Type 1} → statement M
 distributed-segment-spec =
     tie.close
     (tie.spec
-    distributed-start-requires
-    sub-e
-    path-top-requires
-    add-tree-at
-    sub-tree-at
+    (λ c κs. (c .pre .0, c .pre .1, c .pre .2))
+    (λ c. omega (arith, known (c .before .before) .fits))
+    (λ c κs. (c .before .before .pre .0, c .before .before .pre .1))
+    (λ c. omega (arith, known (c .before .before .before .before) .few))
+    (λ c. omega (arith, room (c .before .before .before .before) .top, c .before .path-top .ensures))
     add-tree-at-2
-    segment-tree-requires
+    (λ c κs. let start = c .before .before .before .before in (start .pre .0, start .pre .1, start .pre .2))
     add-data-at
     mul-first
     add-lesser
-    lesser-requires
+    (λ c κs. tt)
     sub-t10
     add-t11
     returns)

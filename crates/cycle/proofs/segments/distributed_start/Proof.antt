@@ -5,11 +5,12 @@ use mathlib.Core.List.{[]}
 use Prim.Native.Nat.{_+_, _-_, _*_, _^_, _≤_}
 use native.Mathlib.Nat.{mul-le-mul}
 use native.Mathlib.Omega.{arith}
-use Rattle.cycle.specs.Held.{planOf, fullSize, InTree, spanMost}
-use Rattle.cycle.proofs.PathSizes.{climbs, climbs-small, length-paths}
-use Rattle.cycle.proofs.SegmentSizes.{length-blocks}
-use Rattle.cycle.proofs.Readiness.{Block, block, BlockTrees, block-trees, Reached, reached}
-use Rattle.cycle.proofs.Segmented.{block-in}
+use Rattle.cycle.specs.Judging.{fullSize}
+use Rattle.cycle.specs.Inner.Held.{planOf, InTree, spanMost}
+use Rattle.cycle.proofs.Sequences.PathSizes.{climbs, climbs-small, length-paths}
+use Rattle.cycle.proofs.Segmenting.SegmentSizes.{length-blocks}
+use Rattle.cycle.proofs.Trees.Readiness.{Block, block, BlockTrees, block-trees, Reached}
+use Rattle.cycle.proofs.Trees.Segmented.{block-in, block-reached}
 use Rattle.cycle.proofs.segments.distributed_start.Statement.{statement}
 use Rattle.cycle.proofs.segments.distributed_start.Tie as tie
 use Rattle.buckets.specs.Lengths.{linesMost, pairsMost}
@@ -22,9 +23,7 @@ trees : (c : tie.Start) → BlockTrees (c .args .f)
 trees c = block-trees (c .args .f) (c .pre .0 .shaped) (c .pre .0 .trees) (c .pre .1)
 
 inside : (c : tie.Start) → Reached (c .args .f) (c .args .f .k - c .args .f .copies) (c .args .b)
-inside c =
-    let f = c .args .f in
-    reached f (f .k - f .copies) (c .args .b) (c .pre .0 .shaped) (block-in f (c .args .b) (c .pre .0) (c .pre .1) (c .pre .2))
+inside c = block-reached (c .args .f) (c .args .b) (c .pre .0) (c .pre .1) (c .pre .2)
 
 -- a full segment's tree and data buckets, and those of the segments before
 wide : (c : tie.Start) → c .args .f .span + c .args .f .full ≤ 2 * spanMost
@@ -32,12 +31,6 @@ wide c = let k = known c in let t = trees c in omega (arith, k .power-high, k .f
 
 small : (c : tie.Start) → c .args .b * (c .args .f .span + c .args .f .full) ≤ linesMost * (2 * spanMost)
 small c = mul-le-mul {n₂ = linesMost} {m₂ = 2 * spanMost} (inside c .place) (wide c)
-
-add-result : tie.Need-add-result
-add-result c = omega (arith, wide (c .before))
-
-mul-result : tie.Need-mul-result
-mul-result c = omega (arith, small (c .before))
 
 paths-before-requires : tie.Need-paths-before-requires
 paths-before-requires c κs = let start = c .before in (start .pre .0 .shaped, start .pre .1, start .pre .0 .copies-fit, inside start .place)
@@ -57,9 +50,6 @@ climbed c =
     let s = climbs-small (f .n) (k .pos) (f .copies) (start .args .b) linesMost (inside start .place) in
     (e, omega (arith, k .few))
 
-add-result-2 : tie.Need-add-result-2
-add-result-2 c = omega (arith, small (c .before .before), climbed c .1)
-
 returns : tie.Need-returns
 unfolding planOf InTree
 returns c =
@@ -74,4 +64,10 @@ returns c =
 
 pub distributed-start-spec : {M : Type 1} → statement M
 distributed-start-spec =
-    tie.close (tie.spec add-result mul-result paths-before-requires add-result-2 returns)
+    tie.close
+    (tie.spec
+    (λ c. omega (arith, wide (c .before)))
+    (λ c. omega (arith, small (c .before)))
+    paths-before-requires
+    (λ c. omega (arith, small (c .before .before), climbed c .1))
+    returns)

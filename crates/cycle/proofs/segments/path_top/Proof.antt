@@ -10,7 +10,7 @@ use lib.Dec.{eqb}
 use Rattle.columns.specs.Lists.{pick}
 use borrow.Author.Tests.{eq-eqb, ne-eqb}
 use Rattle.cycle.specs.Layouts.{pathTop}
-use Rattle.cycle.proofs.PathSizes.{topOf, pathTop-divides}
+use Rattle.cycle.proofs.Sequences.PathSizes.{topOf, pathTop-divides}
 use Rattle.cycle.proofs.segments.path_top.Statement.{statement}
 use Rattle.cycle.proofs.segments.path_top.Tie as tie
 
@@ -39,29 +39,14 @@ top-root n level place l =
     pick-one true = refl
     pick-one false = refl
 
-returns : tie.Need-returns Inv-loop μ-loop
-returns c = let z : c .before .args .b ≡ 0 = omega arith in rw z
-
 loop-holds : tie.Need-loop-holds Inv-loop μ-loop
 loop-holds c = let f = c .before .args .f in pathTop-divides (f .n) (omega arith) (f .copies) (c .before .args .b) (omega arith)
-
-rem-if2 : tie.Need-rem-if2 Inv-loop μ-loop
-rem-if2 c = omega arith
 
 returns-2 : tie.Need-returns-2 Inv-loop μ-loop
 returns-2 c =
     let f = c .before .before .before .before .before .args .f in
     let l = c .before .before .before .loop in
     sym (l .inv ∙ top-here (f .n) (l .level) (l .place) (omega arith) (c .if2 .taken))
-
-div-place : tie.Need-div-place Inv-loop μ-loop
-div-place c = omega arith
-
-sub-level : tie.Need-sub-level Inv-loop μ-loop
-sub-level c = omega arith
-
-loop-less : tie.Need-loop-less Inv-loop μ-loop
-loop-less c = omega arith
 
 loop-again : tie.Need-loop-again Inv-loop μ-loop
 loop-again c =
@@ -78,15 +63,11 @@ returns-3 c =
 pub path-top-spec : {M : Type 1} → statement M
 path-top-spec =
     tie.close
-    (tie.spec
-    Inv-loop
-    μ-loop
-    returns
+    (tie.spec Inv-loop μ-loop
+    (λ c. let z : c .before .args .b ≡ 0 = omega arith in rw z)
     loop-holds
-    rem-if2
+    (λ c. omega arith)
     returns-2
-    div-place
-    sub-level
-    loop-less
+    (λ c. omega arith) (λ c. omega arith) (λ c. omega arith)
     loop-again
     returns-3)

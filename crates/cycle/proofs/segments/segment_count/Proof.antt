@@ -5,10 +5,10 @@ use mathlib.Core.List.{[]}
 use Prim.Native.Nat.{_-_, _^_}
 use native.Mathlib.Omega.{arith}
 use Rattle.columns.specs.Lists.{up}
-use Rattle.cycle.specs.Held.{planOf}
-use Rattle.cycle.proofs.PathSizes.{up-none, last-part}
-use Rattle.cycle.proofs.SegmentSizes.{count-blocks, count-wholes}
-use Rattle.cycle.proofs.Readiness.{Block, block, BlockTrees, block-trees}
+use Rattle.cycle.specs.Inner.Held.{planOf}
+use Rattle.cycle.proofs.Sequences.PathSizes.{up-none, last-part}
+use Rattle.cycle.proofs.Segmenting.SegmentSizes.{count-blocks, count-wholes}
+use Rattle.cycle.proofs.Trees.Readiness.{Block, block, BlockTrees, block-trees}
 use Rattle.cycle.proofs.segments.segment_count.Statement.{statement}
 use Rattle.cycle.proofs.segments.segment_count.Tie as tie
 

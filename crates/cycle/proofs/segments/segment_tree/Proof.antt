@@ -5,10 +5,10 @@ use mathlib.Core.List.{[]}
 use Prim.Native.Nat.{_-_}
 use native.Mathlib.Numerals.{add-one}
 use native.Mathlib.Omega.{arith}
-use Rattle.cycle.specs.Held.{planOf, InTree}
-use Rattle.cycle.proofs.TreeSizes.{tree-full}
-use Rattle.cycle.proofs.Readiness.{BlockTrees, block-trees, Reached, reached}
-use Rattle.cycle.proofs.Segmented.{block-in}
+use Rattle.cycle.specs.Inner.Held.{planOf, InTree}
+use Rattle.cycle.proofs.Trees.TreeSizes.{tree-full}
+use Rattle.cycle.proofs.Trees.Readiness.{BlockTrees, block-trees, Reached}
+use Rattle.cycle.proofs.Trees.Segmented.{block-in, block-reached}
 use Rattle.cycle.proofs.segments.segment_tree.Statement.{statement}
 use Rattle.cycle.proofs.segments.segment_tree.Tie as tie
 
@@ -17,15 +17,7 @@ trees : (c : tie.Start) → BlockTrees (c .args .f)
 trees c = block-trees (c .args .f) (c .pre .0 .shaped) (c .pre .0 .trees) (c .pre .1)
 
 inside : (c : tie.Start) → Reached (c .args .f) (c .args .f .k - c .args .f .copies) (c .args .b)
-inside c =
-    let f = c .args .f in
-    reached f (f .k - f .copies) (c .args .b) (c .pre .0 .shaped) (block-in f (c .args .b) (c .pre .0) (c .pre .1) (c .pre .2))
-
-add-if1 : tie.Need-add-if1
-add-if1 c = omega (arith, inside c .place)
-
-mul-if1 : tie.Need-mul-if1
-mul-if1 c = rw (trees (c .before) .span) (omega (arith, inside (c .before) .end))
+inside c = block-reached (c .args .f) (c .args .b) (c .pre .0) (c .pre .1) (c .pre .2)
 
 returns : tie.Need-returns
 unfolding planOf InTree
@@ -50,4 +42,9 @@ returns-2 c =
     t .last b (block-in f b (start .pre .0) (start .pre .1) (start .pre .2) .1) (omega arith)
 
 pub segment-tree-spec : {M : Type 1} → statement M
-segment-tree-spec = tie.close (tie.spec add-if1 mul-if1 returns returns-2)
+segment-tree-spec = tie.close
+    (tie.spec
+    (λ c. omega (arith, inside c .place))
+    (λ c. rw (trees (c .before) .span) (omega (arith, inside (c .before) .end)))
+    returns
+    returns-2)

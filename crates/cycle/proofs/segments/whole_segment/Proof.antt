@@ -7,10 +7,10 @@ use native.Mathlib.Nat.{mul-le-mul}
 use native.Mathlib.Numerals.{add-one}
 use native.Mathlib.Omega.{arith}
 use Rattle.cycle.specs.declared.Figures.{Figures}
-use Rattle.cycle.specs.Held.{planOf}
-use Rattle.cycle.proofs.OneM.{part-step}
-use Rattle.cycle.proofs.Readiness.{Parts, parts, whole-last}
-use Rattle.cycle.proofs.PlacedParts.{wholeTree, partFrom, whole-room, placed-whole}
+use Rattle.cycle.specs.Inner.Held.{planOf}
+use Rattle.cycle.proofs.Sequences.OneM.{part-step}
+use Rattle.cycle.proofs.Trees.Readiness.{Parts, parts, whole-last}
+use Rattle.cycle.proofs.Segmenting.HeldParts.{wholeTree, partFrom, whole-room, placed-whole}
 use Rattle.cycle.proofs.segments.whole_segment.Statement.{statement}
 use Rattle.cycle.proofs.segments.whole_segment.Tie as tie
 use Rattle.buckets.specs.Lengths.{linesMost, bucketsMost}
@@ -47,21 +47,6 @@ room c =
       ends = ends;
     }
 
-mul-first : tie.Need-mul-first
-mul-first c = omega (arith, room (c .before) .data-before)
-
-div-first : tie.Need-div-first
-div-first c = known (c .before .before) .parted
-
-add-last : tie.Need-add-last
-add-last c = omega (arith, known (c .before .before) .few)
-
-mul-last : tie.Need-mul-last
-mul-last c = omega (arith, room (c .before .before .before) .data-behind)
-
-div-last : tie.Need-div-last
-div-last c = known (c .before .before .before .before) .parted
-
 mul-start : tie.Need-mul-start
 mul-start c = let start = c .before .before .before .before in let r = room start in rw (tree start) (omega arith)
 
@@ -70,12 +55,6 @@ add-start c = let start = c .before .before .before .before in let r = room star
 
 add-data-at : tie.Need-add-data-at
 add-data-at c = let start = c .before .before .before .before in let r = room start in rw (tree start) (omega arith)
-
-add-t9 : tie.Need-add-t9
-add-t9 c = omega (arith, known (c .before .before .before .before .before) .few)
-
-sub-t8 : tie.Need-sub-t8
-sub-t8 c = let r = room (c .before .before .before .before .before) in rw (r .next) (r .grows)
 
 add-t11 : tie.Need-add-t11
 add-t11 c = let start = c .before .before .before .before .before in let r = room start in rw (tree start, r .next) (omega arith)
@@ -93,15 +72,15 @@ pub whole-segment-spec : {M : Type 1} → statement M
 whole-segment-spec =
     tie.close
     (tie.spec
-    mul-first
-    div-first
-    add-last
-    mul-last
-    div-last
+    (λ c. omega (arith, room (c .before) .data-before))
+    (λ c. known (c .before .before) .parted)
+    (λ c. omega (arith, known (c .before .before) .few))
+    (λ c. omega (arith, room (c .before .before .before) .data-behind))
+    (λ c. known (c .before .before .before .before) .parted)
     mul-start
     add-start
     add-data-at
-    add-t9
-    sub-t8
+    (λ c. omega (arith, known (c .before .before .before .before .before) .few))
+    (λ c. let r = room (c .before .before .before .before .before) in rw (r .next) (r .grows))
     add-t11
     returns)

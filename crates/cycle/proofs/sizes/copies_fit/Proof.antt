@@ -8,9 +8,9 @@ use Prim.Native.Nat.{ℕ, _-_, _≤_, _<_, min, max}
 use native.Mathlib.Omega.{arith}
 use lib.Dec.{leb, eqb}
 use borrow.Author.Tests.{le-leb, lt-leb, ne-eqb}
-use Rattle.cycle.specs.Held.{planOf}
-use Rattle.cycle.proofs.Ranges.{le-or-lt}
-use Rattle.cycle.proofs.Readiness.{copies-distributed, copies-whole, same-ltb-leb, levels-are}
+use Rattle.cycle.specs.Inner.Held.{planOf}
+use Rattle.cycle.proofs.Basics.Ranges.{le-or-lt}
+use Rattle.cycle.proofs.Trees.Readiness.{copies-distributed, copies-whole, same-ltb-leb, levels-are}
 use Rattle.cycle.proofs.sizes.copies_fit.Statement.{statement}
 use Rattle.cycle.proofs.sizes.copies_fit.Tie as tie
 use Rattle.buckets.specs.Lengths.{pairsMost}

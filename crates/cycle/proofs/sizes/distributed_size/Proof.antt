@@ -9,11 +9,12 @@ use lib.ListN.{length}
 use Rattle.columns.specs.Lists.{up}
 use Rattle.buckets.specs.Lengths.{linesMost, pairsMost}
 use Rattle.cycle.specs.declared.Figures.{Figures}
-use Rattle.cycle.specs.Held.{planOf, treeAt, spanMost}
-use Rattle.cycle.proofs.TreeSizes.{tree-small}
-use Rattle.cycle.proofs.PathSizes.{LastPart, last-part, climbs, climbs-small, length-paths}
-use Rattle.cycle.proofs.SegmentSizes.{size-blocks, size-empty}
-use Rattle.cycle.proofs.Readiness.{Block, block, BlockTrees, block-trees, one-level}
+use Rattle.cycle.specs.Judging.{treeAt}
+use Rattle.cycle.specs.Inner.Held.{planOf, spanMost}
+use Rattle.cycle.proofs.Trees.TreeSizes.{tree-small}
+use Rattle.cycle.proofs.Sequences.PathSizes.{LastPart, last-part, climbs, climbs-small, length-paths}
+use Rattle.cycle.proofs.Segmenting.SegmentSizes.{size-blocks, size-empty}
+use Rattle.cycle.proofs.Trees.Readiness.{Block, block, BlockTrees, block-trees, one-level}
 use Rattle.cycle.proofs.sizes.distributed_size.Statement.{statement}
 use Rattle.cycle.proofs.sizes.distributed_size.Tie as tie
 
@@ -90,15 +91,6 @@ climbed c =
     let s = climbs-small (f .n) (b .pos) (f .copies) (c .before .up .result) linesMost (omega (arith, counted (c .before) .few, b .some)) in
     (e, omega (arith, b .few))
 
-add-result : tie.Need-add-result
-add-result c = omega (arith, climbed (c .before) .1, known (c .before .before .before .before .before) .some)
-
-sub-result : tie.Need-sub-result
-sub-result c = counted (c .before .before) .some
-
-mul-result : tie.Need-mul-result
-mul-result c = let x = before-last (c .before .before .before) in omega arith
-
 add-result-2 : tie.Need-add-result-2
 add-result-2 c =
     let x = before-last (c .before .before .before) in
@@ -133,9 +125,9 @@ distributed-size-spec =
     returns
     up-requires
     paths-before-requires
-    add-result
-    sub-result
-    mul-result
+    (λ c. omega (arith, climbed (c .before) .1, known (c .before .before .before .before .before) .some))
+    (λ c. counted (c .before .before) .some)
+    (λ c. let x = before-last (c .before .before .before) in omega arith)
     add-result-2
     add-result-3
     returns-2)

@@ -3,9 +3,9 @@
 use mathlib.Core.Path.{_≡_}
 use native.Mathlib.Omega.{arith}
 use Rattle.columns.specs.Lists.{up}
-use Rattle.cycle.specs.Held.{lastPlace}
-use Rattle.cycle.proofs.PathSizes.{up-none, LastPart, last-part}
-use Rattle.cycle.proofs.Readiness.{data-high}
+use Rattle.cycle.specs.Judging.{lastPlace}
+use Rattle.cycle.proofs.Sequences.PathSizes.{up-none, LastPart, last-part}
+use Rattle.cycle.proofs.Trees.Readiness.{data-high}
 use Rattle.cycle.proofs.sizes.last_root.Statement.{statement}
 use Rattle.cycle.proofs.sizes.last_root.Tie as tie
 
@@ -27,12 +27,14 @@ part c =
     let start = c .before .before .before in
     last-part (start .args .f .d) (start .args .span) (omega arith) (start .pre .1)
 
-sub-result : tie.Need-sub-result
-sub-result c = rw (c .up .ensures) (part c .some)
-
 returns-2 : tie.Need-returns-2
 unfolding lastPlace
 returns-2 c = omega (arith, c .up .ensures, part c .some)
 
 pub last-root-spec : {M : Type 1} → statement M
-last-root-spec = tie.close (tie.spec returns up-requires sub-result returns-2)
+last-root-spec = tie.close
+    (tie.spec
+    returns
+    up-requires
+    (λ c. rw (c .up .ensures) (part c .some))
+    returns-2)

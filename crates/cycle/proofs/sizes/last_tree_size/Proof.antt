@@ -7,10 +7,10 @@ use native.Mathlib.Omega.{arith}
 use Rattle.columns.specs.Lists.{up}
 use Rattle.buckets.specs.Lengths.{linesMost}
 use Rattle.cycle.specs.declared.Figures.{Figures}
-use Rattle.cycle.specs.Held.{planOf, Shaped, InTree, spanMost}
+use Rattle.cycle.specs.Inner.Held.{planOf, Shaped, InTree, spanMost}
 use Rattle.cycle.specs.Tree.{levelsMost}
-use Rattle.cycle.proofs.TreeSizes.{lastRows, tree-last, tree-empty, row-fits}
-use Rattle.cycle.proofs.Readiness.{Reached, reached}
+use Rattle.cycle.proofs.Trees.TreeSizes.{lastRows, tree-last, tree-empty, row-fits}
+use Rattle.cycle.proofs.Trees.Readiness.{Reached, reached}
 use Rattle.cycle.proofs.sizes.last_tree_size.Statement.{statement}
 use Rattle.cycle.proofs.sizes.last_tree_size.Tie as tie
 
@@ -50,9 +50,6 @@ returns c =
     let s = start .pre in
     sym (tree-empty (planOf (start .args .f) []) (omega (arith, s .0 .n-low)) (start .args .e) (start .args .j) (s .2 .0) (omega arith) (s .1))
 
-loop-holds : tie.Need-loop-holds Inv-loop μ-loop
-loop-holds c = (omega arith, omega arith, refl, omega arith)
-
 -- the row of the turn
 now-row :
     (c : tie.In-loop Inv-loop μ-loop) →
@@ -63,9 +60,6 @@ now-row c =
 
 power-requires : tie.Need-power-requires Inv-loop μ-loop
 power-requires c κs = let f = c .before .before .before .before .pre .0 in (f .n-low, f .n-high, omega (arith, now-row c .height))
-
-up-requires : tie.Need-up-requires Inv-loop μ-loop
-up-requires c κs = let r = now-row (c .before) in rw (c .power .ensures) (omega arith, omega arith)
 
 abbrev figures : tie.After-up Inv-loop μ-loop → Figures
 figures c = c .before .before .before .before .before .before .args .f
@@ -80,20 +74,8 @@ power-requires-2 c κs =
     let f = c .before .before .before .before .before .before .pre .0 in
     (f .n-low, f .n-high, omega (arith, now-row (c .before .before) .height))
 
-mul-sum : tie.Need-mul-sum Inv-loop μ-loop
-mul-sum c = let r = now-row (c .before .before .before) in rw (c .power2 .ensures) (omega arith)
-
 sub-sum : tie.Need-sub-sum Inv-loop μ-loop
 sub-sum c = let r = now-row (c .before .before .before) in rw (c .power2 .ensures, rounded (c .before)) (omega arith)
-
-add-sum : tie.Need-add-sum Inv-loop μ-loop
-add-sum c = let r = now-row (c .before .before .before) in let x = rounded (c .before) in omega arith
-
-add-h : tie.Need-add-h Inv-loop μ-loop
-add-h c = omega (arith, now-row (c .before .before .before) .height)
-
-loop-less : tie.Need-loop-less Inv-loop μ-loop
-loop-less c = omega arith
 
 -- the row of height h added
 row-added :
@@ -136,18 +118,16 @@ returns-2 c =
 pub last-tree-size-spec : {M : Type 1} → statement M
 last-tree-size-spec =
     tie.close
-    (tie.spec
-    Inv-loop
-    μ-loop
+    (tie.spec Inv-loop μ-loop
     returns
-    loop-holds
+    (λ c. (omega arith, omega arith, refl, omega arith))
     power-requires
-    up-requires
+    (λ c κs. let r = now-row (c .before) in rw (c .power .ensures) (omega arith, omega arith))
     power-requires-2
-    mul-sum
+    (λ c. let r = now-row (c .before .before .before) in rw (c .power2 .ensures) (omega arith))
     sub-sum
-    add-sum
-    add-h
-    loop-less
+    (λ c. let r = now-row (c .before .before .before) in let x = rounded (c .before) in omega arith)
+    (λ c. omega (arith, now-row (c .before .before .before) .height))
+    (λ c. omega arith)
     loop-again
     returns-2)

@@ -11,9 +11,9 @@ use borrow.Author.Tests.{le-leb, lt-leb}
 use Rattle.columns.specs.Lists.{least}
 use Rattle.buckets.specs.Lengths.{linesMost, entriesMost}
 use Rattle.cycle.specs.Tree.{levels, levelsMost}
-use Rattle.cycle.proofs.Ranges.{le-or-lt}
-use Rattle.cycle.proofs.Least.{least-found, least-next}
-use Rattle.cycle.proofs.Powers.{power-reaches}
+use Rattle.cycle.proofs.Basics.Ranges.{le-or-lt}
+use Rattle.cycle.proofs.Basics.Least.{least-found, least-next}
+use Rattle.cycle.proofs.Basics.Powers.{power-reaches}
 use Rattle.cycle.proofs.sizes.levels_of.Statement.{statement}
 use Rattle.cycle.proofs.sizes.levels_of.Tie as tie
 
@@ -58,12 +58,6 @@ turned :
     (c .before .loop .k + 1 ≤ levelsMost) × (restAt c (c .before .loop .k) ≡ restAt c (c .before .loop .k + 1))
 turned c = look (c .before .before .args .n) (c .before .before .args .d) (c .before .loop .k) (omega arith) (omega arith) (omega arith)
 
-add-k : tie.Need-add-k Inv-loop μ-loop
-add-k c = omega arith
-
-loop-less : tie.Need-loop-less Inv-loop μ-loop
-loop-less c = omega (arith, (turned c) .0)
-
 loop-again : tie.Need-loop-again Inv-loop μ-loop
 loop-again c =
     let n = c .before .before .args .n in
@@ -83,4 +77,11 @@ returns c =
 
 pub levels-of-spec : {M : Type 1} → statement M
 levels-of-spec =
-    tie.close (tie.spec Inv-loop μ-loop loop-holds mul-power add-k loop-less loop-again returns)
+    tie.close
+    (tie.spec Inv-loop μ-loop
+    loop-holds
+    mul-power
+    (λ c. omega arith)
+    (λ c. omega (arith, (turned c) .0))
+    loop-again
+    returns)

@@ -6,9 +6,10 @@ use Prim.Native.Nat.{_+_, _*_, _≤_}
 use native.Mathlib.Nat.{mul-le-mul}
 use native.Mathlib.Omega.{arith}
 use lib.ListN.{length}
-use Rattle.cycle.specs.Held.{planOf, treeAt, spanMost}
-use Rattle.cycle.proofs.SegmentSizes.{size-wholes}
-use Rattle.cycle.proofs.Readiness.{Parts, parts, whole-last}
+use Rattle.cycle.specs.Judging.{treeAt}
+use Rattle.cycle.specs.Inner.Held.{planOf, spanMost}
+use Rattle.cycle.proofs.Segmenting.SegmentSizes.{size-wholes}
+use Rattle.cycle.proofs.Trees.Readiness.{Parts, parts, whole-last}
 use Rattle.cycle.proofs.sizes.one_m_size.Statement.{statement}
 use Rattle.cycle.proofs.sizes.one_m_size.Tie as tie
 use Rattle.buckets.specs.Lengths.{linesMost}
@@ -23,12 +24,6 @@ tree c = whole-last (c .args .f) (c .pre .0) (c .pre .3) (λ e. omega arith)
 product : (c : tie.Start) → c .args .f .copies * c .args .f .last ≤ linesMost * spanMost
 product c = mul-le-mul {n₂ = linesMost} {m₂ = spanMost} (omega (arith, known c .few)) (omega (arith, known c .tree, tree c))
 
-mul-result : tie.Need-mul-result
-mul-result c = omega (arith, product (c .before))
-
-add-result : tie.Need-add-result
-add-result c = omega (arith, product (c .before .before), known (c .before .before) .some)
-
 returns : tie.Need-returns
 unfolding planOf
 returns c =
@@ -38,4 +33,8 @@ returns c =
     ap (λ x. f .d + f .copies * x) (tree start) ∙ sym all
 
 pub one-m-size-spec : {M : Type 1} → statement M
-one-m-size-spec = tie.close (tie.spec mul-result add-result returns)
+one-m-size-spec = tie.close
+    (tie.spec
+    (λ c. omega (arith, product (c .before)))
+    (λ c. omega (arith, product (c .before .before), known (c .before .before) .some))
+    returns)

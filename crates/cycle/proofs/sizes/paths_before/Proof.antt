@@ -8,10 +8,10 @@ use native.Mathlib.Nat.{add-zero, add-assoc, mul-le-mul-left}
 use native.Mathlib.Omega.{arith}
 use Rattle.columns.specs.Lists.{up}
 use Rattle.buckets.specs.Lengths.{linesMost, pairsMost}
-use Rattle.cycle.specs.Held.{planOf}
-use Rattle.cycle.proofs.TreeLaws.{up-least}
-use Rattle.cycle.proofs.PathSizes.{climbs, length-paths}
-use Rattle.cycle.proofs.Readiness.{path-facts}
+use Rattle.cycle.specs.Inner.Held.{planOf}
+use Rattle.cycle.proofs.Trees.TreeLaws.{up-least}
+use Rattle.cycle.proofs.Sequences.PathSizes.{climbs, length-paths}
+use Rattle.cycle.proofs.Trees.Readiness.{path-facts}
 use Rattle.cycle.proofs.sizes.paths_before.Statement.{statement}
 use Rattle.cycle.proofs.sizes.paths_before.Tie as tie
 
@@ -71,15 +71,6 @@ counted c =
     let least = up-least count n count pos (omega arith) in
     omega (arith, c .up .ensures)
 
-add-sum : tie.Need-add-sum Inv-loop μ-loop
-add-sum c = omega (arith, counted c)
-
-sub-left : tie.Need-sub-left Inv-loop μ-loop
-sub-left c = omega arith
-
-loop-less : tie.Need-loop-less Inv-loop μ-loop
-loop-less c = omega arith
-
 loop-again : tie.Need-loop-again Inv-loop μ-loop
 loop-again c =
     let start = c .before .before .before .before .before in
@@ -104,14 +95,11 @@ returns-2 c =
 pub paths-before-spec : {M : Type 1} → statement M
 paths-before-spec =
     tie.close
-    (tie.spec
-    Inv-loop
-    μ-loop
+    (tie.spec Inv-loop μ-loop
     returns
     loop-holds
     up-requires
-    add-sum
-    sub-left
-    loop-less
+    (λ c. omega (arith, counted c))
+    (λ c. omega arith) (λ c. omega arith)
     loop-again
     returns-2)

@@ -4,8 +4,8 @@ use mathlib.Core.Path.{_≡_, sym, ap, _∙_}
 use Prim.Native.Nat.{_-_, _*_, _^_, _≤_}
 use native.Mathlib.Nat.{pow-zero, mul-le-mul}
 use native.Mathlib.Omega.{arith}
-use Rattle.cycle.proofs.Powers.{power-high}
-use Rattle.cycle.proofs.Fulls.{power-next}
+use Rattle.cycle.proofs.Basics.Powers.{power-high}
+use Rattle.cycle.proofs.Trees.Fulls.{power-next}
 use Rattle.cycle.proofs.sizes.power.Statement.{statement}
 use Rattle.cycle.proofs.sizes.power.Tie as tie
 use Rattle.buckets.specs.Lengths.{entriesMost}
@@ -16,9 +16,6 @@ Inv-loop n h x₀ i₀ x i = (i ≤ h) × (x ≡ n ^ i)
 abbrev μ-loop : tie.MeasureT-loop
 μ-loop n h x₀ i₀ x i = h - i
 
-loop-holds : tie.Need-loop-holds Inv-loop μ-loop
-loop-holds c = (omega arith, rw pow-zero)
-
 mul-x : tie.Need-mul-x Inv-loop μ-loop
 mul-x c =
     let n = c .before .before .args .n in
@@ -26,12 +23,6 @@ mul-x c =
     let s = power-high n (l .i) (omega arith) (omega arith) in
     let m : l .x * n ≤ 2 ^ 48 * entriesMost = mul-le-mul {n₂ = 2 ^ 48} {m₂ = entriesMost} (omega (arith, l .inv .1)) (omega arith) in
     omega arith
-
-add-i : tie.Need-add-i Inv-loop μ-loop
-add-i c = omega arith
-
-loop-less : tie.Need-loop-less Inv-loop μ-loop
-loop-less c = omega arith
 
 loop-again : tie.Need-loop-again Inv-loop μ-loop
 loop-again c =
@@ -48,4 +39,10 @@ returns c =
 
 pub power-spec : {M : Type 1} → statement M
 power-spec =
-    tie.close (tie.spec Inv-loop μ-loop loop-holds mul-x add-i loop-less loop-again returns)
+    tie.close
+    (tie.spec Inv-loop μ-loop
+    (λ c. (omega arith, rw pow-zero))
+    mul-x
+    (λ c. omega arith) (λ c. omega arith)
+    loop-again
+    returns)

@@ -2,8 +2,8 @@
 -- Assumes nothing.
 use native.Mathlib.Omega.{arith}
 use borrow.Author.Tests.{eq-eqb, ne-eqb}
-use Rattle.cycle.specs.Held.{planOf}
-use Rattle.cycle.proofs.Readiness.{block}
+use Rattle.cycle.specs.Inner.Held.{planOf}
+use Rattle.cycle.proofs.Trees.Readiness.{block}
 use Rattle.cycle.proofs.sizes.tree_height.Statement.{statement}
 use Rattle.cycle.proofs.sizes.tree_height.Tie as tie
 

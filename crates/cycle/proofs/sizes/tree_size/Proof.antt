@@ -4,24 +4,15 @@ use mathlib.Core.Path.{sym, _∙_}
 use mathlib.Core.List.{[]}
 use native.Mathlib.Numerals.{add-one}
 use native.Mathlib.Omega.{arith}
-use Rattle.cycle.specs.Held.{planOf, InTree}
-use Rattle.cycle.proofs.TreeSizes.{tree-full}
-use Rattle.cycle.proofs.Readiness.{Reached, reached}
+use Rattle.cycle.specs.Inner.Held.{planOf, InTree}
+use Rattle.cycle.proofs.Trees.TreeSizes.{tree-full}
+use Rattle.cycle.proofs.Trees.Readiness.{Reached, reached}
 use Rattle.cycle.proofs.sizes.tree_size.Statement.{statement}
 use Rattle.cycle.proofs.sizes.tree_size.Tie as tie
 
 -- what the start knows of its bucket
 at : (c : tie.Start) → Reached (c .args .f) (c .args .e) (c .args .j)
 at c = reached (c .args .f) (c .args .e) (c .args .j) (c .pre .0) (c .pre .2)
-
-add-if1 : tie.Need-add-if1
-add-if1 c = omega (arith, at c .place)
-
-power-requires : tie.Need-power-requires
-power-requires c κs = (c .pre .0 .n-low, c .pre .0 .n-high, at c .height)
-
-mul-if1 : tie.Need-mul-if1
-mul-if1 c = rw (c .power .ensures) (omega (arith, at (c .before) .end))
 
 full-size-requires : tie.Need-full-size-requires
 full-size-requires c κs = let start = c .before .before .before in (start .pre .0 .n-low, start .pre .0 .n-high, at start .height)
@@ -42,17 +33,14 @@ last-tree-size-requires c κs =
     let start = c .before .before .before in
     (start .pre .0, start .pre .1, start .pre .2, let l = rw (c .before .before .power .ensures) at (c .if1 .left) in omega arith)
 
-returns-2 : tie.Need-returns-2
-returns-2 c = c .last-tree-size .ensures
-
 pub tree-size-spec : {M : Type 1} → statement M
 tree-size-spec =
     tie.close
     (tie.spec
-    add-if1
-    power-requires
-    mul-if1
+    (λ c. omega (arith, at c .place))
+    (λ c κs. (c .pre .0 .n-low, c .pre .0 .n-high, at c .height))
+    (λ c. rw (c .power .ensures) (omega (arith, at (c .before) .end)))
     full-size-requires
     returns
     last-tree-size-requires
-    returns-2)
+    (λ c. c .last-tree-size .ensures))

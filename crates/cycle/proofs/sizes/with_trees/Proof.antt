@@ -7,15 +7,13 @@ use native.Mathlib.Nat.{one-le-pow}
 use native.Mathlib.Omega.{arith}
 use lib.ListN.{length}
 use Rattle.cycle.specs.declared.Figures.{Figures}
-use Rattle.cycle.specs.Held.{planOf, InTree, fullSize, treeAt, treeHeight, lastPlace, lastTree, sized, spanMost}
+use Rattle.cycle.specs.Judging.{fullSize, treeAt, treeHeight, lastPlace, lastTree}
+use Rattle.cycle.specs.Inner.Held.{planOf, InTree, withTrees, sized, spanMost}
 use Rattle.cycle.specs.Tree.{levelsMost}
-use Rattle.cycle.proofs.Powers.{power-below}
-use Rattle.cycle.proofs.Readiness.{levels-are, tree-height, last-starts}
+use Rattle.cycle.proofs.Basics.Powers.{power-below}
+use Rattle.cycle.proofs.Trees.Readiness.{levels-are, tree-height, last-starts}
 use Rattle.cycle.proofs.sizes.with_trees.Statement.{statement}
 use Rattle.cycle.proofs.sizes.with_trees.Tie as tie
-
-tree-height-requires : tie.Need-tree-height-requires
-tree-height-requires c κs = (c .pre .0, c .pre .1)
 
 -- what is known of the height
 record Height (f : Figures) (h : ℕ) : Type 0 where
@@ -78,26 +76,13 @@ returns c =
     c .tree-size .ensures
     ∙ ap (λ j. length (treeAt t (call .tree-height .result) j)) (root (c .before))
     ∙ ap (λ h. length (treeAt t h (lastPlace (f .d) (f .n ^ h)))) e in
-    λ i.
-    record {
-      n = f .n;
-      p = f .p;
-      layout = f .layout;
-      copies = f .copies;
-      lines = f .lines;
-      d = f .d;
-      k = f .k;
-      size = f .size;
-      span = span i;
-      full = full i;
-      last = last i;
-    }
+    λ i. withTrees f (f .size) (span i) (full i) (last i)
 
 pub with-trees-spec : {M : Type 1} → statement M
 with-trees-spec =
     tie.close
     (tie.spec
-    tree-height-requires
+    (λ c κs. (c .pre .0, c .pre .1))
     power-requires
     full-size-requires
     last-root-requires

@@ -3,7 +3,7 @@
 use mathlib.Core.Path.{refl}
 use borrow.Author.Needs.{needs}
 use Rattle.buckets.specs.Bucket.{cycleLength}
-use Rattle.buckets.specs.Held.{bucketWith}
+use Rattle.buckets.specs.Inner.Held.{bucketWith}
 use Rattle.listener.specs.Listener.{awaited}
 use Rattle.listener.proofs.Listener.awaits.Statement.{statement}
 use Rattle.listener.proofs.Listener.awaits.Tie as tie
@@ -42,14 +42,8 @@ pub awaits-spec : {M : Type 1} → statement M
 awaits-spec =
     tie.close
     (tie.spec
-    (λ c. search needs)
-    (λ c. search needs)
-    (λ c κs. search needs)
-    (λ c. search needs)
-    (λ c κs. search needs)
-    (λ c. search needs)
-    (λ c κs. search needs)
-    (λ c. search needs)
+    (λ c. search needs) (λ c. search needs) (λ c κs. search needs) (λ c. search needs) (λ c κs. search needs)
+    (λ c. search needs) (λ c κs. search needs) (λ c. search needs)
     returns
     returns-2
     returns-3

@@ -7,7 +7,7 @@ use Prim.Native.Nat.{_+_}
 use borrow.Author.Needs.{needs}
 use borrow.Author.Tests.{lt-ltb, le-ltb}
 use Rattle.buckets.specs.Bucket.{cycleLength}
-use Rattle.buckets.specs.Held.{bucketWith}
+use Rattle.buckets.specs.Inner.Held.{bucketWith}
 use Rattle.listener.specs.Listener.{passedWith, pastNextCycle, dozing, stepped, heardWith, elapsedWith}
 use Rattle.listener.proofs.Listener.doze_by.Statement.{statement}
 use Rattle.listener.proofs.Listener.doze_by.Tie as tie
@@ -30,13 +30,9 @@ pub doze-by-spec : {M : Type 1} → statement M
 doze-by-spec =
     tie.close
     (tie.spec
-    (λ c. search needs)
-    (λ c. search needs)
-    (λ c. search needs)
+    (λ c. search needs) (λ c. search needs) (λ c. search needs)
     add-passed
     (λ c κs. search needs)
     returns
-    (λ c. search needs)
-    (λ c. search needs)
-    (λ c. search needs)
+    (λ c. search needs) (λ c. search needs) (λ c. search needs)
     returns-2)

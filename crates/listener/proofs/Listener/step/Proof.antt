@@ -3,8 +3,8 @@
 use mathlib.Core.Path.{sym, _∙_}
 use borrow.Author.Needs.{needs}
 use borrow.Author.Tests.{not-true, not-false}
-use Rattle.listener.proofs.States.{counts, step-ended, step-unfit, step-read}
-use Rattle.listener.proofs.Told.{step-tells}
+use Rattle.listener.proofs.Steps.States.{counts, step-ended, step-unfit, step-read}
+use Rattle.listener.proofs.Steps.Told.{step-tells}
 use Rattle.listener.proofs.Listener.step.Statement.{statement}
 use Rattle.listener.proofs.Listener.step.Tie as tie
 
@@ -48,11 +48,9 @@ pub step-spec : {M : Type 1} → statement M
 step-spec =
     tie.close
     (tie.spec
-    (λ c κs. search needs)
-    (λ c κs. search needs)
+    (λ c κs. search needs) (λ c κs. search needs)
     returns
-    (λ c κs. search needs)
-    (λ c κs. search needs)
+    (λ c κs. search needs) (λ c κs. search needs)
     returns-2
     (λ c κs. search needs)
     take-reading-requires

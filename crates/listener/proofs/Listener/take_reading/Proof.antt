@@ -3,7 +3,7 @@
 use mathlib.Core.Path.{sym, _∙_, ap}
 use borrow.Author.Needs.{needs}
 use Rattle.listener.specs.Listener.{heedRead}
-use Rattle.listener.proofs.Readings.{index-read, data-read, misprint-read}
+use Rattle.listener.proofs.Steps.Readings.{index-read, data-read, misprint-read}
 use Rattle.listener.proofs.Listener.take_reading.Statement.{statement}
 use Rattle.listener.proofs.Listener.take_reading.Tie as tie
 
@@ -45,8 +45,7 @@ take-reading-spec =
     take-index-requires
     (λ c. search needs)
     take-data-requires
-    (λ c. search needs)
-    (λ c κs. search needs)
+    (λ c. search needs) (λ c κs. search needs)
     returns
     returns-2
     returns-3)

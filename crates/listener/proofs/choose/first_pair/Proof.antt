@@ -3,7 +3,7 @@
 use mathlib.Core.Path.{sym, _∙_}
 use borrow.Author.Needs.{needs}
 use borrow.Author.Tests.{le-leb, lt-leb}
-use Rattle.listener.proofs.HeldLists.{first-none, first-some}
+use Rattle.listener.proofs.Steps.HeldLists.{first-none, first-some}
 use Rattle.listener.proofs.choose.first_pair.Statement.{statement}
 use Rattle.listener.proofs.choose.first_pair.Tie as tie
 
@@ -33,4 +33,11 @@ returns-4 c =
 
 pub first-pair-spec : {M : Type 1} → statement M
 first-pair-spec =
-    tie.close (tie.spec returns returns-2 (λ c. search needs) returns-3 (λ c. search needs) returns-4)
+    tie.close
+    (tie.spec
+    returns
+    returns-2
+    (λ c. search needs)
+    returns-3
+    (λ c. search needs)
+    returns-4)

@@ -5,8 +5,8 @@ use Prim.Native.Nat.{_+_, _-_, _≤_}
 use native.Mathlib.Omega.{arith}
 use lib.ListN.{drop}
 use Rattle.listener.specs.Listener.{before}
-use Rattle.listener.specs.OnReading.{taggedLines}
-use Rattle.listener.proofs.HeldLists.{before-hit, before-miss, before-end}
+use Rattle.listener.specs.Inner.OnReading.{taggedLines}
+use Rattle.listener.proofs.Steps.HeldLists.{before-hit, before-miss, before-end}
 use Rattle.listener.proofs.choose.lines_before.Statement.{statement}
 use Rattle.listener.proofs.choose.lines_before.Tie as tie
 
@@ -44,14 +44,9 @@ returns-2 c =
 pub lines-before-spec : {M : Type 1} → statement M
 lines-before-spec =
     tie.close
-    (tie.spec
-    Inv-loop
-    μ-loop
-    (λ c. (omega arith, omega arith))
-    (λ c. omega arith)
-    (λ c. omega arith)
+    (tie.spec Inv-loop μ-loop
+    (λ c. (omega arith, omega arith)) (λ c. omega arith) (λ c. omega arith)
     returns
-    (λ c. omega arith)
-    (λ c. omega arith)
+    (λ c. omega arith) (λ c. omega arith)
     loop-again
     returns-2)

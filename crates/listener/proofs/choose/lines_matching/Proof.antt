@@ -6,8 +6,8 @@ use Prim.Native.Nat.{_+_, _-_, _≤_}
 use native.Mathlib.Omega.{arith}
 use lib.ListN.{drop, length}
 use Rattle.listener.specs.Listener.{matching}
-use Rattle.listener.specs.OnReading.{taggedLines}
-use Rattle.listener.proofs.HeldLists.{matching-hit, matching-miss, matching-end}
+use Rattle.listener.specs.Inner.OnReading.{taggedLines}
+use Rattle.listener.proofs.Steps.HeldLists.{matching-hit, matching-miss, matching-end}
 use Rattle.listener.proofs.choose.lines_matching.Statement.{statement}
 use Rattle.listener.proofs.choose.lines_matching.Tie as tie
 
@@ -41,14 +41,8 @@ returns c =
 pub lines-matching-spec : {M : Type 1} → statement M
 lines-matching-spec =
     tie.close
-    (tie.spec
-    Inv-loop
-    μ-loop
+    (tie.spec Inv-loop μ-loop
     (λ c. (omega arith, omega arith, omega arith))
-    (λ c. omega arith)
-    (λ c. omega arith)
-    (λ c. omega arith)
-    (λ c. omega arith)
-    (λ c. omega arith)
+    (λ c. omega arith) (λ c. omega arith) (λ c. omega arith) (λ c. omega arith) (λ c. omega arith)
     loop-again
     returns)

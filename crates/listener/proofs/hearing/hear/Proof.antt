@@ -3,8 +3,8 @@
 use mathlib.Core.Path.{_∙_, ap}
 use borrow.Author.Needs.{needs}
 use Rattle.listener.specs.Listener.{step}
-use Rattle.listener.proofs.Told.{step-told}
-use Rattle.cycle.proofs.ImageLines.{part-bytes}
+use Rattle.listener.proofs.Steps.Told.{step-told}
+use Rattle.cycle.proofs.ReadingBack.ImageLines.{part-bytes}
 use Rattle.listener.proofs.hearing.hear.Statement.{statement}
 use Rattle.listener.proofs.hearing.hear.Tie as tie
 
@@ -18,10 +18,6 @@ pub hear-spec : {M : Type 1} → statement M
 hear-spec =
     tie.close
     (tie.spec
-    (λ c. search needs)
-    (λ c. search needs)
-    (λ c. search needs)
-    (λ c. search needs)
-    (λ c. search needs)
+    (λ c. search needs) (λ c. search needs) (λ c. search needs) (λ c. search needs) (λ c. search needs)
     (λ c κs. search needs)
     returns)

@@ -3,7 +3,7 @@
 use native.Mathlib.Omega.{arith}
 use native.Mathlib.Nat.{mod-lt}
 use Prim.Native.Nat.{_+_, _%_}
-use Rattle.listener.specs.OnRun.{heardNext}
+use Rattle.listener.specs.Inner.OnRun.{heardNext}
 use Rattle.listener.proofs.hearing.hear_next.Statement.{statement}
 use Rattle.listener.proofs.hearing.hear_next.Tie as tie
 

@@ -6,10 +6,10 @@ use mathlib.Core.Logic.{⊎-elim}
 use native.Mathlib.Omega.{arith}
 use borrow.Author.Needs.{needs}
 use Rattle.listener.specs.Lookup.{asEnding, wholeRun}
-use Rattle.listener.specs.OnRun.{Begins}
+use Rattle.listener.specs.Inner.OnRun.{Begins}
 use Rattle.listener.specs.declared.Answer.the-variants.{Doze}
 use Rattle.listener.specs.declared.Ending.the-variants.{Found}
-use Rattle.listener.proofs.Runs.{SoFar, toGo, at-start, counted-with, lines-few, after-step, doze-few, onward, fewer-to-go, begins}
+use Rattle.listener.proofs.Lookups.Runs.{SoFar, toGo, at-start, counted-with, lines-few, after-step, doze-few, onward, fewer-to-go, begins}
 use Rattle.listener.proofs.hearing.hear_to_end.Statement.{statement}
 use Rattle.listener.proofs.hearing.hear_to_end.Tie as tie
 
@@ -50,9 +50,6 @@ begun c =
     (λ w. subst (Begins (s .args .image .now) (s .args .count) goal) (sym (w .3)) (at c .loop .inv .1))
     (λ w. subst (Begins (s .args .image .now) (s .args .count) goal) (sym (w .1)) (at c .loop .inv .1)))
     (c .if1 .came)
-
-add-lines : tie.Need-add-lines Inv-loop μ-loop
-add-lines c = omega (arith, lines-few (at (c .before) .loop .inv .0))
 
 -- ---- it dozes
 
@@ -107,20 +104,16 @@ returns-3 c =
 pub hear-to-end-spec : {M : Type 1} → statement M
 hear-to-end-spec =
     tie.close
-    (tie.spec
-    Inv-loop
-    μ-loop
+    (tie.spec Inv-loop μ-loop
     (λ c κs. search needs)
     (λ c κs. omega (arith, c .before .before .pre))
     loop-holds
-    add-lines
+    (λ c. omega (arith, lines-few (at (c .before) .loop .inv .0)))
     (λ c. search needs)
     hear-next-requires
     loop-less
     loop-again
-    (λ c. search needs)
-    (λ c. search needs)
-    (λ c. search needs)
+    (λ c. search needs) (λ c. search needs) (λ c. search needs)
     returns
     returns-2
     returns-3)

@@ -2,7 +2,7 @@
 use mathlib.Core.Path.{refl, sym, _∙_}
 use borrow.Author.Needs.{needs}
 use borrow.Author.Tests.{not-true, not-false, le-leb, lt-leb}
-use Rattle.listener.specs.OnRun.{refusalOf}
+use Rattle.listener.specs.Inner.OnRun.{refusalOf}
 use Rattle.listener.proofs.hearing.refusal.Statement.{statement}
 use Rattle.listener.proofs.hearing.refusal.Tie as tie
 

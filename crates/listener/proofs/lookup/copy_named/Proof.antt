@@ -5,9 +5,9 @@ use Prim.Native.Nat.{_+_, _*_}
 use borrow.Author.Needs.{needs}
 use lib.ListN.{drop}
 use Rattle.columns.specs.Lists.{put}
-use Rattle.buckets.specs.Lengths.{lineLength, figuresWidth, linesStart}
+use Rattle.buckets.specs.Lengths.{lineLength, lineColumnsWidth, linesStart}
 use Rattle.buckets.specs.ListLine.{endedLines}
-use Rattle.cycle.proofs.ImageLines.{part-bytes}
+use Rattle.cycle.proofs.ReadingBack.ImageLines.{part-bytes}
 use Rattle.listener.proofs.lookup.copy_named.Statement.{statement}
 use Rattle.listener.proofs.lookup.copy_named.Tie as tie
 
@@ -16,21 +16,13 @@ returns c =
     let s = c .before .before .before .before .before .before .before in
     c .before .before .copy-lines .ensures ∙
     ap
-    (λ p. put (s .args .out .now) (lineLength * s .args .lines) (endedLines (s .args .count) (drop (linesStart + figuresWidth * s .args .first) p)))
+    (λ p. put (s .args .out .now) (lineLength * s .args .lines) (endedLines (s .args .count) (drop (linesStart + lineColumnsWidth * s .args .first) p)))
     (part-bytes (s .args .image .now) (s .args .x))
 
 pub copy-named-spec : {M : Type 1} → statement M
 copy-named-spec =
     tie.close
     (tie.spec
-    (λ c. search needs)
-    (λ c. search needs)
-    (λ c. search needs)
-    (λ c. search needs)
-    (λ c. search needs)
-    (λ c. search needs)
-    (λ c. search needs)
-    (λ c. search needs)
-    (λ c κs. search needs)
-    (λ c. search needs)
+    (λ c. search needs) (λ c. search needs) (λ c. search needs) (λ c. search needs) (λ c. search needs)
+    (λ c. search needs) (λ c. search needs) (λ c. search needs) (λ c κs. search needs) (λ c. search needs)
     returns)

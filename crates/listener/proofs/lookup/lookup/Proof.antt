@@ -10,10 +10,10 @@ use Rattle.columns.proofs.Put.{put-nil}
 use Rattle.buckets.specs.Lengths.{bucketLength}
 use Rattle.buckets.specs.ListLine.{printLine}
 use Rattle.listener.specs.Lookup.{Finish, asEnding, refuse, lookup, wholeRun, gotBy}
-use Rattle.listener.specs.OnRun.{refusalOf, endingBy, concluded}
+use Rattle.listener.specs.Inner.OnRun.{refusalOf, endingBy, concluded}
 use Rattle.listener.specs.declared.Looked.the-variants.{Refused}
 use Rattle.listener.specs.declared.hearing.Stop.{Stop}
-use Rattle.listener.proofs.Lookups.{runs, runs-not, room, concludes, FoundIn, as-found, as-absent, as-refused, refused-7, has-room, finds, handed, found-alike, absent-alike}
+use Rattle.listener.proofs.Lookups.LookupOutcomes.{runs, runs-not, room, concludes, FoundIn, as-found, as-absent, as-refused, refused-7, has-room, finds, handed, found-alike, absent-alike}
 use Rattle.listener.proofs.lookup.lookup.Statement.{statement}
 use Rattle.listener.proofs.lookup.lookup.Tie as tie
 
@@ -152,13 +152,8 @@ lookup-spec =
     (λ c. search needs)
     returns-2
     write-found-requires
-    (λ c κs. search needs)
-    (λ c κs. search needs)
-    (λ c. search needs)
-    (λ c κs. search needs)
-    (λ c κs. search needs)
-    (λ c. search needs)
-    (λ c. search needs)
+    (λ c κs. search needs) (λ c κs. search needs) (λ c. search needs) (λ c κs. search needs) (λ c κs. search needs)
+    (λ c. search needs) (λ c. search needs)
     returns-3
     returns-4
     returns-5)

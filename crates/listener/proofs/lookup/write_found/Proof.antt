@@ -10,10 +10,10 @@ use lib.ListN.{length}
 use Rattle.columns.specs.Lists.{put, joined}
 use Rattle.buckets.specs.ListLine.{printLine}
 use Rattle.listener.specs.Lookup.{gotBy}
-use Rattle.listener.specs.OnRun.{runOn}
+use Rattle.listener.specs.Inner.OnRun.{runOn}
 use Rattle.listener.specs.declared.Answer.the-variants.{Doze}
-use Rattle.listener.proofs.Runs.{toGo, named-few, lines-few, doze-few, fewer-to-go, after-step}
-use Rattle.listener.proofs.WritingRuns.{Written, Writing, nothing-written, room-with, wrote-with, written-onward}
+use Rattle.listener.proofs.Lookups.Runs.{toGo, named-few, lines-few, doze-few, fewer-to-go, after-step}
+use Rattle.listener.proofs.Lookups.WritingRuns.{Written, Writing, nothing-written, room-with, wrote-with, written-onward}
 use Rattle.listener.proofs.lookup.write_found.Statement.{statement}
 use Rattle.listener.proofs.lookup.write_found.Tie as tie
 
@@ -56,9 +56,6 @@ copied c = c .before .before .before
 
 abbrev at : tie.After-struct-known Inv-loop μ-loop → tie.At-loop Inv-loop μ-loop
 at c = copied c .before .before .before
-
-add-lines : tie.Need-add-lines Inv-loop μ-loop
-add-lines c = omega (arith, lines-few (at c .loop .inv .so-far))
 
 -- a call keeps the buffer's length
 kept-length :
@@ -123,12 +120,10 @@ returns-3 c =
 pub write-found-spec : {M : Type 1} → statement M
 write-found-spec =
     tie.close
-    (tie.spec
-    Inv-loop
-    μ-loop
+    (tie.spec Inv-loop μ-loop
     loop-holds
     copy-named-requires
-    add-lines
+    (λ c. omega (arith, lines-few (at c .loop .inv .so-far)))
     (λ c. search needs)
     hear-next-requires
     loop-less

@@ -3,10 +3,10 @@ use mathlib.Core.Path.{_≡_, sym, _∙_, ap}
 use borrow.Author.Needs.{needs}
 use lib.ListN.{length}
 use Rattle.listener.specs.Lookup.{runOver, asEnding, endingNumbers}
-use Rattle.listener.specs.OnRun.{refusalOf, endingBy}
+use Rattle.listener.specs.Inner.OnRun.{refusalOf, endingBy}
 use Rattle.listener.specs.declared.Ending.the-variants.{Refused}
 use Rattle.listener.specs.declared.hearing.Stop.{Stop}
-use Rattle.listener.proofs.Lookups.{runs, runs-not, room}
+use Rattle.listener.proofs.Lookups.LookupOutcomes.{runs, runs-not, room}
 use Rattle.listener.proofs.run.run.Statement.{statement}
 use Rattle.listener.proofs.run.run.Tie as tie
 
@@ -55,9 +55,7 @@ run-spec =
     (λ c κs. search needs)
     returns
     hear-to-end-requires
-    (λ c. search needs)
-    (λ c. search needs)
-    (λ c. search needs)
+    (λ c. search needs) (λ c. search needs) (λ c. search needs)
     (λ c. ended (c .before .before) (c .enum-told .given .1))
     (λ c. ended (c .before .before) (c .enum-told2 .given .1))
     (λ c. ended (c .before .before .before) (c .before .stop .given .1)))

@@ -1,0 +1,61 @@
+-- The numbers of an answer tell it: answers with the same numbers are the same.
+-- Assumes nothing.
+use mathlib.Core.Path.{_≡_, ap}
+use Prim.Native.Nat.{ℕ}
+use native.Mathlib.Omega.{arith}
+use Rattle.cycle.specs.Building as building
+use Rattle.cycle.specs.ReadingBack as readingBack
+use Rattle.cycle.specs.Judging as judging
+use Rattle.cycle.specs.declared.Figures.{Figures}
+use Rattle.cycle.specs.declared.Built.{Built}
+use Rattle.cycle.specs.declared.Built.the-variants.{Cycle as BuiltCycle, Refused as BuiltRefused}
+use Rattle.cycle.specs.declared.ReadBack.{ReadBack}
+use Rattle.cycle.specs.declared.ReadBack.the-variants.{Lines, Refused as RestoredRefused}
+use Rattle.cycle.specs.declared.Judged.{Judged}
+use Rattle.cycle.specs.declared.Judged.the-variants.{Cycle as JudgedCycle, Refused as JudgedRefused}
+
+pub built-told : (a b : Built) → building.numbers a ≡ building.numbers b → a ≡ b
+built-told (BuiltCycle n) (BuiltCycle m) h = cc
+built-told (BuiltCycle n) (BuiltRefused number place) h = let z : _≡_ {A = ℕ} 0 1 = cc in absurd (omega arith)
+built-told (BuiltRefused number place) (BuiltCycle n) h = let z : _≡_ {A = ℕ} 0 1 = cc in absurd (omega arith)
+built-told (BuiltRefused number place) (BuiltRefused other there) h = cc
+
+pub read-back-told : (a b : ReadBack) → readingBack.numbers a ≡ readingBack.numbers b → a ≡ b
+read-back-told (Lines c) (Lines d) h = cc
+read-back-told (Lines c) (RestoredRefused number place) h = let z : _≡_ {A = ℕ} 0 1 = cc in absurd (omega arith)
+read-back-told (RestoredRefused number place) (Lines c) h = let z : _≡_ {A = ℕ} 0 1 = cc in absurd (omega arith)
+read-back-told (RestoredRefused number place) (RestoredRefused other there) h = cc
+
+pub judged-told : (a b : Judged) → judging.numbers a ≡ judging.numbers b → a ≡ b
+judged-told (JudgedCycle f) (JudgedCycle g) h = ap JudgedCycle (figures-told f g h)
+  where
+    figures-told : (f g : Figures) → judging.numbers (JudgedCycle f) ≡ judging.numbers (JudgedCycle g) → f ≡ g
+    figures-told f g h =
+        let n : f .n ≡ g .n = cc in
+        let p : f .p ≡ g .p = cc in
+        let layout : f .layout ≡ g .layout = cc in
+        let copies : f .copies ≡ g .copies = cc in
+        let lines : f .lines ≡ g .lines = cc in
+        let d : f .d ≡ g .d = cc in
+        let k : f .k ≡ g .k = cc in
+        let size : f .size ≡ g .size = cc in
+        let span : f .span ≡ g .span = cc in
+        let full : f .full ≡ g .full = cc in
+        let last : f .last ≡ g .last = cc in
+        λ i.
+        record {
+          n = n i;
+          p = p i;
+          layout = layout i;
+          copies = copies i;
+          lines = lines i;
+          d = d i;
+          k = k i;
+          size = size i;
+          span = span i;
+          full = full i;
+          last = last i;
+        }
+judged-told (JudgedCycle f) (JudgedRefused number place) h = let z : _≡_ {A = ℕ} 0 1 = cc in absurd (omega arith)
+judged-told (JudgedRefused number place) (JudgedCycle f) h = let z : _≡_ {A = ℕ} 0 1 = cc in absurd (omega arith)
+judged-told (JudgedRefused number place) (JudgedRefused other there) h = cc
