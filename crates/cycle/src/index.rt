@@ -15,14 +15,14 @@ use buckets::Head;
 use buckets::writer::put_entry;
 use buckets::writer::start_index;
 ghost use mathlib.Core.Path.{_≡_};
-ghost use mathlib.Core.List.{List, [], _++_};
+ghost use mathlib.Core.List.{List, [], _++_, _∷_};
 ghost use Prim.Native.Nat.{suc, _+_, _-_, _*_, _%_, _≤_, _<_, max};
-ghost use lib.ListN.{length, drop};
+ghost use lib.ListN.{length, take, drop};
 ghost use lib.Dec.{eqb};
-ghost use Rattle.columns.specs.Lists.{pick, joined, put};
-ghost use Rattle.buckets.specs.Lengths.{pairsMost, entriesStart, bucketsMost, bucketLength};
+ghost use Rattle.columns.specs.Lists.{pick, joined, padded, put};
+ghost use Rattle.buckets.specs.Lengths.{newline, pairsMost, entriesStart, bucketsMost, bucketEnd, bucketLength};
 ghost use Rattle.buckets.specs.Bucket.{printEntry, printBucket};
-ghost use Rattle.buckets.specs.Inner.Held.{filled, tagOr0, headOf, EntriesBlank};
+ghost use Rattle.buckets.specs.Inner.Held.{filled, tagOr0, headOf, entriesOf, pairsOf, indexFront, EntriesBlank};
 ghost use Rattle.cycle.specs.Tree.{width, children};
 ghost use Rattle.cycle.specs.Layouts.{slots};
 ghost use Rattle.cycle.specs.Cycle.{toNextSegment};
@@ -241,6 +241,48 @@ fn put_entries(
     }
 }
 
+// An index bucket of a segment, bucket j of height e, at x: its head, the control pairs given, and its `count` entries.
+fn print_index_bucket<'a>(
+    part: &mut [u8],
+    text: &[u8],
+    f: Figures,
+    source: Source,
+    s: Segment,
+    e: usize,
+    j: u64,
+    x: u64,
+    count: usize,
+    pairs: usize,
+    tags: &'a [u64],
+    distances: &'a [u64],
+)
+    requires { ⌜ length (now part) ≡ bucketLength ⌝ }
+    requires { ⌜ Printing f source (now text) s ⌝ }
+    requires { ⌜ IndexPlace f s e j x ⌝ }
+    requires { ⌜ count ≡ length (children (planOf f []) (f .k + 1 - e) j) ⌝ }
+    requires { ⌜ (s .start ≤ x) × (x < s .end) ⌝ }
+    requires { ⌜ (pairs ≤ pairsMost) × (pairs ≤ length (now tags)) × (pairs ≤ length (now distances)) ⌝ }
+    ensures { λ _.
+        ⌜ now (part .exit) ≡
+        put
+        (padded bucketEnd
+        (indexFront (headOf (cycleBucket (planOf f []) x))
+        (pairsOf (eqb (s .first) 0) (take pairs (entriesOf (now (tags .entry)) (now (distances .entry))))) count)
+        ++ newline ∷ [])
+        entriesStart (joined printEntry (childEntries f source (now (text .entry)) e j x count)) ⌝ }
+{
+    start_index(
+        part,
+        head_at(f, s, x),
+        s.first == 0,
+        pairs,
+        tags,
+        distances,
+        count,
+    );
+    put_entries(part, text, f, source, s, e, j, x, count);
+}
+
 // Bucket j of height e of a segment's tree, at x, with `count` entries.
 pub fn print_tree_bucket(
     part: &mut [u8],
@@ -262,16 +304,20 @@ pub fn print_tree_bucket(
     let pairs = tree_pairs(f, e);
     let tags = [first_tag(text, f, source, s.first, pairs)];
     let distances = [f.size - x];
-    start_index(
+    print_index_bucket(
         part,
-        head_at(f, s, x),
-        s.first == 0,
+        text,
+        f,
+        source,
+        s,
+        e,
+        j,
+        x,
+        count,
         pairs,
         &tags,
         &distances,
-        count,
     );
-    put_entries(part, text, f, source, s, e, j, x, count);
 }
 
 // The path bucket of level i of a segment, at x.
@@ -297,14 +343,18 @@ pub fn print_path_bucket(
     let first = last_sent_tag(text, f, source, s.first);
     let tags = pair_tags(text, f, source, b, i, first);
     let distances = pair_distances(f, b, i, x);
-    start_index(
+    print_index_bucket(
         part,
-        head_at(f, s, x),
-        s.first == 0,
+        text,
+        f,
+        source,
+        s,
+        e,
+        j,
+        x,
+        count,
         i as usize,
         &tags,
         &distances,
-        count,
     );
-    put_entries(part, text, f, source, s, e, j, x, count);
 }

@@ -1,18 +1,15 @@
 -- `cycle::index::print_path_bucket` meets its contract.
 -- Assumes nothing.
-use mathlib.Core.Path.{_≡_, _∙_}
+use mathlib.Core.Path.{_≡_, refl}
 use mathlib.Core.List.{[]}
 use Prim.Native.Nat.{ℕ, _+_, _-_, _/_, _≤_, _<_, max}
 use native.Mathlib.Omega.{arith}
-use lib.Dec.{eqb}
 use borrow.Author.Needs.{needs}
-use Rattle.buckets.proofs.EntriesPut.{started-blank}
 use Rattle.buckets.proofs.Holding.{filled-wide}
 use Rattle.buckets.specs.Lengths.{pairsMost}
 use Rattle.cycle.specs.Tree.{levelsMost}
 use Rattle.cycle.specs.Inner.Held.{planOf, placeOver, PathPlace, IndexPlace, Printing}
 use Rattle.cycle.proofs.Segmenting.SegmentParts.{seated, path-size}
-use Rattle.cycle.proofs.Segmenting.TreePlaces.{head-asked}
 use Rattle.cycle.proofs.Reach.PathFigures.{power-some, place-over}
 use Rattle.cycle.proofs.Buckets.PathBuckets.{path-one, path-low, path-bounds, path-some, path-on, path-block, path-place, path-printed}
 use Rattle.cycle.proofs.index.print_path_bucket.Statement.{statement}
@@ -78,16 +75,9 @@ pair-distances-requires c κs =
     let s = begun b in
     (printing s .ready, path-some (printing s) (on-path s), there b .below, path-on (printing s) (on-path s) [])
 
-head-at-requires : tie.Need-head-at-requires
-head-at-requires c κs =
-    let s = begun (c .before .before .before .before .before) in
-    let w = printing s in
-    head-asked (s .args .f) (s .args .s) (w .ready) (w .placed) (s .args .x) (omega (arith, on-path s .here))
-    (omega (arith, on-path s, seated (s .args .f) (s .args .s) (w .ready) (w .placed), path-size (s .args .f) (s .args .s) (w .ready) (w .placed)))
-
 -- the pairs
 abbrev paired : tie.After-distances → tie.After-pair-distances
-paired c = c .before .before .before .before .before
+paired c = c .before .before .before
 
 abbrev counted : tie.After-distances → tie.After-child-count
 counted c = paired c .before .before .before
@@ -98,32 +88,37 @@ start c = begun (counted c .before)
 few-there : (c : tie.After-distances) → start c .args .i ≤ pairsMost
 few-there c = omega (arith, bounds (start c) .0, on-path (start c) .high)
 
-start-index-requires : tie.Need-start-index-requires
-start-index-requires c κs =
+print-index-bucket-requires : tie.Need-print-index-bucket-requires
+print-index-bucket-requires c κs =
+    let s = start c in
+    let w = printing s in
     let tags = filled-wide pairsMost _ (paired c .before .pair-tags .ensures) in
     let distances = filled-wide pairsMost _ (paired c .pair-distances .ensures) in
-    (start c .pre .0, (few-there c, (omega (arith, few-there c, tags), omega (arith, few-there c, distances))))
-
-put-entries-requires : tie.Need-put-entries-requires
-put-entries-requires c κs =
-    let b = c .before .before .before in
-    let s = start (b .before) in
-    let t = paired (b .before) in (
-      b .start-index .kept .0 ∙ s .pre .0,
+    let sits = seated (s .args .f) (s .args .s) (w .ready) (w .placed) in (
+      s .pre .0,
       (
-        started-blank _ (eqb (s .args .s .first) 0) (s .args .i) (t .before .pair-tags .result) (t .pair-distances .result) _ (few-there (b .before)) (b .start-index .ensures),
-        (printing s, (there (counted (b .before) .before), counted (b .before) .child-count .ensures)),
+        w,
+        (
+          there (counted c .before),
+          (
+            counted c .child-count .ensures,
+            (
+              (omega (arith, on-path s .here), omega (arith, on-path s, sits, path-size (s .args .f) (s .args .s) (w .ready) (w .placed))),
+              (few-there c, omega (arith, few-there c, tags), omega (arith, few-there c, distances)),
+            ),
+          ),
+        ),
       ),
     )
 
 returns : tie.Need-returns
 returns c =
     let put = c .before .before in
-    let b = put .before .before .before .before in
-    let s = start (b .before) in
-    let t = paired (b .before) in
-    path-printed (printing s) (on-path s) (over (counted (b .before) .before)) (t .before .before .last-sent-tag .ensures) (t .before .pair-tags .ensures) (t .pair-distances .ensures)
-    _ _ _ _ (b .before .before .before .before .head-at .ensures) (counted (b .before) .child-count .ensures) (b .start-index .ensures) (put .put-entries .ensures)
+    let b = put .before in
+    let s = start b in
+    let t = paired b in
+    path-printed (printing s) (on-path s) (over (counted b .before)) (t .before .before .last-sent-tag .ensures) (t .before .pair-tags .ensures) (t .pair-distances .ensures)
+    _ _ _ _ refl (counted b .child-count .ensures) refl (put .print-index-bucket .ensures)
 
 pub print-path-bucket-spec : {M : Type 1} → statement M
 print-path-bucket-spec =
@@ -139,10 +134,8 @@ print-path-bucket-spec =
     last-sent-tag-requires
     pair-tags-requires
     pair-distances-requires
-    head-at-requires
     (λ c. search needs)
     (λ c. search needs)
-    start-index-requires
-    put-entries-requires
+    print-index-bucket-requires
     (λ c. search needs)
     returns)
