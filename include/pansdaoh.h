@@ -14,7 +14,8 @@
  * uses a variable of its own, so calls on different buffers may run at the same
  * time.
  *
- * Any content of a list, setting, image, bucket, tag or state is answered.
+ * Any content of a list, setting, image, bucket, tag or state is answered, and any
+ * number of lines or data buckets.
  *
  * What a program needs. The library is machine code for x86-64 as every such
  * processor runs it, with the calling convention of Linux (System V), in one
@@ -44,7 +45,7 @@ extern "C" {
  */
 #define PANSDAOH_VERSION_MAJOR 0
 #define PANSDAOH_VERSION_MINOR 1
-#define PANSDAOH_VERSION_PATCH 0
+#define PANSDAOH_VERSION_PATCH 1
 
 #define PANSDAOH_LINE 27           /* bytes of a list line, its newline included */
 #define PANSDAOH_BUCKET 240        /* bytes of a bucket */
@@ -111,6 +112,39 @@ struct pansdaoh_answer pansdaoh_build(const uint8_t *list, size_t list_length, u
                                       uint8_t *out, size_t out_length);
 
 #define PANSDAOH_BUILD_STACK 12288 /* bytes of stack, at most */
+
+/* What sizing returns. If refused, all behind the place is 0. */
+struct pansdaoh_size_answer {
+    uint64_t number; /* 0, or the number of the refusal */
+    uint64_t place;  /* always 0 */
+    uint64_t k;      /* index levels, at least 1 */
+    uint64_t d;      /* D, the data buckets */
+    uint64_t n;      /* N, the buckets of the cycle */
+    uint64_t bytes;  /* of the image: 240 x N */
+    uint64_t heard;  /* buckets that a display hears, at most */
+};
+
+/*
+ * The figures of a cycle before there is a list: those of every list of so many
+ * lines that is printed as it should be and whose tags never fall. Building makes
+ * N buckets of it, in room for the image's bytes. Nothing is built here, and
+ * nothing is read or written.
+ *
+ *   lines   0 to 40,000
+ *   n, p, layout, copies
+ *           the settings, as for building
+ *   c       C, how many data buckets hold lines of the tag; above D, it is taken
+ *           as D
+ *
+ * A display hears at most 2 + k + C buckets, whatever its tune-in; with C 0, that
+ * of a tag which is not listed, 2 + k + 1.
+ *
+ * Refused by 1, 2, 5, 6, in this order; here 2 is over 40,000 lines alone.
+ */
+struct pansdaoh_size_answer pansdaoh_size(uint64_t lines, uint64_t n, uint64_t p, uint64_t layout,
+                                          uint64_t copies, uint64_t c);
+
+#define PANSDAOH_SIZE_STACK 768 /* bytes of stack, at most */
 
 /*
  * Writes the list that builds this image under these settings to out and

@@ -65,9 +65,13 @@ cutLines s = parts (length s / lineLength) lineLength s
 unfoldable pub listLines : List ℕ → List Line
 listLines s = map spelled (cutLines s)
 
+-- "At most 40,000 lines"
+abbrev pub fewLines : ℕ → Bool
+fewLines c = leb c linesMost
+
 -- 2: "list length no multiple of 27, or over 40,000 lines" does not hold
 unfoldable pub wholeLines : ℕ → Bool
-wholeLines c = eqb (c % lineLength) 0 && leb (c / lineLength) linesMost
+wholeLines c = eqb (c % lineLength) 0 && fewLines (c / lineLength)
 
 -- whether a strict reading took what it was given
 abbrev pub taken {ℓ} : {A : Type ℓ} → Option A → Bool

@@ -1,12 +1,16 @@
-// The four kinds of request, each with its call.
+// The kinds of request, each with its call.
 use super::answers::say;
 use super::answers::stop;
 use super::hearing::hear;
 use super::lent::fill;
 use super::lent::hash;
+use super::numbers::COLUMNS;
+use super::numbers::Figure;
+use super::numbers::number;
 use super::requests::Numbers;
 use cycle::Built;
 use cycle::ReadBack;
+use cycle::Sized;
 use listener::Looked;
 
 // B: building.
@@ -21,7 +25,7 @@ fn build(numbers: &Numbers, body: &[u8], lent: &mut [u8]) -> bool {
 
 // R: reading back.
 fn read_back(numbers: &Numbers, body: &[u8], lent: &mut [u8]) -> bool {
-    let restored = cycle::read_back::read_back(
+    let answer = cycle::read_back::read_back(
         body,
         numbers[0],
         numbers[1],
@@ -30,7 +34,7 @@ fn read_back(numbers: &Numbers, body: &[u8], lent: &mut [u8]) -> bool {
         lent,
     );
     let after = hash(lent);
-    match restored {
+    match answer {
         ReadBack::Lines(count) => say(&[0, 0, count, after]),
         ReadBack::Refused(number, place) => say(&[number, place, 0, after]),
     }
@@ -60,6 +64,28 @@ fn hearing(numbers: &Numbers, body: &[u8]) -> bool {
     hear(numbers[0], size, body)
 }
 
+// F: the dimensions of a cycle, C in the body.
+fn size(numbers: &Numbers, body: &[u8]) -> bool {
+    if body.len() != COLUMNS {
+        return stop(b"error: a body of F is not 12 bytes\n");
+    }
+    let Figure::Value(c) = number(body) else {
+        return stop(b"error: a body of F is no number\n");
+    };
+    let sized = cycle::size::size(
+        numbers[4],
+        numbers[0],
+        numbers[1],
+        numbers[2],
+        numbers[3],
+        c,
+    );
+    match sized {
+        Sized::Cycle(f) => say(&[0, 0, f.k, f.d, f.n, f.bytes, f.heard]),
+        Sized::Refused(number, place) => say(&[number, place, 0, 0, 0, 0, 0]),
+    }
+}
+
 // The length of the lent buffer.
 fn room(letter: u8, numbers: &Numbers) -> u64 {
     match letter {
@@ -76,7 +102,8 @@ fn call(letter: u8, numbers: &Numbers, body: &[u8], lent: &mut [u8]) -> bool {
         b'R' => read_back(numbers, body, lent),
         b'L' => lookup(numbers, body, lent),
         b'H' => hearing(numbers, body),
-        _ => stop(b"error: a letter is none of B, R, L, H\n"),
+        b'F' => size(numbers, body),
+        _ => stop(b"error: a letter is none of B, R, L, H, F\n"),
     }
 }
 

@@ -4,6 +4,7 @@ mod answers;
 mod calls;
 mod hearing;
 mod lent;
+mod numbers;
 mod requests;
 
 // The longest body of a request, and the longest lent buffer.

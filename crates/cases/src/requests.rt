@@ -1,72 +1,29 @@
 // A request: a head of 74 bytes and a body.
 use super::answers::stop;
 use super::calls::answer;
+use super::numbers::COLUMNS;
+use super::numbers::Figure;
+use super::numbers::number;
 use libc::STDIN_FILENO;
-ghost use Prim.Native.Nat.{_+_, _≤_, _<_};
-
-// The bytes of columns: a blank, and the digits from ZERO to NINE.
-const BLANK: u8 = 32;
-
-const ZERO: u8 = 48;
-
-const NINE: u8 = 57;
+ghost use mathlib.Core.Path.{_≡_};
+ghost use lib.ListN.{length};
 
 // The bytes of a head, the newline among them, and of each of its numbers.
 const HEAD: usize = 74;
 
 const NEWLINE: usize = 73;
 
-const COLUMNS: usize = 12;
-
 // The numbers of a head. The sixth is the body's length.
 pub type Numbers = [u64; 6];
 
-// What stands in a number's columns.
-enum Figure {
-    Value(u64),
-    NoNumber,
-}
-
-// Digits from column `at` up to `end`.
-fn digits(head: &[u8; HEAD], at: usize, end: usize) -> Figure
-    requires { ⌜ (at ≤ end) × ((end ≤ at + 12) × (end ≤ 74)) ⌝ }
-{
-    let mut x = 0;
-    let mut i = at;
-    while i < end {
-        let c = head[i];
-        if c < ZERO {
-            return Figure::NoNumber;
-        }
-        if NINE < c {
-            return Figure::NoNumber;
-        }
-        x = x * 10 + (c - ZERO) as u64;
-        i += 1;
-    }
-    Figure::Value(x)
-}
-
-// The number in the 12 columns from `at` on: blanks, then digits.
-fn number(head: &[u8; HEAD], at: usize) -> Figure
-    requires { ⌜ at + 12 ≤ 74 ⌝ }
-{
-    let end = at + COLUMNS;
-    let mut i = at;
-    while i < end {
-        if head[i] != BLANK {
-            return digits(head, i, end);
-        }
-        i += 1;
-    }
-    Figure::NoNumber
-}
-
 // The six numbers of a head. Whether each is one.
-fn read_numbers(head: &[u8; HEAD], numbers: &mut Numbers) -> bool {
+fn read_numbers(head: &[u8], numbers: &mut Numbers) -> bool
+    requires { ⌜ length (now head) ≡ 74 ⌝ }
+{
     let mut i = 0;
     while i < 6 {
-        let Figure::Value(x) = number(head, 1 + i * COLUMNS) else {
+        let at = 1 + i * COLUMNS;
+        let Figure::Value(x) = number(&head[at..at + COLUMNS]) else {
             return false;
         };
         numbers[i] = x;

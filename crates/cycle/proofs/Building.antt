@@ -10,3 +10,5 @@ pub mod AcceptedPlans
 pub mod BucketsWritten
 pub mod Written
 pub mod Writings
+pub mod Sizing
+pub mod SizeAgrees

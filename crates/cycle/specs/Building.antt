@@ -7,11 +7,11 @@ use mathlib.Core.List.{List, [], _∷_}
 use lib.Dec.{leb, ltb, eqb}
 use lib.ListN.{length}
 use Rattle.columns.specs.Lists.{pick}
-use Rattle.buckets.specs.Lengths.{bucketLength, bucketsMost}
+use Rattle.buckets.specs.Lengths.{bucketsMost}
 use Rattle.buckets.specs.ListLine.{cutLines, listLines, wholeLines, misprintFrom, fallFrom}
 use Rattle.cycle.specs.Refusals.{Refusal, Condition, row, rowAt, firstRefusal}
 use Rattle.cycle.specs.Tree.{Settings, Plan, plan}
-use Rattle.cycle.specs.Cycle.{cycleSize, image}
+use Rattle.cycle.specs.Cycle.{cycleSize, imageLength, image}
 use Rattle.cycle.specs.declared.Built.{Built}
 use Rattle.cycle.specs.declared.Built.the-variants.{Cycle, Refused}
 
@@ -65,7 +65,7 @@ conditions s list room =
     tagFalls list ∷
     copiesOut t ∷
     cycleTooLong t ∷
-    bufferTooShort room (bucketLength * cycleSize t) ∷ []
+    bufferTooShort room (imageLength t) ∷ []
 
 -- ---- the outcome
 

@@ -109,6 +109,10 @@ firstPlace t i j = distanceTo (occurs i j) (slots t) - 1
 unfoldable pub cycleSize : Plan → ℕ
 cycleSize t = length (slots t)
 
+-- the bytes of the cycle, 240 for each bucket
+abbrev pub imageLength : Plan → ℕ
+imageLength t = bucketLength * cycleSize t
+
 -- the cycle as bytes
 unfoldable pub image : Plan → List ℕ
 image t = joined printBucket (buckets t)

@@ -7,12 +7,11 @@ use mathlib.Core.List.{List, [], _∷_}
 use lib.Dec.{eqb}
 use lib.ListN.{length}
 use Rattle.columns.specs.Lists.{pick, up}
-use Rattle.buckets.specs.Lengths.{bucketLength}
 use Rattle.buckets.specs.ListLine.{listLines}
 use Rattle.cycle.specs.Refusals.{Refusal, Condition, firstRefusal}
 use Rattle.cycle.specs.Tree.{Settings, Plan, plan}
 use Rattle.cycle.specs.Layouts.{Slot, subtree}
-use Rattle.cycle.specs.Cycle.{cycleSize}
+use Rattle.cycle.specs.Cycle.{cycleSize, imageLength}
 use Rattle.cycle.specs.Building.{copiesOut, cycleTooLong, bufferTooShort, conditions}
 use Rattle.cycle.specs.declared.Figures.{Figures}
 use Rattle.cycle.specs.declared.Judged.{Judged}
@@ -83,4 +82,4 @@ sizeConditions t = copiesOut t ∷ cycleTooLong t ∷ []
 
 -- 5, 6 and 7
 unfoldable pub planConditions : Plan → ℕ → List Condition
-planConditions t room = copiesOut t ∷ cycleTooLong t ∷ bufferTooShort room (bucketLength * cycleSize t) ∷ []
+planConditions t room = copiesOut t ∷ cycleTooLong t ∷ bufferTooShort room (imageLength t) ∷ []

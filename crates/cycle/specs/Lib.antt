@@ -6,4 +6,5 @@ pub mod Refusals
 pub mod Building
 pub mod ReadingBack
 pub mod Judging
+pub mod Size
 pub mod Inner

@@ -39,10 +39,15 @@ levelsMost = 16
 unfoldable pub levels : ℕ → ℕ → ℕ
 levels n d = least levelsMost 1 (λ k. leb d (n ^ k))
 
-unfoldable pub plan : Settings → List Line → Plan
-plan s ls =
-    let d : ℕ = dataBuckets (length ls) (s .p) in
+-- the plan of a number of lines, whichever they are
+abbrev pub planFor : Settings → ℕ → List Line → Plan
+planFor s c ls =
+    let d : ℕ = dataBuckets c (s .p) in
     record { n = s .n; p = s .p; layout = s .layout; copies = s .copies; lines = ls; d = d; k = levels (s .n) d }
+
+-- the plan of a list's lines
+unfoldable pub plan : Settings → List Line → Plan
+plan s ls = planFor s (length ls) ls
 
 -- A bucket of the tree is named by its level and its place on that level, from 0. "Level 1 is the root." The data
 -- buckets are level k + 1.

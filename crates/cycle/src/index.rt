@@ -2,14 +2,14 @@
 use super::Figures;
 use super::Segment;
 use super::Source;
+use super::measures::full_size;
+use super::measures::power;
+use super::measures::up;
 use super::places::data_place;
 use super::places::first_place;
 use super::places::largest_tag;
 use super::places::tag_of;
 use super::places::tag_place;
-use super::sizes::full_size;
-use super::sizes::power;
-use super::sizes::up;
 use buckets::Bucket;
 use buckets::Head;
 use buckets::writer::put_entry;

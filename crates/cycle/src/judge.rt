@@ -3,10 +3,9 @@ use super::BUCKET;
 use super::Figures;
 use super::Judged;
 use super::LINE;
-use super::sizes::copies_fit;
-use super::sizes::figures_of;
-use super::sizes::settings_fit;
-use super::sizes::with_size;
+use super::measures::figures_of;
+use super::measures::judge_figures;
+use super::measures::settings_fit;
 use buckets::Bucket;
 use buckets::Line;
 use buckets::lines::line_tag;
@@ -86,21 +85,6 @@ fn all_rise(list: &[u8], lines: u64) -> bool
         i += 1;
     }
     true
-}
-
-// Conditions 5 and 6 of figures, which look at no list; and the figures with N.
-fn judge_figures(f: Figures) -> Judged
-    requires { ⌜ Shaped f ⌝ }
-    ensures { λ r. ⌜ r ≡ judged (firstRefusal (sizeConditions (planOf f []))) (sized f (cycleSize (planOf f []))) ⌝ }
-{
-    if !copies_fit(f) {
-        return Judged::Refused(5, 0);
-    }
-    let sized = with_size(f);
-    if Bucket::BUCKETS_MOST < sized.size {
-        return Judged::Refused(6, 0);
-    }
-    Judged::Cycle(sized)
 }
 
 // Conditions 5, 6 and 7 of figures and a buffer's room; and the figures with N.

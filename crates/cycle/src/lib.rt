@@ -3,11 +3,12 @@
 // A list goes through these files in this order; each answers to the definition named, under specs/, and its laws are in the
 // folder named, under proofs/.
 //
-//   judge      a list and settings held against conditions 1 to 7: Judging, Building.conditions. Laws: Building.
-//              1 settings, 2 length, 3 misprints, 4 falling tags, 5 copies, 6 N, 7 room
-//   sizes      data buckets, levels, subtrees, paths and N by arithmetic: Tree.plan, Cycle.cycleSize. Laws: Trees, Sequences
+//   judge      a list and settings held against conditions 1 to 7, in order: Judging.judge, Building.conditions. Laws: Building.
+//              For each condition its function, its row and its law, as 4, falling tags: first_fall, Building.tagFalls, refused-4
+//   measures   data buckets, levels, subtrees, paths and N by arithmetic: Tree.plan, Cycle.cycleSize. Laws: Trees, Sequences
+//   size       a cycle's dimensions from a number of lines, before there is a list: Size.size. Laws: Building
 //   segments   the segments of a cycle and where each stands: Layouts.slots. Laws: Segmenting
-//   places     where a bucket and a line stand: Layouts.slots, Cycle.toNext. Laws: Reach
+//   places     where a bucket and a line stand: Layouts.slots, Cycle.firstPlace. Laws: Reach
 //   index      what stands in an index bucket: Cycle.pairs, Cycle.entries, as bytes. Laws: Buckets, Reach
 //   build      the image, segment by segment: Building.build, Cycle.image. Laws: Building
 //
@@ -19,10 +20,11 @@
 pub mod build;
 mod index;
 pub mod judge;
+mod measures;
 mod places;
 pub mod read_back;
 mod segments;
-mod sizes;
+pub mod size;
 
 use buckets::Bucket;
 use buckets::Line;
@@ -35,6 +37,21 @@ const BUCKET: u64 = Bucket::LENGTH as u64;
 // What judging answers: the figures of the cycle, or a refusal's number and place.
 pub enum Judged {
     Cycle(Figures),
+    Refused(u64, u64),
+}
+
+// The dimensions of a cycle: index levels, data buckets, N, the bytes of its image, and the most buckets that a display hears.
+pub struct Dimensions {
+    pub k: u64,
+    pub d: u64,
+    pub n: u64,
+    pub bytes: u64,
+    pub heard: u64,
+}
+
+// What sizing answers: the dimensions of the cycle, or a refusal's number and place.
+pub enum Sized {
+    Cycle(Dimensions),
     Refused(u64, u64),
 }
 

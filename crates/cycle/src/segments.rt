@@ -1,9 +1,9 @@
 // The segments of a cycle, and where they stand.
 use super::Figures;
 use super::Segment;
-use super::sizes::lesser;
-use super::sizes::paths_before;
-use super::sizes::up;
+use super::measures::lesser;
+use super::measures::paths_before;
+use super::measures::up;
 ghost use mathlib.Core.Path.{_≡_};
 ghost use mathlib.Core.List.{List, []};
 ghost use Prim.Native.Nat.{_+_, _-_, _*_, _<_};

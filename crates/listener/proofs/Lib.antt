@@ -5,3 +5,4 @@ pub mod Lookups
 pub mod SampleYard
 pub mod Demand3
 pub mod EndPlace
+pub mod HeardLimit

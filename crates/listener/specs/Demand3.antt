@@ -1,7 +1,7 @@
 -- Demand 3: one statement on a whole hearing, and on the lookup beside it.
 -- Assumes nothing.
 use mathlib.Core.Path.{_≡_}
-use Prim.Native.Nat.{ℕ, zero, suc, _+_, _*_, _≤_, _<_, max}
+use Prim.Native.Nat.{ℕ, zero, suc, _+_, _*_, _≤_, _<_}
 use mathlib.Core.Bool.{Bool, true, false}
 use mathlib.Core.Option.{Option, none, some}
 use mathlib.Core.List.{List, [], _∷_}
@@ -11,6 +11,7 @@ use Rattle.buckets.specs.Lengths.{lineLength}
 use Rattle.buckets.specs.declared.Line.{Line}
 use Rattle.buckets.specs.ListLine.{printLine, listLines}
 use Rattle.cycle.specs.Tree.{Settings, plan}
+use Rattle.cycle.specs.Size.{heardMost}
 use Rattle.cycle.specs.Building
 use Rattle.cycle.specs.Building.{build}
 use Rattle.listener.specs.Listener
@@ -22,7 +23,7 @@ use Rattle.listener.specs.declared.Answer.{Answer}
 
 -- "2 + k + max(1, C)": "k is the index levels, C the data buckets with that tag"
 unfoldable pub heardLimit : Settings → List ℕ → ℕ → ℕ
-heardLimit s list tag = 2 + plan s (listLines list) .k + max 1 (runsWith (s .p) tag (listLines list))
+heardLimit s list tag = heardMost (plan s (listLines list) .k) (runsWith (s .p) tag (listLines list))
 
 -- "all the list's lines of that tag and no others, in list order"
 unfoldable pub linesWanted : List ℕ → ℕ → List Line

@@ -4,6 +4,7 @@ pub mod Hearing
 pub mod Lookup
 pub mod Demand3
 pub mod EndPlace
+pub mod HeardLimit
 pub mod SampleYard
 pub mod State
 pub mod Started

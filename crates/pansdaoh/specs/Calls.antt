@@ -8,8 +8,10 @@ use lib.ListN.{getD}
 use Rattle.columns.specs.Lists.{pick}
 use Rattle.cycle.specs.declared.Built.{Built}
 use Rattle.cycle.specs.declared.ReadBack.{ReadBack}
+use Rattle.cycle.specs.declared.Sized.{Sized}
 use Rattle.cycle.specs.Building as building
 use Rattle.cycle.specs.ReadingBack as readingBack
+use Rattle.cycle.specs.Size as sizing
 use Rattle.listener.specs.declared.Looked.{Looked}
 use Rattle.listener.specs.declared.Stepped.{Stepped}
 use Rattle.listener.specs.Lookup as lookups
@@ -21,6 +23,7 @@ use Rattle.pansdaoh.specs.declared.CountAnswer.{CountAnswer}
 use Rattle.pansdaoh.specs.declared.LookupAnswer.{LookupAnswer}
 use Rattle.pansdaoh.specs.declared.StepAnswer.{StepAnswer}
 use Rattle.pansdaoh.specs.declared.LineAnswer.{LineAnswer}
+use Rattle.pansdaoh.specs.declared.SizeAnswer.{SizeAnswer}
 
 -- number, place and count, 0 where there is none: "every count in that result 0"
 unfoldable pub answerOf : List ℕ → CountAnswer
@@ -80,3 +83,20 @@ lineAnswer a =
       code = getD a 5 0;
       weighing = getD a 6 0;
     }
+
+-- the dimensions of a cycle, by their numbers
+unfoldable pub sizeOf : List ℕ → SizeAnswer
+sizeOf a =
+    record {
+      number = getD a 0 0;
+      place = getD a 1 0;
+      k = getD a 2 0;
+      d = getD a 3 0;
+      n = getD a 4 0;
+      bytes = getD a 5 0;
+      heard = getD a 6 0;
+    }
+
+-- sizing's answer
+unfoldable pub sizeAnswer : Sized → SizeAnswer
+sizeAnswer r = sizeOf (sizing.numbers r)

@@ -4,8 +4,10 @@ use buckets::BucketLine;
 use buckets::bucket_line;
 use cycle::Built;
 use cycle::ReadBack;
+use cycle::Sized;
 use cycle::build;
 use cycle::read_back;
+use cycle::size;
 use listener::Listener;
 use listener::Looked;
 use listener::Stepped;
@@ -21,10 +23,11 @@ ghost use Rattle.buckets.specs.BucketLines.{bucketLine};
 ghost use Rattle.cycle.specs.Tree.{settings};
 ghost use Rattle.cycle.specs.Building;
 ghost use Rattle.cycle.specs.ReadingBack.{readBack};
+ghost use Rattle.cycle.specs.Size;
 ghost use Rattle.listener.specs.Listener.{start};
 ghost use Rattle.listener.specs.Lookup;
 ghost use Rattle.listener.specs.State.{saved, restored};
-ghost use Rattle.pansdaoh.specs.Calls.{builtAnswer, readBackAnswer, lookedAnswer, stepAnswer, stepFrom, wasEnded, stateAfter, lineAnswer};
+ghost use Rattle.pansdaoh.specs.Calls.{builtAnswer, readBackAnswer, lookedAnswer, stepAnswer, stepFrom, wasEnded, stateAfter, lineAnswer, sizeAnswer};
 
 // A refusal's number (0: not refused) and place, and the number of buckets built or of lines read back.
 #[repr(C)]
@@ -66,6 +69,19 @@ pub struct LineAnswer {
     pub tare: u64,
     pub code: u64,
     pub weighing: u64,
+}
+
+// A refusal's number (0: not refused) and place; index levels, data buckets, N, the image's bytes, and the most buckets that a
+// display hears.
+#[repr(C)]
+pub struct SizeAnswer {
+    pub number: u64,
+    pub place: u64,
+    pub k: u64,
+    pub d: u64,
+    pub n: u64,
+    pub bytes: u64,
+    pub heard: u64,
 }
 
 // Building's answer as numbers.
@@ -219,6 +235,47 @@ fn no_line(number: u64) -> LineAnswer
     }
 }
 
+// Sizing's answer as numbers.
+fn size_answer(sized: Sized) -> SizeAnswer
+    ensures { λ r. ⌜ r ≡ sizeAnswer sized ⌝ }
+{
+    match sized {
+        Sized::Cycle(f) => SizeAnswer {
+            number: 0,
+            place: 0,
+            k: f.k,
+            d: f.d,
+            n: f.n,
+            bytes: f.bytes,
+            heard: f.heard,
+        },
+        Sized::Refused(number, place) => SizeAnswer {
+            number: number,
+            place: place,
+            k: 0,
+            d: 0,
+            n: 0,
+            bytes: 0,
+            heard: 0,
+        },
+    }
+}
+
+// The dimensions of the cycle of so many lines, for a tag in c data buckets.
+#[no_mangle]
+pub extern "C" fn pansdaoh_size(
+    lines: u64,
+    n: u64,
+    p: u64,
+    layout: u64,
+    copies: u64,
+    c: u64,
+) -> SizeAnswer
+    ensures { λ r. ⌜ r ≡ sizeAnswer (Size.size (settings n p layout copies) lines c) ⌝ }
+{
+    size_answer(size::size(lines, n, p, layout, copies, c))
+}
+
 // Builds the cycle of a list into the front of out.
 #[no_mangle]
 pub extern "C" fn pansdaoh_build(
@@ -262,7 +319,12 @@ pub extern "C" fn pansdaoh_read_back(
 
 // Looks a tag up in an image, tuning in at the bucket named, and writes the matching lines to the front of out.
 #[no_mangle]
-pub extern "C" fn pansdaoh_lookup(image: &[u8], tag: u64, tune_in: u64, out: &mut [u8]) -> LookupAnswer
+pub extern "C" fn pansdaoh_lookup(
+    image: &[u8],
+    tag: u64,
+    tune_in: u64,
+    out: &mut [u8],
+) -> LookupAnswer
     ensures { λ r.
         ⌜ (r ≡ lookedAnswer (Lookup.lookup (now (image .entry)) tag «tune_in» (length (now (out .entry))) .answer)) ×
         (now (out .exit) ≡

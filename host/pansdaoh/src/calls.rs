@@ -19,6 +19,26 @@ pub struct Answer {
     pub count: u64,
 }
 
+/// What sizing returns. If refused, all behind the place is 0.
+#[repr(C)]
+#[derive(Clone, Copy, Debug, PartialEq, Eq)]
+pub struct Size {
+    /// 0, or the number of the refusal.
+    pub number: u64,
+    /// The refusal's place.
+    pub place: u64,
+    /// Index levels.
+    pub k: u64,
+    /// D, the data buckets.
+    pub d: u64,
+    /// N, the buckets of the cycle.
+    pub n: u64,
+    /// Bytes of the image.
+    pub bytes: u64,
+    /// The most buckets that a display hears.
+    pub heard: u64,
+}
+
 /// What a lookup returns.
 #[repr(C)]
 #[derive(Clone, Copy, Debug, PartialEq, Eq)]

@@ -1,6 +1,6 @@
-//! Tare lists on air: building a list into a cycle of buckets, reading a cycle
-//! back to its list, a listener that picks out the lines of one tag, and a
-//! lookup that runs it over an image.
+//! Tare lists on air: building a list into a cycle of buckets, sizing a cycle
+//! before there is a list, reading a cycle back to its list, a listener that
+//! picks out the lines of one tag, and a lookup that runs it over an image.
 //!
 //! The work is done by the static library `pansdaoh`. [`calls`] has its calls
 //! as they are; the functions here turn a refusal into an error, a [`Refusal`].
@@ -35,6 +35,22 @@ pub struct Settings {
     pub copies: u64,
 }
 
+/// The figures of a cycle.
+#[derive(Clone, Copy, Debug, PartialEq, Eq)]
+pub struct Size {
+    /// Index levels, at least 1.
+    pub k: u64,
+    /// D, the data buckets.
+    pub d: u64,
+    /// N, the buckets of the cycle.
+    pub n: u64,
+    /// Bytes of the image, 240 for each bucket.
+    pub bytes: u64,
+    /// The most buckets that a display hears, from any tune-in: 2 + k + C, C
+    /// being at most D and at least 1.
+    pub heard: u64,
+}
+
 /// What a lookup returns.
 #[derive(Clone, Copy, Debug, PartialEq, Eq)]
 pub struct Looked {
@@ -62,6 +78,16 @@ pub struct Line {
 pub fn build(list: &[u8], settings: Settings, out: &mut [u8]) -> Result<u64, Refusal> {
     let Settings { n, p, layout, copies } = settings;
     counted(calls::build(list, n, p, layout, copies, out))
+}
+
+/// The figures of the cycle of any list of so many lines, for a tag whose lines
+/// lie in `c` data buckets; nothing is built.
+pub fn size(lines: u64, settings: Settings, c: u64) -> Result<Size, Refusal> {
+    let Settings { n, p, layout, copies } = settings;
+    let size = calls::size(lines, n, p, layout, copies, c);
+    accepted(size.number, size.place)?;
+    let calls::Size { k, d, n, bytes, heard, .. } = size;
+    Ok(Size { k, d, n, bytes, heard })
 }
 
 /// Writes the list that builds this image into `out` and returns its lines.

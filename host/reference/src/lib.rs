@@ -1,6 +1,7 @@
 //! Tare lists on air, written straight from document 01: a list is built into
 //! a cycle of buckets, a cycle is read back into its list, a listener picks
-//! out the lines of one tag, and a lookup runs it over an image.
+//! out the lines of one tag, and a lookup runs it over an image. From document
+//! 02: a cycle's figures are told before there is a list (C-11).
 #![forbid(unsafe_code)]
 
 mod bucket;
@@ -14,15 +15,16 @@ pub mod literal;
 mod lookup;
 mod print;
 mod read_back;
+mod size;
 pub mod yards;
 
 pub use bucket::{line, BUCKET};
 pub use build::build;
-pub use cycle::Cycle;
 pub use line::LINE;
 pub use listener::{Answer, Listener};
 pub use lookup::{lookup, Looked};
 pub use read_back::read_back;
+pub use size::{size, Size};
 
 /// Number and place of "Refused inputs".
 #[derive(Clone, Copy, Debug, PartialEq, Eq)]

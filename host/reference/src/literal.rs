@@ -1,7 +1,7 @@
 //! The paper once more, word for word and slow: only for tests, to hold the
 //! fast version against.
 
-use crate::{Answer, Refusal};
+use crate::{Answer, Refusal, Size};
 
 const TAG_RANGE: std::ops::RangeInclusive<u64> = 0..=4_294_967_295;
 
@@ -311,6 +311,20 @@ pub fn build(
         return Err(refused(7));
     }
     Ok(cycle.image())
+}
+
+/// The size of a cycle: that of the cycle of some list of so many lines.
+pub fn size(lines: u64, n: u64, p: u64, layout: u64, copies: u64, c: u64) -> Result<Size, Refusal> {
+    check_settings(n, p, layout)?;
+    let refused = |number| Refusal { number, place: 0 };
+    if lines > 40_000 {
+        return Err(refused(2));
+    }
+    let lines = vec![[0; 4]; lines as usize];
+    let cycle = Cycle::new(&lines, n, p, layout, copies).map_err(refused)?;
+    let (k, d, n) = (cycle.levels(), cycle.data.len() as u64, cycle.buckets());
+    let c = if c > d { d } else { c };
+    Ok(Size { k, d, n, bytes: 240 * n, heard: 2 + k + 1.max(c) })
 }
 
 /// Reading back into a buffer of `room` bytes. A list that builds the image

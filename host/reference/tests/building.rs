@@ -5,7 +5,7 @@ mod common;
 use common::build_into;
 use reference::generate::{list, Random};
 use reference::yards::{damaged_building, image_of, legal_copies, levels};
-use reference::{literal, Cycle, Refusal};
+use reference::{literal, Refusal};
 
 const ROOM: usize = 240 * 99_999;
 
@@ -123,25 +123,5 @@ fn large_lists() {
             }
         }
         assert!(lines == list);
-    }
-}
-
-/// N and k as the slow tree counts them, for lists of any length.
-#[test]
-fn measures() {
-    let random = &mut Random::new(6);
-    for _ in 0..150 {
-        let lines = random.below(700);
-        let list = literal::parse_list(&list(random, lines, 1)).unwrap();
-        let (n, p) = (2 + random.below(7), 1 + random.below(8));
-        for [n, p, layout, copies] in legal_copies(lines, n, p) {
-            let fast = Cycle::new(lines, n, p, layout, copies);
-            let slow = literal::Cycle::new(&list, n, p, layout, copies);
-            assert_eq!(
-                fast.as_ref().map(|cycle| cycle.buckets()).ok(),
-                slow.as_ref().map(|c| c.buckets()).ok()
-            );
-            assert_eq!(fast.map(|cycle| cycle.levels()).ok(), slow.map(|c| c.levels()).ok());
-        }
     }
 }

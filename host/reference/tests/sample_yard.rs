@@ -4,7 +4,7 @@ mod common;
 
 use common::{build_into, lookup_into, read_back_into};
 use reference::generate::list_of;
-use reference::{Answer, Listener, Looked, Refusal};
+use reference::{size, Answer, Listener, Looked, Refusal, Size};
 
 const S: [u64; 5] = [3, 5, 5, 8, 9];
 const ROOM: usize = 240 * 100;
@@ -46,6 +46,21 @@ fn p1_to_p5() {
     for tag in [0, 1, 5, 4_294_967_295] {
         assert_eq!(looked(&empty, tag, 0), (false, 2, 2, 0));
     }
+}
+
+/// The same from a number of lines.
+#[test]
+fn sizes() {
+    let sized = |lines, layout, copies, c| size(lines, 2, 1, layout, copies, c);
+    for (copies, n) in [(0, 11), (1, 12), (2, 13)] {
+        let figures = Size { k: 3, d: 5, n, bytes: 240 * n, heard: 7 };
+        assert_eq!(sized(5, 1, copies, 2), Ok(figures));
+    }
+    assert_eq!(sized(5, 1, 3, 2), refused(5));
+    assert_eq!(sized(5, 2, 2, 0), Ok(Size { k: 3, d: 5, n: 17, bytes: 4_080, heard: 6 }));
+    assert_eq!(sized(5, 2, 2, 9), Ok(Size { k: 3, d: 5, n: 17, bytes: 4_080, heard: 10 }));
+    assert_eq!(sized(5, 2, 6, 0), refused(5));
+    assert_eq!(sized(0, 1, 0, 9), Ok(Size { k: 1, d: 0, n: 1, bytes: 240, heard: 4 }));
 }
 
 #[test]

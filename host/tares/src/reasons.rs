@@ -62,9 +62,11 @@ fn line_name(place: usize) -> String {
 /// 5
 pub fn copies(list: &[u8], Settings { n, p, layout, copies }: Settings) -> Vec<String> {
     let lines = list.len() / LINE;
-    let sizes = Sizes::new(lines as u64, n, p);
+    let Ok(sizes) = Sizes::new(lines as u64, n, p) else {
+        return Vec::new();
+    };
     let (least, most) = sizes.copies(layout);
-    let (data, levels) = (sizes.data, sizes.levels());
+    let Sizes { data, levels, .. } = sizes;
     let why = match layout {
         1 => format!("{lines} lines make k = {levels} index levels; r is at most k - 1, and at most 4"),
         _ => format!("{lines} lines make D = {data} data buckets (k = {levels}); m is at most D, and at least 1"),
@@ -72,16 +74,20 @@ pub fn copies(list: &[u8], Settings { n, p, layout, copies }: Settings) -> Vec<S
     vec![format!("copies {copies} is outside {least} to {most} here: {why}")]
 }
 
-/// 6
+/// 6, to which only layout 2 comes.
 pub fn too_long(list: &[u8], settings: Settings) -> Vec<String> {
     let lines = list.len() / LINE;
-    let sizes = Sizes::new(lines as u64, settings.n, settings.p);
-    let buckets = sizes.buckets(settings.layout, settings.copies);
-    let most = sizes.most_copies(settings.layout);
-    vec![
-        format!("{lines} lines with {} would make N = {buckets} buckets", settings_text(settings)),
-        format!("it fits with --copies {most} at most"),
-    ]
+    let Ok(sizes) = Sizes::new(lines as u64, settings.n, settings.p) else {
+        return Vec::new();
+    };
+    let buckets = sizes.data + settings.copies * sizes.tree;
+    let with = settings_text(settings);
+    let mut details = vec![format!("{lines} lines with {with} would make N = {buckets} buckets")];
+    let fits =
+        |&copies: &u64| pansdaoh::size(lines as u64, Settings { copies, ..settings }, 0).is_ok();
+    let most = (1..settings.copies).rfind(fits);
+    details.extend(most.map(|most| format!("it fits with --copies {most} at most")));
+    details
 }
 
 /// 11

@@ -37,18 +37,18 @@ impl Wanted {
 pub fn possible(lines: u64, buckets: u64, wanted: &Wanted) -> Vec<Settings> {
     let mut possible = Vec::new();
     for (n, p) in (2..=8).flat_map(|n| (1..=8).map(move |p| (n, p))) {
-        let sizes = Sizes::new(lines, n, p);
+        let Ok(sizes) = Sizes::new(lines, n, p) else {
+            continue;
+        };
         let (least, most) = sizes.copies(1);
-        let mut settings: Vec<Settings> =
-            (least..=most).map(|copies| Settings { n, p, layout: 1, copies }).collect();
+        let distributed = (least..=most).map(|copies| Settings { n, p, layout: 1, copies });
         // With more parts a cycle is longer, so one number of parts may fit.
-        let parts = buckets.saturating_sub(sizes.data) / sizes.tree();
-        let (least, most) = sizes.copies(2);
-        if least <= parts && parts <= most {
-            settings.push(Settings { n, p, layout: 2, copies: parts });
-        }
-        settings.retain(|s| sizes.buckets(s.layout, s.copies) == buckets && wanted.allows(s));
-        possible.extend(settings);
+        let parts = buckets.saturating_sub(sizes.data) / sizes.tree;
+        let settings = distributed.chain([Settings { n, p, layout: 2, copies: parts }]);
+        let fits = |&settings: &Settings| {
+            pansdaoh::size(lines, settings, 0).is_ok_and(|size| size.n == buckets)
+        };
+        possible.extend(settings.filter(|settings| fits(settings) && wanted.allows(settings)));
     }
     possible
 }

@@ -6,13 +6,17 @@ use native.Mathlib.Omega.{arith}
 use Rattle.cycle.specs.Building as building
 use Rattle.cycle.specs.ReadingBack as readingBack
 use Rattle.cycle.specs.Judging as judging
+use Rattle.cycle.specs.Size as sizing
 use Rattle.cycle.specs.declared.Figures.{Figures}
 use Rattle.cycle.specs.declared.Built.{Built}
 use Rattle.cycle.specs.declared.Built.the-variants.{Cycle as BuiltCycle, Refused as BuiltRefused}
 use Rattle.cycle.specs.declared.ReadBack.{ReadBack}
-use Rattle.cycle.specs.declared.ReadBack.the-variants.{Lines, Refused as RestoredRefused}
+use Rattle.cycle.specs.declared.ReadBack.the-variants.{Lines, Refused as ReadBackRefused}
 use Rattle.cycle.specs.declared.Judged.{Judged}
 use Rattle.cycle.specs.declared.Judged.the-variants.{Cycle as JudgedCycle, Refused as JudgedRefused}
+use Rattle.cycle.specs.declared.Dimensions.{Dimensions}
+use Rattle.cycle.specs.declared.Sized.{Sized}
+use Rattle.cycle.specs.declared.Sized.the-variants.{Cycle as SizedCycle, Refused as SizedRefused}
 
 pub built-told : (a b : Built) → building.numbers a ≡ building.numbers b → a ≡ b
 built-told (BuiltCycle n) (BuiltCycle m) h = cc
@@ -22,9 +26,9 @@ built-told (BuiltRefused number place) (BuiltRefused other there) h = cc
 
 pub read-back-told : (a b : ReadBack) → readingBack.numbers a ≡ readingBack.numbers b → a ≡ b
 read-back-told (Lines c) (Lines d) h = cc
-read-back-told (Lines c) (RestoredRefused number place) h = let z : _≡_ {A = ℕ} 0 1 = cc in absurd (omega arith)
-read-back-told (RestoredRefused number place) (Lines c) h = let z : _≡_ {A = ℕ} 0 1 = cc in absurd (omega arith)
-read-back-told (RestoredRefused number place) (RestoredRefused other there) h = cc
+read-back-told (Lines c) (ReadBackRefused number place) h = let z : _≡_ {A = ℕ} 0 1 = cc in absurd (omega arith)
+read-back-told (ReadBackRefused number place) (Lines c) h = let z : _≡_ {A = ℕ} 0 1 = cc in absurd (omega arith)
+read-back-told (ReadBackRefused number place) (ReadBackRefused other there) h = cc
 
 pub judged-told : (a b : Judged) → judging.numbers a ≡ judging.numbers b → a ≡ b
 judged-told (JudgedCycle f) (JudgedCycle g) h = ap JudgedCycle (figures-told f g h)
@@ -59,3 +63,18 @@ judged-told (JudgedCycle f) (JudgedCycle g) h = ap JudgedCycle (figures-told f g
 judged-told (JudgedCycle f) (JudgedRefused number place) h = let z : _≡_ {A = ℕ} 0 1 = cc in absurd (omega arith)
 judged-told (JudgedRefused number place) (JudgedCycle f) h = let z : _≡_ {A = ℕ} 0 1 = cc in absurd (omega arith)
 judged-told (JudgedRefused number place) (JudgedRefused other there) h = cc
+
+pub sized-told : (a b : Sized) → sizing.numbers a ≡ sizing.numbers b → a ≡ b
+sized-told (SizedCycle f) (SizedCycle g) h = ap SizedCycle (dimensions-told f g h)
+  where
+    dimensions-told : (f g : Dimensions) → sizing.numbers (SizedCycle f) ≡ sizing.numbers (SizedCycle g) → f ≡ g
+    dimensions-told f g h =
+        let k : f .k ≡ g .k = cc in
+        let d : f .d ≡ g .d = cc in
+        let n : f .n ≡ g .n = cc in
+        let bytes : f .bytes ≡ g .bytes = cc in
+        let heard : f .heard ≡ g .heard = cc in
+        λ i. record { k = k i; d = d i; n = n i; bytes = bytes i; heard = heard i }
+sized-told (SizedCycle f) (SizedRefused number place) h = let z : _≡_ {A = ℕ} 0 1 = cc in absurd (omega arith)
+sized-told (SizedRefused number place) (SizedCycle f) h = let z : _≡_ {A = ℕ} 0 1 = cc in absurd (omega arith)
+sized-told (SizedRefused number place) (SizedRefused other there) h = cc

@@ -6,7 +6,7 @@ use mathlib.Core.List.{List, []}
 use lib.ListN.{length}
 use Rattle.columns.specs.Lists.{up}
 use Rattle.buckets.specs.declared.Line.{Line}
-use Rattle.cycle.specs.Tree.{Settings, dataBuckets, levels, plan}
+use Rattle.cycle.specs.Tree.{Settings, dataBuckets, levels, planFor, plan}
 use Rattle.cycle.specs.Cycle.{cycleSize}
 use Rattle.cycle.specs.Judging.{figuresOf}
 use Rattle.cycle.specs.declared.Figures.{Figures}
@@ -16,13 +16,18 @@ use Rattle.cycle.specs.Inner.Settings.{Figured}
 use Rattle.cycle.proofs.Trees.Shapes.{treeAt-shape}
 use Rattle.cycle.proofs.Building.AcceptedLists.{size-shape}
 
--- figures of settings and of a list's length are its plan's
-pub plan-same : (s : Settings) (f : Figures) (ls : List Line) → Figured s f → length ls ≡ f .lines → planOf f ls ≡ plan s ls
-unfolding planOf plan dataBuckets
-plan-same s f ls g e =
-    let count : f .d ≡ up (length ls) (s .p) = g .shaped .d-is ∙ ap₂ up (sym e) (g .p-is) in
-    let deep : f .k ≡ levels (s .n) (up (length ls) (s .p)) = g .shaped .k-is ∙ ap₂ levels (g .n-is) count in
+-- figures of settings and of a number of lines are its plan's
+pub plan-for : (s : Settings) (f : Figures) (c : ℕ) (ls : List Line) → Figured s f → c ≡ f .lines → planOf f ls ≡ planFor s c ls
+unfolding planOf dataBuckets
+plan-for s f c ls g e =
+    let count : f .d ≡ up c (s .p) = g .shaped .d-is ∙ ap₂ up (sym e) (g .p-is) in
+    let deep : f .k ≡ levels (s .n) (up c (s .p)) = g .shaped .k-is ∙ ap₂ levels (g .n-is) count in
     λ i. record { n = g .n-is i; p = g .p-is i; layout = g .layout-is i; copies = g .copies-is i; lines = ls; d = count i; k = deep i }
+
+-- those of a list's length are its plan's
+pub plan-same : (s : Settings) (f : Figures) (ls : List Line) → Figured s f → length ls ≡ f .lines → planOf f ls ≡ plan s ls
+unfolding plan
+plan-same s f ls = plan-for s f (length ls) ls
 
 -- N of figures with their size
 pub size-held : (f : Figures) (m : ℕ) → sized f m .size ≡ m

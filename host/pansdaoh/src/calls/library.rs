@@ -9,7 +9,7 @@
 #![allow(unsafe_code)]
 #![deny(clippy::undocumented_unsafe_blocks)]
 
-use super::{Answer, Found, Line, State, Step};
+use super::{Answer, Found, Line, Size, State, Step};
 
 #[link(name = "pansdaoh", kind = "static")]
 extern "C" {
@@ -23,6 +23,7 @@ extern "C" {
         out: *mut u8,
         out_length: usize,
     ) -> Answer;
+    fn pansdaoh_size(lines: u64, n: u64, p: u64, layout: u64, copies: u64, c: u64) -> Size;
     fn pansdaoh_read_back(
         image: *const u8,
         image_length: usize,
@@ -54,6 +55,14 @@ pub fn build(list: &[u8], n: u64, p: u64, layout: u64, copies: u64, out: &mut [u
     let (room, length) = (out.as_mut_ptr(), out.len());
     // SAFETY: both slices lend their bytes for the call, and the mutable one overlaps nothing.
     unsafe { pansdaoh_build(list.as_ptr(), list.len(), n, p, layout, copies, room, length) }
+}
+
+/// The figures of a cycle of so many lines, for a tag in c data buckets; refuses
+/// by 1, 2, 5 and 6.
+#[inline]
+pub fn size(lines: u64, n: u64, p: u64, layout: u64, copies: u64, c: u64) -> Size {
+    // SAFETY: the call is given numbers alone, and any are answered.
+    unsafe { pansdaoh_size(lines, n, p, layout, copies, c) }
 }
 
 /// Writes the list of an image into `out`; refuses by 1, 11, 13 and 7.

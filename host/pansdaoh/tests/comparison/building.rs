@@ -1,7 +1,7 @@
 use reference::generate::{list, list_of, Random};
 use reference::yards::{damaged_building, image_of, legal_copies};
 
-use crate::compare::{build, each_alteration};
+use crate::compare::{build, each_alteration, NUMBERS};
 
 #[test]
 fn small_lists_and_all_settings() {
@@ -51,17 +51,16 @@ fn longer_lists() {
 #[test]
 fn any_settings() {
     let random = &mut Random::new(3);
-    let numbers = [0, 1, 2, 3, 4, 5, 8, 9, 255, 1 << 32, (1 << 32) + 2, 1 << 63, u64::MAX];
     for lines in [0, 1, 5, 9, 17, 33] {
         let list = list(random, lines, 1);
-        for n in numbers {
-            for p in numbers {
+        for n in NUMBERS {
+            for p in NUMBERS {
                 for layout in [0, 1, 2, 3, (1 << 32) + 1, u64::MAX] {
-                    build(&list, [n, p, layout, random.pick(&numbers)], 240 * 400);
+                    build(&list, [n, p, layout, random.pick(&NUMBERS)], 240 * 400);
                 }
             }
         }
-        for copies in (0..40).chain(numbers) {
+        for copies in (0..40).chain(NUMBERS) {
             for (n, p) in [(2, 1), (2, 8), (3, 2), (8, 1)] {
                 build(&list, [n, p, 1, copies], 240 * 400);
                 build(&list, [n, p, 2, copies], 240 * 400);

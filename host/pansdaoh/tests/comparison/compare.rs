@@ -4,6 +4,10 @@ use pansdaoh::calls::{self, Answer, Found};
 use reference::yards::Settings;
 use reference::Refusal;
 
+/// Numbers at and far beyond the bounds of settings and line counts.
+pub const NUMBERS: [u64; 15] =
+    [0, 1, 2, 3, 4, 5, 8, 9, 255, 40_000, 40_001, 1 << 32, (1 << 32) + 2, 1 << 63, u64::MAX];
+
 /// Bytes before and behind a lent buffer.
 const AROUND: usize = 41;
 

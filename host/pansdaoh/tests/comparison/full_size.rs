@@ -20,21 +20,14 @@ const SETTINGS: [Settings; 8] = [
 ];
 
 /// The most lines with which some (1,m) cycle has so many buckets.
-fn settings_with(buckets: u64) -> (u64, Settings) {
-    for lines in (1..=40_000u64).rev() {
-        for n in 2..=8u64 {
-            for p in 1..=8u64 {
-                let data = lines.div_ceil(p);
-                let mut level = data.div_ceil(n);
-                let mut tree = level;
-                while level > 1 {
-                    level = level.div_ceil(n);
-                    tree += level;
-                }
-                let parts = (buckets - data) / tree;
-                if data + parts * tree == buckets && 1 <= parts && parts <= data {
-                    return (lines, [n, p, 2, parts]);
-                }
+pub fn settings_with(buckets: u64) -> (u64, Settings) {
+    for lines in (1..=40_000).rev() {
+        for (n, p) in (2..=8).flat_map(|n| (1..=8).map(move |p| (n, p))) {
+            let once = reference::size(lines, n, p, 2, 1, 0).unwrap();
+            let (data, tree) = (once.d, once.n - once.d);
+            let parts = (buckets - data) / tree;
+            if data + parts * tree == buckets && 1 <= parts && parts <= data {
+                return (lines, [n, p, 2, parts]);
             }
         }
     }

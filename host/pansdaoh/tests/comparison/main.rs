@@ -8,4 +8,5 @@ mod lines;
 mod listening;
 mod looking_up;
 mod reading_back;
+mod sizing;
 mod wrapper;

@@ -129,7 +129,7 @@ fn stack() {
     compiler.args(["-std=gnu11", "-O2", "-Wl,-z,now"]);
     let figures = output(&mut Command::new(link(&mut compiler, "stack.c", "stack")));
     let calls: Vec<&str> = figures.lines().map(|line| line.split(' ').next().unwrap()).collect();
-    assert_eq!(calls, ["build", "read_back", "lookup", "step", "line"]);
+    assert_eq!(calls, ["build", "size", "read_back", "lookup", "step", "line"]);
     for line in figures.lines() {
         let numbers: Vec<u64> = line.split(' ').skip(1).map(|word| word.parse().unwrap()).collect();
         let (measured, claimed) = (numbers[0], numbers[1]);

@@ -19,6 +19,7 @@ static uint8_t out[sizeof list];
 /* What the calls are given, and what they answered. */
 static uint64_t n, p, layout, copies, lines, tag, place;
 static struct pansdaoh_answer built, read_back;
+static struct pansdaoh_size_answer size;
 static struct pansdaoh_found found;
 static struct pansdaoh_listener listener;
 static struct pansdaoh_step_answer step;
@@ -26,6 +27,10 @@ static struct pansdaoh_line_answer line;
 
 static void call_build(void) {
     built = pansdaoh_build(list, lines * PANSDAOH_LINE, n, p, layout, copies, image, sizeof image);
+}
+
+static void call_size(void) {
+    size = pansdaoh_size(lines, n, p, layout, copies, lines);
 }
 
 static void call_read_back(void) {
@@ -62,7 +67,7 @@ static void measure(void (*call)(void), size_t *most) {
         *most = sizeof stack - untouched;
 }
 
-static size_t build_stack, read_back_stack, lookup_stack, step_stack, line_stack;
+static size_t build_stack, size_stack, read_back_stack, lookup_stack, step_stack, line_stack;
 
 /* A hearing to its end; 0 if it ends as the lookup does. */
 static int hear(uint64_t first_place) {
@@ -80,7 +85,7 @@ static int hear(uint64_t first_place) {
            pansdaoh_heard(listener.state) != found.heard;
 }
 
-/* Builds, reads back, looks up and steps; 0 if nothing was refused. */
+/* Builds, sizes, reads back, looks up and steps; 0 if nothing was refused. */
 static int run(const uint64_t settings[5]) {
     uint64_t i;
     n = settings[0];
@@ -92,8 +97,9 @@ static int run(const uint64_t settings[5]) {
         sprintf((char *)list + i * PANSDAOH_LINE, "%10lu%6d%4d%6d\n",
                 (unsigned long)(4294900000 + i / 3), 99999, 9999, 999999);
     measure(call_build, &build_stack);
+    measure(call_size, &size_stack);
     measure(call_read_back, &read_back_stack);
-    if (built.number != 0 || read_back.number != 0)
+    if (built.number != 0 || size.number != 0 || size.n != built.count || read_back.number != 0)
         return 1;
     for (i = 0; i < 20; i++) {
         tag = 4294900000 + i * lines / 60;
@@ -115,6 +121,7 @@ int main(void) {
         if (run(SETTINGS[i]))
             return 1;
     printf("build %zu %d\n", build_stack, PANSDAOH_BUILD_STACK);
+    printf("size %zu %d\n", size_stack, PANSDAOH_SIZE_STACK);
     printf("read_back %zu %d\n", read_back_stack, PANSDAOH_READ_BACK_STACK);
     printf("lookup %zu %d\n", lookup_stack, PANSDAOH_LOOKUP_STACK);
     printf("step %zu %d\n", step_stack, PANSDAOH_STEP_STACK);

@@ -1,6 +1,7 @@
 /*
- * Builds list S of the sample yard with r 1 and prints for tag 5 each tune-in,
- * heard, elapsed and lines. Each lookup is held against a listener's own steps.
+ * Builds list S of the sample yard with r 1 and prints for tag 5, which lies in
+ * two data buckets, each tune-in, heard, elapsed and lines. The cycle is held
+ * against its size, each lookup against a listener's own steps.
  */
 #include "pansdaoh.h"
 
@@ -46,6 +47,7 @@ static int compare(uint64_t buckets, uint64_t tag, uint64_t place, struct pansda
 int main(void) {
     const uint8_t *list = (const uint8_t *)LIST;
     size_t length = sizeof LIST - 1;
+    struct pansdaoh_size_answer size = pansdaoh_size(5, 2, 1, 1, 1, 2);
     struct pansdaoh_answer built =
         pansdaoh_build(list, length, 2, 1, 1, 1, image, sizeof image);
     size_t image_length = PANSDAOH_BUCKET * built.count;
@@ -54,10 +56,14 @@ int main(void) {
     uint64_t tune_in;
     if (built.number != 0 || read.number != 0 || read.count != 5 || memcmp(lines, list, length))
         return 1;
+    if (size.number != 0 || size.n != built.count || size.bytes != image_length)
+        return 1;
     for (tune_in = 0; tune_in < built.count; tune_in++) {
         struct pansdaoh_found found =
             pansdaoh_lookup(image, image_length, 5, tune_in, lines, sizeof lines);
         if (found.number != 0 || compare(built.count, 5, tune_in, found))
+            return 1;
+        if (found.heard > size.heard)
             return 1;
         printf("%6u%6u%6u%6u\n", (unsigned)tune_in, (unsigned)found.heard,
                (unsigned)found.elapsed, (unsigned)found.lines);

@@ -1,12 +1,14 @@
 //! Answers a stream of requests, read from standard input to its end.
 
-use std::fmt::Write as _;
 use std::io::{Read, Write};
 
-use reference::{build, lookup, read_back, Answer, Listener, Refusal};
+use reference::{build, lookup, read_back, size, Answer, Listener, Looked, Refusal, Size};
 
 const HEAD: usize = 74;
 const COLUMNS: usize = 12;
+
+/// The numbers of a head, the last one its body's length.
+type Numbers = [u64; 6];
 
 fn main() -> std::io::Result<()> {
     let mut input = Vec::new();
@@ -15,9 +17,9 @@ fn main() -> std::io::Result<()> {
     let mut rest = &input[..];
     while !rest.is_empty() {
         let (head, tail) = rest.split_at(HEAD);
-        let numbers: Vec<u64> = head[1..HEAD - 1].chunks(COLUMNS).map(number).collect();
+        let numbers: Numbers = std::array::from_fn(|i| number(&head[1 + COLUMNS * i..][..COLUMNS]));
         let (body, tail) = tail.split_at(numbers[5] as usize);
-        answer(head[0], &numbers, body, &mut answers);
+        answers += &answer(head[0], numbers, body);
         rest = tail;
     }
     std::io::stdout().write_all(answers.as_bytes())
@@ -37,44 +39,62 @@ fn hash(buffer: &[u8]) -> u64 {
     buffer.iter().fold(0, |hash, &byte| (hash * 257 + byte as u64 + 1) % 2_147_483_647)
 }
 
-fn answer(letter: u8, numbers: &[u64], body: &[u8], answers: &mut String) {
-    match (letter, numbers) {
-        (b'B' | b'R', &[n, p, layout, copies, length, _]) => {
-            let mut buffer = lent(length);
-            let call = if letter == b'B' { build } else { read_back };
-            let result = call(body, n, p, layout, copies, &mut buffer);
-            let (Refusal { number, place }, count) = match result {
-                Ok(count) => (Refusal { number: 0, place: 0 }, count),
-                Err(refusal) => (refusal, 0),
-            };
-            writeln!(answers, "{number} {place} {count} {}", hash(&buffer)).unwrap();
-        }
-        (b'L', &[tag, tune_in, length, ..]) => {
-            let mut buffer = lent(length);
-            let text = match lookup(body, tag, tune_in, &mut buffer) {
-                Ok(looked) => {
-                    let end = if looked.found { 1 } else { 2 };
-                    format!("0 0 {end} {} {} {}", looked.heard, looked.elapsed, looked.lines)
-                }
-                Err(Refusal { number, place }) => format!("{number} {place} 0 0 0 0"),
-            };
-            writeln!(answers, "{text} {}", hash(&buffer)).unwrap();
-        }
-        (b'H', &[tag, length, ..]) => {
-            let mut listener = Listener::new(tag);
-            for bucket in body.chunks(length as usize) {
-                let (next, answer, first, count) = listener.step(bucket);
-                listener = next;
-                let (kind, value) = match answer {
-                    Answer::Doze(distance) => (1, distance),
-                    Answer::Found => (2, 0),
-                    Answer::Absent => (3, 0),
-                    Answer::Refused(number) => (4, number),
-                };
-                let (heard, elapsed) = (listener.heard(), listener.elapsed());
-                writeln!(answers, "{kind} {value} {first} {count} {heard} {elapsed}").unwrap();
-            }
-        }
+fn answer(letter: u8, numbers: Numbers, body: &[u8]) -> String {
+    match letter {
+        b'B' => counted(build, numbers, body),
+        b'R' => counted(read_back, numbers, body),
+        b'L' => looked(numbers, body),
+        b'H' => heard(numbers, body),
+        b'F' => sized(numbers, body),
         _ => panic!("no such request: {}", letter as char),
+    }
+}
+
+/// Building and reading back, which return a count.
+type Counting = fn(&[u8], u64, u64, u64, u64, &mut [u8]) -> Result<u64, Refusal>;
+
+fn counted(call: Counting, [n, p, layout, copies, length, _]: Numbers, body: &[u8]) -> String {
+    let mut buffer = lent(length);
+    let text = match call(body, n, p, layout, copies, &mut buffer) {
+        Ok(count) => format!("0 0 {count}"),
+        Err(Refusal { number, place }) => format!("{number} {place} 0"),
+    };
+    format!("{text} {}\n", hash(&buffer))
+}
+
+fn looked([tag, tune_in, length, ..]: Numbers, body: &[u8]) -> String {
+    let mut buffer = lent(length);
+    let text = match lookup(body, tag, tune_in, &mut buffer) {
+        Ok(Looked { found, heard, elapsed, lines }) => {
+            let end = if found { 1 } else { 2 };
+            format!("0 0 {end} {heard} {elapsed} {lines}")
+        }
+        Err(Refusal { number, place }) => format!("{number} {place} 0 0 0 0"),
+    };
+    format!("{text} {}\n", hash(&buffer))
+}
+
+fn heard([tag, length, ..]: Numbers, body: &[u8]) -> String {
+    let mut listener = Listener::new(tag);
+    let mut answers = String::new();
+    for bucket in body.chunks(length as usize) {
+        let (next, answer, first, count) = listener.step(bucket);
+        listener = next;
+        let (kind, value) = match answer {
+            Answer::Doze(distance) => (1, distance),
+            Answer::Found => (2, 0),
+            Answer::Absent => (3, 0),
+            Answer::Refused(number) => (4, number),
+        };
+        let (heard, elapsed) = (listener.heard(), listener.elapsed());
+        answers += &format!("{kind} {value} {first} {count} {heard} {elapsed}\n");
+    }
+    answers
+}
+
+fn sized([n, p, layout, copies, lines, _]: Numbers, body: &[u8]) -> String {
+    match size(lines, n, p, layout, copies, number(body)) {
+        Ok(Size { k, d, n, bytes, heard }) => format!("0 0 {k} {d} {n} {bytes} {heard}\n"),
+        Err(Refusal { number, place }) => format!("{number} {place} 0 0 0 0 0\n"),
     }
 }

@@ -60,7 +60,7 @@ fn longer_lists() {
         for _ in 0..8 {
             let settings = legal_settings(&mut random, lines);
             let [n, p, layout, copies] = settings;
-            if reference::Cycle::new(lines, n, p, layout, copies).is_err() {
+            if reference::size(lines, n, p, layout, copies, 0).is_err() {
                 continue;
             }
             folder.write("image", &image_of(&list, settings));

@@ -25,7 +25,6 @@ below c =
       tree-before (c .args .f) (c .args .list .now) (c .args .s) (length (c .args .image .now)) (c .pre .0) (c .args .e) (c .args .j) (c .args .x) (c .pre .1),
     )
 
-
 print-tree-bucket-requires : tie.Need-print-tree-bucket-requires
 print-tree-bucket-requires c κs =
     let s = begun (c .before) in

@@ -2,13 +2,8 @@
 
 use reference::generate::list_of;
 
-use super::watch::{Strike, Watched};
+use super::watch::{Strike, Watched, ENDING, HANGUP, INTERRUPT, TERMINATE};
 use crate::run::{Folder, R1};
-
-const HANGUP: i32 = 1;
-const INTERRUPT: i32 = 2;
-const QUIT: i32 = 3;
-const TERMINATE: i32 = 15;
 
 /// Until the file gets its name the place stays as it was; then it is whole.
 /// Nothing is left beside it, and the program ends by the signal.
@@ -16,7 +11,7 @@ const TERMINATE: i32 = 15;
 fn ended() {
     let folder = Folder::sample_yard("signals_ended");
     let image = folder.read("image");
-    for signal in [HANGUP, INTERRUPT, QUIT, TERMINATE] {
+    for signal in ENDING {
         for (call, whole) in [("write", false), ("file", false), ("rename", true), ("folder", true)]
         {
             folder.write("out", b"older");

@@ -1,16 +1,31 @@
 //! Runs of the tool by a shell, with the calls noted by which it writes a file.
+#![deny(clippy::undocumented_unsafe_blocks)]
 
+use std::ffi::c_int;
 use std::fs;
-use std::os::unix::process::ExitStatusExt;
+use std::os::unix::process::{CommandExt, ExitStatusExt};
 use std::path::{Path, PathBuf};
 use std::process::Command;
 use std::sync::OnceLock;
 
 use crate::run::Folder;
 
+pub const HANGUP: c_int = 1;
+pub const INTERRUPT: c_int = 2;
+pub const QUIT: c_int = 3;
+pub const TERMINATE: c_int = 15;
+/// The signals by which a person or the system ends a program.
+pub const ENDING: [c_int; 4] = [HANGUP, INTERRUPT, QUIT, TERMINATE];
+
+const SIG_DFL: usize = 0;
+
+extern "C" {
+    fn signal(signal: c_int, handler: usize) -> usize;
+}
+
 /// What happens at a call.
 pub enum Strike {
-    Signal(i32),
+    Signal(c_int),
     Error(i32),
 }
 
@@ -37,6 +52,22 @@ fn watch() -> &'static Path {
     })
 }
 
+/// A shell that each of the ending signals ends, even if the tests were started
+/// with it ignored (`nohup`).
+fn shell() -> Command {
+    let mut shell = Command::new("sh");
+    let defaults = || {
+        for number in ENDING {
+            // SAFETY: a signal's default action runs no code of ours.
+            unsafe { signal(number, SIG_DFL) };
+        }
+        Ok(())
+    };
+    // SAFETY: it only calls `signal`, which is allowed between fork and exec.
+    unsafe { shell.pre_exec(defaults) };
+    shell
+}
+
 impl Folder {
     /// Runs a shell script that finds the tool by its name.
     pub fn shell(&self, script: &str) -> Watched {
@@ -52,7 +83,7 @@ impl Folder {
     fn run_shell(&self, script: &str, strike: Option<(&str, Strike)>) -> Watched {
         let notes = self.path("").with_extension("notes");
         fs::write(&notes, "").unwrap();
-        let mut shell = Command::new("sh");
+        let mut shell = shell();
         shell.arg("-c").arg(script).current_dir(self.path(""));
         let tool = Path::new(env!("CARGO_BIN_EXE_tares")).parent().unwrap();
         let path = format!("{}:{}", tool.display(), std::env::var("PATH").unwrap());
