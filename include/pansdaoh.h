@@ -41,11 +41,13 @@ extern "C" {
 
 /*
  * The version of what this file declares. A change that programs must follow
- * raises the first number, or, while that is 0, the second.
+ * raises the first number, or, while that is 0, the second. Cycles built before
+ * 0.2 are to be built anew: their distances lead past the next cycle's start, and
+ * are refused (8).
  */
 #define PANSDAOH_VERSION_MAJOR 0
-#define PANSDAOH_VERSION_MINOR 1
-#define PANSDAOH_VERSION_PATCH 1
+#define PANSDAOH_VERSION_MINOR 2
+#define PANSDAOH_VERSION_PATCH 0
 
 #define PANSDAOH_LINE 27           /* bytes of a list line, its newline included */
 #define PANSDAOH_BUCKET 240        /* bytes of a bucket */
@@ -136,8 +138,8 @@ struct pansdaoh_size_answer {
  *   c       C, how many data buckets hold lines of the tag; above D, it is taken
  *           as D
  *
- * A display hears at most 2 + k + C buckets, whatever its tune-in; with C 0, that
- * of a tag which is not listed, 2 + k + 1.
+ * A display whose hearing ends in this cycle hears at most 2 + k + C buckets,
+ * whatever its tune-in; with C 0, that of a tag which is not listed, 2 + k + 1.
  *
  * Refused by 1, 2, 5, 6, in this order; here 2 is over 40,000 lines alone.
  */
@@ -223,6 +225,14 @@ void pansdaoh_start(uint64_t state[PANSDAOH_STATE], uint64_t tag);
  *
  * The lines of the tag are those that the steps named, once found is answered.
  * Lines taken before absent or a refusal are void.
+ *
+ * The list on air may change from cycle to cycle. No distance of a bucket leads
+ * past the next cycle's start (8), where position 0 is awaited and N may be new;
+ * within a cycle N stays (9). A hearing ends in tune-in's cycle or in the next:
+ * a doze to a second start is refused (10). Its lines, or its absence, are those
+ * of the list in whose cycle it ends, and so are k and C in the most buckets that
+ * it hears, 2 + k + C. The buckets gone by are at most those of tune-in's cycle
+ * from tune-in on and all of the next.
  *
  * Refused by 14, 8, 9, 10, in this order. After 8, 9 or 10 the listener is
  * ended and its counts do not include that bucket; 14 changes nothing. A display

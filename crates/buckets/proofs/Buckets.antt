@@ -63,12 +63,12 @@ pub length-bucket : (b : Bucket) → Room (b .body) → length (printBucket b) �
 unfolding printBucket
 length-bucket b h = simp length-append (rw (length-printHead b, length-printBody (b .body) h))
 
-pub room : (n c : ℕ) (x : Body) → GoodBody n c x → Room x
-room n c (indexBody ps es) h = (h .few-pairs, h .few-entries)
-room n c (dataBody f ls) h = h .few-lines
+pub room : (c : ℕ) (x : Body) → GoodBody c x → Room x
+room c (indexBody ps es) h = (h .few-pairs, h .few-entries)
+room c (dataBody f ls) h = h .few-lines
 
 pub length-printBucket : (b : Bucket) → good b ≡ true → length (printBucket b) ≡ bucketLength
-length-printBucket b h = length-bucket b (room _ _ (b .body) (bucket-good b h .good-rest))
+length-printBucket b h = length-bucket b (room _ (b .body) (bucket-good b h .good-rest))
 
 -- ---- reading undoes printing
 
@@ -122,10 +122,10 @@ first-part a b r w h = rw append-assoc (take-at a (b ++ r) w h)
 pub second-part : (a b r : List ℕ) (v w : ℕ) → length a ≡ v → length b ≡ w → take w (drop v ((a ++ b) ++ r)) ≡ b
 second-part a b r v w h k = rw (append-assoc a b r, drop-at a (b ++ r) v h) (take-at b r w k)
 
-spelled-index : (n p c g : ℕ) (ps : List Pair) (es : List Entry) → n ≤ bucketsMost → GoodIndex n ps es
+spelled-index : (p c g : ℕ) (ps : List Pair) (es : List Entry) → c ≤ bucketsMost → GoodIndex c ps es
     → spelledBody (printBucket (record { position = p; toCycle = c; toSegment = g; body = indexBody ps es })) ≡ indexBody ps es
 unfolding spelledBody printBucket printHead field columns
-spelled-index n p c g ps es small h =
+spelled-index p c g ps es small h =
     let front = padded pairsWidth (joined printPair ps) in
     let back = padded entriesWidth (joined printEntry es) in
     let nl : List ℕ = newline ∷ [] in
@@ -133,11 +133,11 @@ spelled-index n p c g ps es small h =
     (ap₂ (λ (k : ℕ) (s : List ℕ). map spelledPair (parts k entryWidth s))
     (value-print countWidth (length ps) (omega arith))
     (first-part front back nl pairsWidth (length-pairs ps (h .few-pairs)))
-    ∙ cut printPair spelledPair (pairFits n) entryWidth pairsWidth length-printPair (spelled-printPair n small) ps (h .pairs-fit))
+    ∙ cut printPair spelledPair (pairFits c) entryWidth pairsWidth length-printPair (spelled-printPair c small) ps (h .pairs-fit))
     (ap₂ (λ (k : ℕ) (s : List ℕ). map spelledEntry (parts k entryWidth s))
     (value-print countWidth (length es) (omega arith))
     (second-part front back nl pairsWidth entriesWidth (length-pairs ps (h .few-pairs)) (length-entries es (h .few-entries)))
-    ∙ cut printEntry spelledEntry (entryFits n) entryWidth entriesWidth length-printEntry (spelled-printEntry n small) es (h .entries-fit))
+    ∙ cut printEntry spelledEntry (entryFits c) entryWidth entriesWidth length-printEntry (spelled-printEntry c small) es (h .entries-fit))
 
 -- a line in its bucket
 spelled-line : (l : Line) → fits l ≡ true → spelledLine (lineColumns l) ≡ l
@@ -155,10 +155,10 @@ spelled-data p c g f ls small h =
     ∙ cut lineColumns spelledLine fits lineColumnsWidth linesWidth length-line-columns spelled-line ls (h .lines-fit))
 
 -- what stands behind the head of a printed bucket
-spelled-printBody : (n p c g : ℕ) (x : Body) → n ≤ bucketsMost → c ≤ bucketsMost → GoodBody n c x
+spelled-printBody : (p c g : ℕ) (x : Body) → c ≤ bucketsMost → GoodBody c x
     → spelledBody (printBucket (record { position = p; toCycle = c; toSegment = g; body = x })) ≡ x
-spelled-printBody n p c g (indexBody ps es) small near h = spelled-index n p c g ps es small h
-spelled-printBody n p c g (dataBody f ls) small near h = spelled-data p c g f ls near h
+spelled-printBody p c g (indexBody ps es) small h = spelled-index p c g ps es small h
+spelled-printBody p c g (dataBody f ls) small h = spelled-data p c g f ls small h
 
 pub spelled-printBucket : (b : Bucket) → good b ≡ true → spelledBucket (printBucket b) ≡ b
 unfolding spelledBucket printBucket printHead field columns
@@ -170,8 +170,7 @@ spelled-printBucket b h =
       toCycle = value-print placeWidth (b .toCycle) (omega arith) i;
       toSegment = value-print placeWidth (b .toSegment) (omega arith) i;
       body =
-          spelled-printBody (b .position + b .toCycle) (b .position) (b .toCycle) (b .toSegment) (b .body)
-          (omega arith) (omega arith) (g .good-rest) i;
+          spelled-printBody (b .position) (b .toCycle) (b .toSegment) (b .body) (omega arith) (g .good-rest) i;
     }
 
 pub read-of-print-bucket : (b : Bucket) → good b ≡ true → readBucket (printBucket b) ≡ some b

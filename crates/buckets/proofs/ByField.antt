@@ -37,15 +37,14 @@ head-back b g =
     rw (
       within-back 0 bucketsMost placeWidth (b .position) (omega arith) (omega arith) (omega arith),
       within-back 1 (bucketsMost - b .position) placeWidth (b .toCycle) (omega arith) (omega arith) (omega arith),
-      within-back 1 (b .position + b .toCycle) placeWidth (b .toSegment) (omega arith) (omega arith) (omega arith),
+      within-back 1 (b .toCycle) placeWidth (b .toSegment) (omega arith) (omega arith) (omega arith),
     )
 
-index-back : (h : Head) (ps : List Pair) (es : List Entry) → h .position + h .«to_cycle» ≤ bucketsMost
-    → GoodIndex (h .position + h .«to_cycle») ps es
+index-back : (h : Head) (ps : List Pair) (es : List Entry) → h .«to_cycle» ≤ bucketsMost → GoodIndex (h .«to_cycle») ps es
     → readIndex h (printBucket (bucketWith h (indexBody ps es))) ≡ some (bucketWith h (indexBody ps es))
 unfolding readIndex bucketWith printBucket printHead columns
 index-back h ps es small g =
-    let n = h .position + h .«to_cycle» in
+    let n = h .«to_cycle» in
     let front = padded pairsWidth (joined printPair ps) in
     let back = padded entriesWidth (joined printEntry es) in
     let nl : List ℕ = newline ∷ [] in
@@ -83,24 +82,22 @@ data-letter : (h : Head) (f : ℕ) (ls : List Line) {o : Option Bucket}
 unfolding readByLetter bucketWith printBucket printHead
 data-letter h f ls e = e
 
-body-back : (h : Head) (x : Body) → h .position + h .«to_cycle» ≤ bucketsMost
-    → GoodBody (h .position + h .«to_cycle») (h .«to_cycle») x
+body-back : (h : Head) (x : Body) → h .«to_cycle» ≤ bucketsMost → GoodBody (h .«to_cycle») x
     → readByLetter (getD (printBucket (bucketWith h x)) letterColumn 0) h (printBucket (bucketWith h x)) ≡ some (bucketWith h x)
 body-back h (indexBody ps es) small g = index-letter h ps es (index-back h ps es small g)
-body-back h (dataBody f ls) small g = data-letter h f ls (data-back h f ls (omega arith) g)
+body-back h (dataBody f ls) small g = data-letter h f ls (data-back h f ls small g)
 
-newline-back : (b : Bucket) → GoodBody (b .position + b .toCycle) (b .toCycle) (b .body) → getD (printBucket b) bucketEnd 0 ≡ newline
+newline-back : (b : Bucket) → GoodBody (b .toCycle) (b .body) → getD (printBucket b) bucketEnd 0 ≡ newline
 unfolding printBucket
 newline-back b g =
-    let n = b .position + b .toCycle in
     let wide : length (printHead b ++ printBody (b .body)) ≡ bucketEnd =
-    simp length-append (rw (length-printHead b, length-printBody (b .body) (room n (b .toCycle) (b .body) g))) in
+    simp length-append (rw (length-printHead b, length-printBody (b .body) (room (b .toCycle) (b .body) g))) in
     rw (← append-assoc (printHead b) (printBody (b .body)) (newline ∷ []))
     (getD-at (printHead b ++ printBody (b .body)) newline [] 0 bucketEnd wide)
 
 own-body-back : (b : Bucket) → Good b → readByLetter (getD (printBucket b) letterColumn 0) (headOf b) (printBucket b) ≡ some b
 unfolding headOf bucketWith
-own-body-back b g = body-back (headOf b) (b .body) (g .short-cycle) (g .good-rest)
+own-body-back b g = body-back (headOf b) (b .body) (omega (arith, g .short-cycle)) (g .good-rest)
 
 fields-back : (b : Bucket) → good b ≡ true → readFields (printBucket b) ≡ some b
 unfolding readFields
@@ -117,7 +114,7 @@ record HeadRead (s : List ℕ) (h : Head) : Type 0 where
   segment-shown : columns toSegmentStart placeWidth s ≡ print placeWidth (h .«to_segment»)
   short : h .position + h .«to_cycle» ≤ bucketsMost
   onward : 1 ≤ h .«to_cycle»
-  segment-near : Reaches (h .position + h .«to_cycle») (h .«to_segment»)
+  segment-near : Reaches (h .«to_cycle») (h .«to_segment»)
 
 head-only : (s : List ℕ) {h : Head} → length s ≡ bucketLength → readHead s ≡ some h → HeadRead s h
 unfolding readHead
@@ -126,12 +123,12 @@ head-only s {h} long e =
     let p = first .0 in
     let second = then-found (numberWithin 1 (bucketsMost - p) (columns toCycleStart placeWidth s)) _ (first .2) in
     let c = second .0 in
-    let third = then-found (numberWithin 1 (p + c) (columns toSegmentStart placeWidth s)) _ (second .2) in
+    let third = then-found (numberWithin 1 c (columns toSegmentStart placeWidth s)) _ (second .2) in
     let found : Head = record { position = p; «to_cycle» = c; «to_segment» = third .0 } in
     let is : found ≡ h = cc in
     let position = field-only 0 bucketsMost positionStart placeWidth s (omega arith) (first .1) in
     let cycle = field-only 1 (bucketsMost - p) toCycleStart placeWidth s (omega arith) (second .1) in
-    let segment = field-only 1 (p + c) toSegmentStart placeWidth s (omega arith) (third .1) in
+    let segment = field-only 1 c toSegmentStart placeWidth s (omega arith) (third .1) in
     rw (← is)
     (record {
       position-shown = position .printed;
@@ -142,10 +139,9 @@ head-only s {h} long e =
       segment-near = record { onward = segment .least; near = segment .most };
     })
 
--- what sums of a head that was read stay within
-pub head-bounds : (s : List ℕ) {h : Head} → length s ≡ bucketLength → readHead s ≡ some h
-    → (h .position + h .«to_cycle» ≤ bucketsMost) × (1 ≤ h .«to_cycle»)
-head-bounds s long e = let r = head-only s long e in (r .short, r .onward)
+-- a head that was read is before the next cycle's start
+pub head-onward : (s : List ℕ) {h : Head} → length s ≡ bucketLength → readHead s ≡ some h → 1 ≤ h .«to_cycle»
+head-onward s long e = head-only s long e .onward
 
 -- the columns of a bucket, by its fields
 bucket-shown : (s : List ℕ) (h : Head) (x : Body) → length s ≡ bucketLength → HeadRead s h
@@ -173,7 +169,7 @@ bucket-shown s h x long r follow kind pairs items body ended =
     one : (k c : ℕ) → k < length s → getD s k 0 ≡ c → columns k 1 s ≡ c ∷ []
     one k c h e = columns-one k s h ∙ ap (λ (d : ℕ). d ∷ []) e
 
-good-with : (s : List ℕ) (h : Head) (x : Body) → HeadRead s h → GoodBody (h .position + h .«to_cycle») (h .«to_cycle») x
+good-with : (s : List ℕ) (h : Head) (x : Body) → HeadRead s h → GoodBody (h .«to_cycle») x
     → good (bucketWith h x) ≡ true
 unfolding bucketWith
 good-with s h x r g =
@@ -184,7 +180,7 @@ index-only : (h : Head) (s : List ℕ) {b : Bucket} → length s ≡ bucketLengt
     → readIndex h s ≡ some b → (s ≡ printBucket b) × (good b ≡ true)
 unfolding readIndex
 index-only h s {b} long r kind ended e =
-    let n = h .position + h .«to_cycle» in
+    let n = h .«to_cycle» in
     let first = then-found (numberWithin 0 0 (columns followOnStart placeWidth s)) _ e in
     let second = then-found (numberWithin 0 pairsMost (columns pairCountStart countWidth s)) _ (first .2) in
     let third = then-found (numberWithin 0 entriesMost (columns itemCountStart countWidth s)) _ (second .2) in

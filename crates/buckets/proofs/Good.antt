@@ -52,12 +52,12 @@ fits-pair n p t d = rw (t, reached n (p .distance) d)
 
 -- ---- a body
 
-pub record GoodIndex (n : ℕ) (ps : List Pair) (es : List Entry) : Type 0 where
+pub record GoodIndex (c : ℕ) (ps : List Pair) (es : List Entry) : Type 0 where
   pub few-pairs : length ps ≤ pairsMost
   pub few-entries : length es ≤ entriesMost
-  pub pairs-fit : every (pairFits n) ps ≡ true
+  pub pairs-fit : every (pairFits c) ps ≡ true
   pub later-printed : laterPrinted ps ≡ true
-  pub entries-fit : every (entryFits n) es ≡ true
+  pub entries-fit : every (entryFits c) es ≡ true
   pub in-order : rising 0 (map (λ e. e .tag) es) ≡ true
 
 pub record GoodData (c f : ℕ) (ls : List Line) : Type 0 where
@@ -67,16 +67,16 @@ pub record GoodData (c f : ℕ) (ls : List Line) : Type 0 where
   pub in-order : rising 0 (map (λ l. l .tag) ls) ≡ true
   pub follow-on-near : f < c
 
-abbrev pub GoodBody : ℕ → ℕ → Body → Type 0
-GoodBody n c (indexBody ps es) = GoodIndex n ps es
-GoodBody n c (dataBody f ls) = GoodData c f ls
+abbrev pub GoodBody : ℕ → Body → Type 0
+GoodBody c (indexBody ps es) = GoodIndex c ps es
+GoodBody c (dataBody f ls) = GoodData c f ls
 
-pub body-good : (n c : ℕ) (x : Body) → bodyGood n c x ≡ true → GoodBody n c x
-body-good n c (indexBody ps es) h =
+pub body-good : (c : ℕ) (x : Body) → bodyGood c x ≡ true → GoodBody c x
+body-good c (indexBody ps es) h =
     let order = rising 0 (map (λ (e : Entry). e .tag) es) in
-    let entries = every (entryFits n) es in
+    let entries = every (entryFits c) es in
     let later = laterPrinted ps in
-    let pairs = every (pairFits n) ps in
+    let pairs = every (pairFits c) ps in
     let first = both (leb (length ps) pairsMost) (leb (length es) entriesMost && (pairs && (later && (entries && order)))) h in
     let second = both (leb (length es) entriesMost) (pairs && (later && (entries && order))) (first .1) in
     let third = both pairs (later && (entries && order)) (second .1) in
@@ -90,7 +90,7 @@ body-good n c (indexBody ps es) h =
       entries-fit = fifth .0;
       in-order = fifth .1;
     }
-body-good n c (dataBody f ls) h =
+body-good c (dataBody f ls) h =
     let order = rising 0 (map (λ (l : Line). l .tag) ls) in
     let first = both (leb 1 (length ls)) (leb (length ls) bucketLinesMost && (every fits ls && (order && ltb f c))) h in
     let second = both (leb (length ls) bucketLinesMost) (every fits ls && (order && ltb f c)) (first .1) in
@@ -104,8 +104,8 @@ body-good n c (dataBody f ls) h =
       follow-on-near = ltb-true f c (fourth .1);
     }
 
-pub good-body : (n c : ℕ) (x : Body) → GoodBody n c x → bodyGood n c x ≡ true
-good-body n c (indexBody ps es) h =
+pub good-body : (c : ℕ) (x : Body) → GoodBody c x → bodyGood c x ≡ true
+good-body c (indexBody ps es) h =
     rw (
       le-leb (length ps) pairsMost (h .few-pairs),
       le-leb (length es) entriesMost (h .few-entries),
@@ -114,7 +114,7 @@ good-body n c (indexBody ps es) h =
       h .entries-fit,
       h .in-order,
     )
-good-body n c (dataBody f ls) h =
+good-body c (dataBody f ls) h =
     rw (
       le-leb 1 (length ls) (h .one-line),
       le-leb (length ls) bucketLinesMost (h .few-lines),
@@ -128,22 +128,23 @@ good-body n c (dataBody f ls) h =
 pub record Good (b : Bucket) : Type 0 where
   pub short-cycle : b .position + b .toCycle ≤ bucketsMost
   pub cycle-onward : 1 ≤ b .toCycle
-  pub segment-reached : Reaches (b .position + b .toCycle) (b .toSegment)
-  pub good-rest : GoodBody (b .position + b .toCycle) (b .toCycle) (b .body)
+  pub segment-reached : Reaches (b .toCycle) (b .toSegment)
+  pub good-rest : GoodBody (b .toCycle) (b .body)
 
 pub bucket-good : (b : Bucket) → good b ≡ true → Good b
 unfolding good cycleLength
 bucket-good b h =
     let n = b .position + b .toCycle in
-    let rest = bodyGood n (b .toCycle) (b .body) in
-    let first = both (leb n bucketsMost) (leb 1 (b .toCycle) && (reaches n (b .toSegment) && rest)) h in
-    let second = both (leb 1 (b .toCycle)) (reaches n (b .toSegment) && rest) (first .1) in
-    let third = both (reaches n (b .toSegment)) rest (second .1) in
+    let c = b .toCycle in
+    let rest = bodyGood c (b .body) in
+    let first = both (leb n bucketsMost) (leb 1 c && (reaches c (b .toSegment) && rest)) h in
+    let second = both (leb 1 c) (reaches c (b .toSegment) && rest) (first .1) in
+    let third = both (reaches c (b .toSegment)) rest (second .1) in
     record {
       short-cycle = leb-true n bucketsMost (first .0);
-      cycle-onward = leb-true 1 (b .toCycle) (second .0);
-      segment-reached = reach n (b .toSegment) (third .0);
-      good-rest = body-good n (b .toCycle) (b .body) (third .1);
+      cycle-onward = leb-true 1 c (second .0);
+      segment-reached = reach c (b .toSegment) (third .0);
+      good-rest = body-good c (b .body) (third .1);
     }
 
 pub good-bucket : (b : Bucket) → Good b → good b ≡ true
@@ -153,6 +154,6 @@ good-bucket b h =
     rw (
       le-leb n bucketsMost (h .short-cycle),
       le-leb 1 (b .toCycle) (h .cycle-onward),
-      reached n (b .toSegment) (h .segment-reached),
-      good-body n (b .toCycle) (b .body) (h .good-rest),
+      reached (b .toCycle) (b .toSegment) (h .segment-reached),
+      good-body (b .toCycle) (b .body) (h .good-rest),
     )

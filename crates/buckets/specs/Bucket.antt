@@ -104,9 +104,10 @@ printBucket b = printHead b ++ (printBody (b .body) ++ newline ∷ [])
 
 -- ---- the rules
 
--- "Each distance is 1 to N"
+-- a distance, "counted from this bucket", is at least 1; document 02, C-12: the furthest it reaches is the next cycle's start,
+-- c buckets on, "and no distance exceeds it"
 unfoldable pub reaches : ℕ → ℕ → Bool
-reaches n d = leb 1 d && leb d n
+reaches c d = leb 1 d && leb d c
 
 -- a printed tag is in range; a blank one has none
 abbrev pub pairTagFits : Option ℕ → Bool
@@ -118,10 +119,10 @@ printedTag none = false
 printedTag (some t) = true
 
 unfoldable pub pairFits : ℕ → Pair → Bool
-pairFits n p = pairTagFits (p .tag) && reaches n (p .distance)
+pairFits c p = pairTagFits (p .tag) && reaches c (p .distance)
 
 unfoldable pub entryFits : ℕ → Entry → Bool
-entryFits n e = tagFits (e .tag) && reaches n (e .distance)
+entryFits c e = tagFits (e .tag) && reaches c (e .distance)
 
 -- "Only one field may be blank: the tag of an index bucket's first control pair."
 abbrev pub laterPrinted : List Pair → Bool
@@ -135,25 +136,25 @@ rising m (t ∷ ts) = leb m t && rising t ts
 
 -- "number of control pairs, 0 to 4", "number of entries (0 to 8) or of lines (1 to 8)", and the rules for each; the
 -- follow-on "is below the distance to the next cycle" (c)
-abbrev pub bodyGood : ℕ → ℕ → Body → Bool
-bodyGood n c (indexBody ps es) =
+abbrev pub bodyGood : ℕ → Body → Bool
+bodyGood c (indexBody ps es) =
     leb (length ps) pairsMost &&
     (leb (length es) entriesMost &&
-    (every (pairFits n) ps &&
+    (every (pairFits c) ps &&
     (laterPrinted ps &&
-    (every (entryFits n) es && rising 0 (map (λ e. e .tag) es)))))
-bodyGood n c (dataBody f ls) =
+    (every (entryFits c) es && rising 0 (map (λ e. e .tag) es)))))
+bodyGood c (dataBody f ls) =
     leb 1 (length ls) &&
     (leb (length ls) bucketLinesMost &&
     (every fits ls &&
     (rising 0 (map (λ l. l .tag) ls) && ltb f c)))
 
--- "N, at most 99,999"; both distances of the head 1 to N
+-- "N, at most 99,999"; the distance to the next cycle's start is 1 to N, and that to the next segment's start reaches it at most
 unfoldable pub good : Bucket → Bool
 good b =
     leb (cycleLength b) bucketsMost &&
     (leb 1 (b .toCycle) &&
-    (reaches (cycleLength b) (b .toSegment) && bodyGood (cycleLength b) (b .toCycle) (b .body)))
+    (reaches (b .toCycle) (b .toSegment) && bodyGood (b .toCycle) (b .body)))
 
 -- ---- read
 

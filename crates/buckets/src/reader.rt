@@ -65,7 +65,7 @@ enum HeadRead {
     Misprinted,
 }
 
-// The entry in part, its tag at least low, in a cycle of n.
+// The entry in part, its tag at least low, its distance at most n.
 fn read_entry(part: &[u8], low: u64, n: u64) -> EntryRead
     requires { ⌜ length (now part) ≡ entryWidth ⌝ }
     ensures { λ r. ⌜ r ≡ asEntryRead (readEntry n low (now (part .entry))) ⌝ }
@@ -155,7 +155,7 @@ fn no_pairs() -> Pairs
     }
 }
 
-// The control pairs in part, count of them, in a cycle of n.
+// The control pairs in part, count of them, each distance at most n.
 fn read_pairs(part: &[u8], count: usize, n: u64) -> Pairs
     requires { ⌜ (length (now part) ≡ pairsWidth) × (count ≤ pairsMost) ⌝ }
     ensures { λ r. ⌜ r ≡ heldPairs (readPairs n count (now (part .entry))) ⌝ }
@@ -200,7 +200,7 @@ fn no_entries() -> Entries
     }
 }
 
-// The entries in part, count of them, in a cycle of n.
+// The entries in part, count of them, each distance at most n.
 fn read_entries(part: &[u8], count: usize, n: u64) -> Entries
     requires { ⌜ (length (now part) ≡ entriesWidth) × (count ≤ entriesMost) ⌝ }
     ensures { λ r. ⌜ r ≡ heldEntries (readEntries n count (now (part .entry))) ⌝ }
@@ -290,7 +290,7 @@ fn read_head(part: &[u8]) -> HeadRead
     let Number::Value(to_segment) = fields::six_within(
         &part[Bucket::TO_SEGMENT..Bucket::FOLLOW_ON],
         1,
-        position + to_cycle,
+        to_cycle,
     ) else {
         return HeadRead::Misprinted;
     };
@@ -371,7 +371,7 @@ fn index_reading(
 
 // The index bucket that part is, behind its head.
 fn read_index(part: &[u8], head: Head) -> Reading
-    requires { ⌜ (length (now part) ≡ bucketLength) × (head .position + head .«to_cycle» ≤ bucketsMost) ⌝ }
+    requires { ⌜ length (now part) ≡ bucketLength ⌝ }
     ensures { λ r. ⌜ r ≡ asReading (readIndex head (now (part .entry))) ⌝ }
 {
     let Number::Value(_) = fields::six_within(&part[Bucket::FOLLOW_ON..Bucket::LETTER], 0, 0) else {
@@ -391,7 +391,7 @@ fn read_index(part: &[u8], head: Head) -> Reading
     ) else {
         return misprinted();
     };
-    let n = head.position + head.to_cycle;
+    let n = head.to_cycle;
     let pairs = read_pairs(
         &part[Bucket::PAIRS..Bucket::ENTRIES],
         pair_count as usize,

@@ -33,15 +33,15 @@ ghost use Rattle.cycle.specs.Cycle.{firstPlace};
 ghost use Rattle.cycle.specs.Inner.Held.{aheadOf, lastOf, treeDistance, childDistance, childEntries};
 ghost use Rattle.cycle.specs.Inner.Held.{pairReach, pairTags, pairDistances, OnPath, TreePlace, PathPlace, IndexPlace, Printing};
 
-// A distance from position x to a place of the cycle: of this one if it is ahead, else of the coming one.
+// A distance from position x to a place of the cycle if it is ahead, else to the next cycle's start.
 fn ahead(f: Figures, x: u64, place: u64) -> u64
-    requires { ⌜ (x < f .size) × (place ≤ f .size) × (f .size ≤ bucketsMost) ⌝ }
+    requires { ⌜ x < f .size ⌝ }
     ensures { λ r. ⌜ r ≡ aheadOf (f .size) x place ⌝ }
 {
     if x < place {
         return place - x;
     }
-    f.size + place - x
+    f.size - x
 }
 
 // The tag of the last line of the first `sent` data buckets, 0 where there is none.
@@ -170,12 +170,12 @@ fn pair_distance(f: Figures, level: u64, place: u64, x: u64) -> u64
     let e = (f.k + 1 - level) as usize;
     let sibling = place + 1;
     if sibling % f.n == 0 {
-        return f.size + first_place(f, level - 1, place / f.n) - x;
+        return f.size - x;
     }
     if sibling < up(f.d, power(f.n, e)) {
         return first_place(f, level, sibling) - 1 - x;
     }
-    f.size + first_place(f, level - 1, place / f.n) - x
+    f.size - x
 }
 
 // The distances of the pairs of the path bucket of level i before bucket b of level r + 1, at x.
@@ -197,7 +197,7 @@ fn pair_distances(f: Figures, b: u64, i: u64, x: u64) -> [u64; Bucket::PAIRS_MOS
 // The head of the bucket at x of a segment.
 pub fn head_at(f: Figures, s: Segment, x: u64) -> Head
     requires { ⌜ Ready f × (x < s .end) × (s .end ≤ f .size)
-        × (toNextSegment (drop (suc x) (slots (planOf f [])) ++ slots (planOf f [])) ≡ s .end - x) ⌝ }
+        × (toNextSegment (drop (suc x) (slots (planOf f []))) ≡ s .end - x) ⌝ }
     ensures { λ r. ⌜ r ≡ headOf (cycleBucket (planOf f []) x) ⌝ }
 {
     Head {

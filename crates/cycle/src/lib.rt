@@ -1,4 +1,4 @@
-// Tree, layouts and cycle: document 01, "The tree"; judging, building and reading back.
+// Tree, layouts and cycle: document 01, "The tree", with document 02, C-11 and C-12; judging, sizing, building and reading back.
 //
 // A list goes through these files in this order; each answers to the definition named, under specs/, and its laws are in the
 // folder named, under proofs/.

@@ -1,56 +1,71 @@
--- Demand 3 holds: the walk from any tune-in bucket gives the hearing of any number of steps, and the lookup.
+-- Demand 3 holds for a list that stays as it is: all cycles on air are the same, and a lookup's run is a hearing of them.
 -- Assumes nothing.
-use mathlib.Core.Path.{_≡_, refl, sym, _∙_, ap}
-use Prim.Native.Nat.{ℕ, _+_, _*_, _/_, _≤_, _<_, max}
-use mathlib.Core.Bool.{true, not}
+use mathlib.Core.Path.{_≡_, sym, _∙_, ap, subst}
+use mathlib.Core.Logic.{⊎-elim}
+use Prim.Native.Nat.{ℕ, zero, suc, _+_, _*_, _/_, _%_, _≤_, _<_}
+use mathlib.Core.Bool.{true, false, not}
 use mathlib.Core.Option.{some}
-use mathlib.Core.List.{List, [], _∷_}
-use native.Mathlib.Nat.{zero-add}
+use mathlib.Core.List.{List, []}
+use native.Mathlib.Nat.{add-comm, mod-eq-of-lt, mod-self, mod-lt, mod-add-mod}
+use native.Mathlib.Numerals.{add-one}
 use native.Mathlib.Omega.{arith}
 use lib.Dec.{leb}
 use lib.ListN.{length}
 use borrow.Author.Tests.{lt-leb, le-ltb, lt-ltb}
 use Rattle.columns.specs.Lists.{pick, joined}
 use Rattle.buckets.specs.declared.Line.{Line}
-use Rattle.buckets.specs.Bucket.{Bucket}
 use Rattle.buckets.specs.ListLine.{printLine, listLines}
-use Rattle.cycle.specs.Tree.{Settings, Plan, plan}
-use Rattle.cycle.specs.Building.{build}
-use Rattle.cycle.specs.Cycle.{cycleSize, image}
+use Rattle.cycle.specs.Tree.{Plan, plan}
+use Rattle.cycle.specs.Cycle.{cycleSize, bucketAt}
 use Rattle.cycle.specs.ReadingBack.{wholeBuckets}
 use Rattle.cycle.specs.Inner.Held.{cycleBucket}
-use Rattle.cycle.proofs.Lines.DataTags.{AcceptedPlan}
-use Rattle.cycle.proofs.Building.BuiltImage.{CycleOf}
+use Rattle.cycle.proofs.Basics.Ranges.{le-or-lt}
 use Rattle.listener.specs.Listener.{start}
-use Rattle.listener.specs.Hearing.{Taken, at, hearing, End, found, absent, endOf, heardIn, elapsedIn, linesGot, listenerAfter}
+use Rattle.listener.specs.Hearing.{Taken, hearing, repeated, End, found, absent, endOf, refusedBeforeEnd, linesGot, listenerAfter}
 use Rattle.listener.specs.Lookup
-use Rattle.listener.specs.Lookup.{Finish, run, wholeRun, lookup}
+use Rattle.listener.specs.Lookup.{Finish, run, runBudget, wholeRun, lookup}
 use Rattle.listener.specs.Inner.OnRun.{concluded}
-use Rattle.listener.specs.Demand3.{heardLimit, linesWanted, endWanted, Looks, Demand3, EveryHearing}
-use Rattle.listener.specs.EndPlace.{endPlace}
+use Rattle.listener.specs.Demand3.{Looks, Demand3, EveryHearing}
+use Rattle.listener.specs.OnAir.{Sending, Accepted, imageOf, Air, AirPlace, behind, placeAt, onAir, Demand3OnAir, Hears}
 use Rattle.listener.specs.declared.Listener.{Listener}
-use Rattle.listener.specs.declared.Phase.{Phase}
 use Rattle.listener.specs.declared.Looked.the-variants
-use Rattle.listener.proofs.Walks.Walk.{Walk, misses-here, finds-here, hops}
-use Rattle.listener.proofs.Steps.Mechanics.{start-awaits}
-use Rattle.listener.proofs.Walks.WalkedSteps.{goneBy, finish, Walked}
-use Rattle.listener.proofs.Walks.Walked.{Reads, walked}
-use Rattle.listener.proofs.Walks.Arrival.{wanted, runs}
-use Rattle.listener.proofs.Walks.TuneIn.{FromTuneIn, tunes-in-at}
+use Rattle.listener.proofs.Lookups.RunHearings.{finish, runs-hearing}
+use Rattle.listener.proofs.Lookups.EnoughSteps.{never-spent}
 use Rattle.listener.proofs.Lookups.LookupOutcomes.{lookup-by-tests}
-use Rattle.listener.proofs.Lookups.Images.{image-reads, image-whole, image-count, cycle-answered, of-built}
+use Rattle.listener.proofs.Lookups.Images.{image-whole, image-count, BuiltCycle, built-cycle}
+use Rattle.listener.proofs.OnAir.{demand-3-on-air}
 
--- each step of a walk moves on
-pub walk-length :
-    {n tag : ℕ} {bk : ℕ → Bucket} {b x : ℕ} {ph : Phase} {h : ℕ} {e : End} {z : ℕ} {got : List Line} →
-    Walk n tag bk b x ph h e z got → b + x + h ≤ 2 * n
-walk-length (misses-here hb hx l c) = omega arith
-walk-length (finds-here f c hb hx l e) = omega arith
-walk-length (hops d f c hb hx l e w far lands sums hb′ hx′ more) = omega (arith, walk-length more)
+-- ---- a cycle repeated
 
-pub elapsed-gone : (log : List Taken) → elapsedIn log ≡ goneBy 1 log
-elapsed-gone [] = refl
-elapsed-gone (x ∷ xs) = refl
+module _ (c : Sending) (some : 0 < c .n) where
+  -- all cycles are the same
+  abbrev same : Air
+  same = λ x. c
+
+  next-position : (x : ℕ) → x < c .n → (k : ℕ) → behind same (record { cycle = k; position = x }) .position ≡ suc x % c .n
+  unfolding behind
+  next-position x h k =
+      ⊎-elim
+      (λ (l : c .n ≤ suc x).
+      let e : suc x ≡ c .n = omega arith in
+      rw (le-ltb (suc x) (c .n) l) (sym (ap (λ y. y % c .n) e ∙ mod-self (c .n))))
+      (λ (l : suc x < c .n). rw (lt-ltb (suc x) (c .n) l) (sym (mod-eq-of-lt l)))
+      (le-or-lt (c .n) (suc x))
+
+  position-is : (x : ℕ) → placeAt same x .position ≡ x % c .n
+  position-is zero = sym (mod-eq-of-lt some)
+  position-is (suc x) =
+      let p : AirPlace = placeAt same x in
+      next-position (p .position) (rw (position-is x) (mod-lt x some)) (p .cycle) ∙
+      (ap (λ y. suc y % c .n) (position-is x) ∙
+      (ap (λ y. y % c .n) (sym (add-one (x % c .n))) ∙ (mod-add-mod x (c .n) 1 ∙ ap (λ y. y % c .n) (add-one x))))
+
+  -- they are the cycle repeated
+  pub on-air-repeated : onAir same ≡ repeated (imageOf c) (c .n)
+  unfolding onAir repeated
+  on-air-repeated = λ i x. bucketAt (imageOf c) (position-is x i)
+
+-- ---- the lookup
 
 -- 11 and 12 do not hold
 pub past-tests :
@@ -59,37 +74,19 @@ pub past-tests :
     concluded space f
 past-tests c tune space f w l = rw (w, lt-leb (c / 240) tune l)
 
-module _ (t : Plan) (a : AcceptedPlan t) (c : CycleOf (image t) (cycleSize t) (cycleBucket t)) (tag tune : ℕ) (early : tune < cycleSize t) (m : ℕ) (strays : ℕ → List ℕ) where
-  -- the hearing
-  unfoldable pub log : List Taken
-  log = hearing (image t) (cycleSize t) strays tag tune m
-
-  pub way : FromTuneIn t tag tune
-  way = tunes-in-at t a tag tune early
-
-  pub told :
-      Walked (image t) (cycleSize t) tune tune (start tag) m (way .steps) (endWanted (wanted t tag)) (endPlace t tag tune)
-      (wanted t tag) log
-  unfolding log hearing
-  told =
-      let r : Reads (image t) (cycleSize t) (cycleBucket t) = image-reads (image t) (cycleSize t) (cycleBucket t) c in
-      walked (image t) (cycleSize t) tag tune (cycleBucket t) r (omega arith) strays (way .walk) (start tag)
-      (start-awaits (cycleSize t) tag tune (cycleBucket t) (r .position-is tune early)) m
-
-  -- the lookup beside it
-  pub looked :
-      (space : ℕ) (e : End) → endOf log ≡ some e →
-      lookup (image t) tag tune space ≡ concluded space (finish e (listenerAfter (start tag) log) (linesGot log))
-  unfolding wholeRun
-  looked space e ended =
-      let count : length (image t) / 240 ≡ cycleSize t = image-count (image t) (cycleSize t) (cycleBucket t) c in
-      lookup-by-tests (image t) tag tune space ∙
-      past-tests (length (image t)) tune space (run (image t) (length (image t) / 240) 200000 tune (start tag) [])
-      (image-whole (image t) (cycleSize t) (cycleBucket t) c (omega arith)) (rw count early) ∙
-      ap (concluded space)
-      (ap (λ z. run (image t) z 200000 tune (start tag) []) count ∙
-      (told .runs e ended 200000 (omega (arith, walk-length (way .walk))) [] ∙
-      ap (λ z. finish z (listenerAfter (start tag) log) (linesGot log)) (sym (told .end-is e ended))))
+-- the run beside a hearing that comes to its end
+pub run-beside :
+    (image : List ℕ) (n tag tune m : ℕ) (strays : ℕ → List ℕ) (e : End) → tune < n →
+    endOf (hearing (repeated image n) strays tag tune m) ≡ some e →
+    refusedBeforeEnd (hearing (repeated image n) strays tag tune m) ≡ false →
+    wholeRun image n tag tune ≡
+    finish e (listenerAfter (start tag) (hearing (repeated image n) strays tag tune m)) (linesGot (hearing (repeated image n) strays tag tune m))
+unfolding wholeRun hearing
+run-beside image n tag tune m strays e early end fine =
+    sym (never-spent image n tag tune (Lookup.refused 10) m) ∙
+    (ap (λ b. run image n b tune (start tag) []) (add-comm runBudget m) ∙
+    (ap (λ x. run image n (m + runBudget) x (start tag) []) (sym (mod-eq-of-lt early)) ∙
+    runs-hearing image n strays m runBudget (start tag) tune e [] end fine))
 
 -- ---- how a lookup concludes
 
@@ -116,68 +113,62 @@ pub looks :
     Looks image tag tune space (Lookup.numbers (o .answer)) (o .output)
 looks e = record { answers = ap (λ o. Lookup.numbers (o .answer)) e; writes = ap (λ o. o .output) e }
 
--- the limit of demand 3, of the plan
-pub limit-is : (s : Settings) (list : List ℕ) (tag : ℕ) → heardLimit s list tag ≡ 2 + plan s (listLines list) .k + max 1 (runs (plan s (listLines list)) tag)
-unfolding heardLimit runs plan
-limit-is s list tag = refl
+-- ---- demand 3
 
-pub wanted-is : (s : Settings) (list : List ℕ) (tag : ℕ) → linesWanted list tag ≡ wanted (plan s (listLines list)) tag
-unfolding linesWanted wanted plan
-wanted-is s list tag = refl
+module _ (c : Sending) (accepted : Accepted c) (tag tune : ℕ) (early : tune < c .n) (m : ℕ) (strays : ℕ → List ℕ) where
+  abbrev t : Plan
+  t = plan (c .settings) (listLines (c .list))
 
--- of the cycle of a plan
-pub of-plan :
-    (s : Settings) (list : List ℕ) → AcceptedPlan (plan s (listLines list)) →
-    CycleOf (image (plan s (listLines list))) (cycleSize (plan s (listLines list))) (cycleBucket (plan s (listLines list))) → (tag tune : ℕ) → tune < cycleSize (plan s (listLines list)) → (m : ℕ)
-    (strays : ℕ → List ℕ) →
-    Demand3 s list (image (plan s (listLines list))) (cycleSize (plan s (listLines list))) tag tune m
-    (hearing (image (plan s (listLines list))) (cycleSize (plan s (listLines list))) strays tag tune m)
-unfolding log start
-of-plan s list a c tag tune early m strays =
-    record {
-      heard-limit = rw (limit-is s list tag) (omega (arith, w .heard-most, y .most));
-      elapsed-limit = rw elapsed-gone (rw zero-add at (w .in-time));
-      unrefused = w .unrefused;
-      end-come = λ h. rw (wanted-is s list tag) (w .come (omega (arith, y .most, limit-is s list tag)));
-      end-right = λ e ended. rw (wanted-is s list tag) (w .end-is e ended);
-      lines-right = λ e ended. rw (wanted-is s list tag) (w .lines-are e ended);
-      heard-own = heard;
-      elapsed-own = elapsed;
-      after-end = w .after-end;
-      unchanged = w .unchanged;
-      lookup-found = λ space ended room. looks (ends space found ended ∙ concluded-found space after (linesGot l) heard elapsed room);
-      lookup-short = λ space ended room. looks (ends space found ended ∙ concluded-short space after (linesGot l) room);
-      lookup-absent = λ space ended. looks (ends space absent ended ∙ concluded-absent space after heard elapsed);
-    }
-  where
-    t : Plan
-    t = plan s (listLines list)
+  built : BuiltCycle t (imageOf c) (c .n)
+  unfolding imageOf
+  built = built-cycle (c .settings) (c .list) (c .room) (c .n) accepted
 
-    l : List Taken
-    l = log t a c tag tune early m strays
+  unfoldable pub log : List Taken
+  log = hearing (repeated (imageOf c) (c .n)) strays tag tune m
 
-    w :
-        Walked (image t) (cycleSize t) tune tune (start tag) m (way t a c tag tune early m strays .steps)
-        (endWanted (wanted t tag)) (endPlace t tag tune) (wanted t tag) l
-    w = told t a c tag tune early m strays
+  -- what the statement on air says of it
+  told : Demand3OnAir (same c (omega arith)) tag tune (demand-3-on-air (same c (omega arith)) (λ x. accepted) tag tune early .cycle) m log
+  unfolding log
+  told =
+      let h : Hears (same c (omega arith)) tag tune = demand-3-on-air (same c (omega arith)) (λ x. accepted) tag tune early in
+      subst (λ sent. Demand3OnAir (same c (omega arith)) tag tune (h .cycle) m (hearing sent strays tag tune m))
+      (on-air-repeated c (omega arith)) (h .demand-3 m strays)
 
-    y : FromTuneIn t tag tune
-    y = way t a c tag tune early m strays
+  looked :
+      (space : ℕ) (e : End) → endOf log ≡ some e →
+      lookup (imageOf c) tag tune space ≡ concluded space (finish e (listenerAfter (start tag) log) (linesGot log))
+  unfolding log
+  looked space e ended =
+      let long : length (imageOf c) / 240 ≡ c .n = image-count (imageOf c) (cycleSize t) (cycleBucket t) (built .reads) ∙ sym (built .size-is) in
+      lookup-by-tests (imageOf c) tag tune space ∙
+      (past-tests (length (imageOf c)) tune space (wholeRun (imageOf c) (length (imageOf c) / 240) tag tune)
+      (image-whole (imageOf c) (cycleSize t) (cycleBucket t) (built .reads) (omega (arith, built .size-is))) (rw long early) ∙
+      ap (concluded space)
+      (ap (λ z. wholeRun (imageOf c) z tag tune) long ∙
+      run-beside (imageOf c) (c .n) tag tune m strays e early ended (told .unrefused)))
 
-    after : Listener
-    after = listenerAfter (start tag) l
+  pub of-cycle : Demand3 (c .settings) (c .list) (imageOf c) (c .n) tag tune m log
+  of-cycle =
+      let after : Listener = listenerAfter (start tag) log in
+      record {
+        heard-limit = told .heard-limit;
+        elapsed-limit = omega (arith, told .elapsed-limit);
+        unrefused = told .unrefused;
+        end-come = told .end-come;
+        end-right = told .end-right;
+        lines-right = told .lines-right;
+        heard-own = told .heard-own;
+        elapsed-own = told .elapsed-own;
+        after-end = told .after-end;
+        unchanged = told .unchanged;
+        lookup-found = λ space ended room.
+            looks (looked space found ended ∙ concluded-found space after (linesGot log) (told .heard-own) (told .elapsed-own) room);
+        lookup-short = λ space ended room. looks (looked space found ended ∙ concluded-short space after (linesGot log) room);
+        lookup-absent = λ space ended.
+            looks (looked space absent ended ∙ concluded-absent space after (told .heard-own) (told .elapsed-own));
+      }
 
-    heard : after .heard ≡ heardIn l
-    heard = w .heard-own ∙ zero-add (heardIn l)
-
-    elapsed : after .elapsed ≡ elapsedIn l
-    elapsed = w .elapsed-own ∙ (zero-add (goneBy 1 l) ∙ sym (elapsed-gone l))
-
-    ends : (space : ℕ) (e : End) → endOf l ≡ some e → lookup (image t) tag tune space ≡ concluded space (finish e after (linesGot l))
-    ends = looked t a c tag tune early m strays
-
--- demand 3
 pub demand-3 : EveryHearing
+unfolding imageOf log
 demand-3 s list room n built tag tune early m strays =
-    of-built s list room n (cycle-answered (build s list room .answer) n built (omega arith)) (λ z c. tune < c → Demand3 s list z c tag tune m (hearing z c strays tag tune m))
-    (λ a c h. of-plan s list a c tag tune h m strays) early
+    of-cycle (record { settings = s; list = list; room = room; n = n }) built tag tune early m strays

@@ -3,6 +3,7 @@ pub mod Steps
 pub mod Walks
 pub mod Lookups
 pub mod SampleYard
+pub mod OnAir
 pub mod Demand3
 pub mod EndPlace
 pub mod HeardLimit

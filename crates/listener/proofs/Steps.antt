@@ -5,6 +5,7 @@ pub mod Readings
 pub mod TagsAlone
 pub mod Chosen
 pub mod States
+pub mod Dozes
 pub mod StepBounds
 pub mod StepLeaves
 pub mod Mechanics

@@ -1,4 +1,4 @@
--- The way of a listener through a cycle, from its tune-in to its end.
+-- The way of a listener on air, from its tune-in to its end.
 pub mod Walk
 pub mod WalkedSteps
 pub mod Walked
@@ -16,3 +16,4 @@ pub mod EndCases
 pub mod SegmentStart
 pub mod TuneIn
 pub mod Segments
+pub mod TwoCycles

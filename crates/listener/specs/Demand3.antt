@@ -1,9 +1,10 @@
--- Demand 3: one statement on a whole hearing, and on the lookup beside it.
+-- Demand 3 for a list that stays as it is: one statement on a whole hearing, and on the lookup beside it. It is the case of
+-- `OnAir` where all cycles are the same.
 -- Assumes nothing.
 use mathlib.Core.Path.{_≡_}
-use Prim.Native.Nat.{ℕ, zero, suc, _+_, _*_, _≤_, _<_}
+use Prim.Native.Nat.{ℕ, _+_, _*_, _≤_, _<_}
 use mathlib.Core.Bool.{Bool, true, false}
-use mathlib.Core.Option.{Option, none, some}
+use mathlib.Core.Option.{some}
 use mathlib.Core.List.{List, [], _∷_}
 use lib.ListN.{length, drop}
 use Rattle.columns.specs.Lists.{joined, every, same}
@@ -16,7 +17,7 @@ use Rattle.cycle.specs.Building
 use Rattle.cycle.specs.Building.{build}
 use Rattle.listener.specs.Listener
 use Rattle.listener.specs.Listener.{start, matching}
-use Rattle.listener.specs.Hearing.{Taken, hearing, End, found, absent, endOf, untilEnd, heardIn, elapsedIn, refusedBeforeEnd, linesGot, listenerAfter, runsWith}
+use Rattle.listener.specs.Hearing.{Taken, hearing, repeated, End, found, absent, endOf, untilEnd, heardIn, elapsedIn, refusedBeforeEnd, linesGot, listenerAfter, runsWith}
 use Rattle.listener.specs.Lookup
 use Rattle.listener.specs.Lookup.{lookup}
 use Rattle.listener.specs.declared.Answer.{Answer}
@@ -84,4 +85,4 @@ EveryHearing =
     (s : Settings) (list : List ℕ) (room n : ℕ) → Building.numbers (build s list room .answer) ≡ 0 ∷ 0 ∷ n ∷ [] →
     (tag tune : ℕ) → tune < n →
     (m : ℕ) (strays : ℕ → List ℕ) →
-    Demand3 s list (build s list room .output) n tag tune m (hearing (build s list room .output) n strays tag tune m)
+    Demand3 s list (build s list room .output) n tag tune m (hearing (repeated (build s list room .output) n) strays tag tune m)

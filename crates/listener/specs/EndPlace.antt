@@ -7,7 +7,7 @@ use mathlib.Core.Path.{_≡_}
 use Prim.Native.Nat.{ℕ, suc, _+_, _-_, _<_, max}
 use mathlib.Core.Bool.{Bool}
 use mathlib.Core.Option.{some}
-use mathlib.Core.List.{List, [], _∷_, _++_}
+use mathlib.Core.List.{List, [], _∷_}
 use lib.Dec.{leb, ltb}
 use lib.ListN.{drop, getD}
 use Rattle.columns.specs.Lists.{pick, only, lastOr, range, least}
@@ -18,7 +18,7 @@ use Rattle.cycle.specs.Cycle.{toNext, toNextSegment, cycleSize}
 use Rattle.cycle.specs.Cycle.{firstPlace}
 use Rattle.cycle.specs.Building
 use Rattle.cycle.specs.Building.{build}
-use Rattle.listener.specs.Hearing.{hearing, End, endOf, elapsedIn, runsWith}
+use Rattle.listener.specs.Hearing.{hearing, repeated, End, endOf, elapsedIn, runsWith}
 
 -- q: "the first data bucket whose last tag is at least ours"; D if there is none, which is "a tag above the whole list"
 unfoldable pub target : Plan → ℕ → ℕ
@@ -34,15 +34,15 @@ position t q = firstPlace t (t .k + 1) q
 
 -- a: "the first segment start behind the tune-in", N where it is the coming cycle's
 unfoldable pub segmentBehind : Plan → ℕ → ℕ
-segmentBehind t tune = tune + toNextSegment (drop (suc tune) (slots t) ++ slots t)
+segmentBehind t tune = tune + toNextSegment (drop (suc tune) (slots t))
 
 -- "q is .. sent before a"
 unfoldable pub sentBefore : Plan → ℕ → ℕ → Bool
 sentBefore t q a = ltb (position t q) a
 
--- "the first root from a on", a itself counted
+-- "the first root from a on", a itself counted: the next cycle's start is one
 unfoldable pub rootFrom : Plan → ℕ → ℕ
-rootFrom t a = a + toNext (drop a (slots t) ++ slots t) 1 0 - 1
+rootFrom t a = a + toNext (drop a (slots t)) 1 0 - 1
 
 -- "it ends at P if q is not sent before a, else at N + P; for a tag above the whole list, at the first root from a on"
 unfoldable pub endFrom : Plan → ℕ → ℕ → ℕ
@@ -60,8 +60,8 @@ abbrev pub EveryEnd : Type 0
 EveryEnd =
     (s : Settings) (list : List ℕ) (room n : ℕ) → Building.numbers (build s list room .answer) ≡ 0 ∷ 0 ∷ n ∷ [] →
     (tag tune : ℕ) → tune < n →
-    (m : ℕ) (strays : ℕ → List ℕ) (e : End) → endOf (hearing (build s list room .output) n strays tag tune m) ≡ some e →
-    tune + elapsedIn (hearing (build s list room .output) n strays tag tune m) ≡
+    (m : ℕ) (strays : ℕ → List ℕ) (e : End) → endOf (hearing (repeated (build s list room .output) n) strays tag tune m) ≡ some e →
+    tune + elapsedIn (hearing (repeated (build s list room .output) n) strays tag tune m) ≡
     endPlace (plan s (listLines list)) tag tune + 1
 
 -- ---- by segments

@@ -1,13 +1,13 @@
--- Document 01, "The listener", third paragraph: the list of steps of demand 3, its counts, its end and its lines.
+-- Document 01, "The listener", third paragraph, with document 02, C-12: the list of steps of demand 3, its counts, its end and
+-- its lines.
 -- Assumes nothing.
-use Prim.Native.Nat.{ℕ, zero, suc, _+_, _-_, _*_, _%_}
-use mathlib.Core.Bool.{Bool, true, false, not}
+use Prim.Native.Nat.{ℕ, zero, suc, _+_, _%_}
+use mathlib.Core.Bool.{Bool, true, false}
 use mathlib.Core.Option.{Option, none, some}
 use mathlib.Core.List.{List, [], _∷_, _++_}
 use lib.Dec.{eqb}
-use lib.ListN.{length, drop}
+use lib.ListN.{length}
 use Rattle.columns.specs.Lists.{pick, any, parts, up}
-use Rattle.buckets.specs.Lengths.{bucketLength}
 use Rattle.buckets.specs.declared.Line.{Line}
 use Rattle.cycle.specs.Cycle.{bucketAt}
 use Rattle.listener.specs.Listener.{start, step, named}
@@ -21,35 +21,40 @@ pub record Taken : Type 0 where
   pub bytes : List ℕ
   pub outcome : Stepped
 
--- where the next step's bytes come from: a place of the cycle, or anywhere once an answer was no doze
+-- Places on air are counted from the start of tune-in's cycle on, through all cycles that follow it: `sent` gives the bucket at
+-- each. Where the next step's bytes come from: a place on air, or anywhere once an answer was no doze.
 pub data Supply : Type 0 where
   at : ℕ → Supply
   anywhere : Supply
 
 -- "any bytes at all" are those that strays gives, of which nothing is known
-abbrev pub given : List ℕ → (ℕ → List ℕ) → ℕ → Supply → List ℕ
-given image strays m (at x) = bucketAt image x
-given image strays m anywhere = strays m
+abbrev pub given : (ℕ → List ℕ) → (ℕ → List ℕ) → ℕ → Supply → List ℕ
+given sent strays m (at x) = sent x
+given sent strays m anywhere = strays m
 
--- "After doze by d its bucket is the one d places on, counted round by N"
-abbrev pub onward : ℕ → Supply → Answer → Supply
-onward n (at x) (Doze d) = at ((x + d) % n)
-onward n (at x) Found = anywhere
-onward n (at x) Absent = anywhere
-onward n (at x) (Refused number) = anywhere
-onward n anywhere a = anywhere
+-- "After doze by d its bucket is the one d places on"
+abbrev pub onward : Supply → Answer → Supply
+onward (at x) (Doze d) = at (x + d)
+onward (at x) Found = anywhere
+onward (at x) Absent = anywhere
+onward (at x) (Refused number) = anywhere
+onward anywhere a = anywhere
 
 -- m steps from a listener and a source on: "each later one the listener that the step before it returned"
-abbrev pub stepsFrom : List ℕ → ℕ → (ℕ → List ℕ) → Listener → Supply → ℕ → List Taken
-stepsFrom image n strays s w zero = []
-stepsFrom image n strays s w (suc m) =
-    let bytes : List ℕ = given image strays m w in
+abbrev pub stepsFrom : (ℕ → List ℕ) → (ℕ → List ℕ) → Listener → Supply → ℕ → List Taken
+stepsFrom sent strays s w zero = []
+stepsFrom sent strays s w (suc m) =
+    let bytes : List ℕ = given sent strays m w in
     let r : Stepped = step s bytes in
-    record { bytes = bytes; outcome = r } ∷ stepsFrom image n strays (r .listener) (onward n w (r .answer)) m
+    record { bytes = bytes; outcome = r } ∷ stepsFrom sent strays (r .listener) (onward w (r .answer)) m
 
 -- "Its first step is given a listener just started with the tag, and bucket t of the cycle": a hearing of m steps
-unfoldable pub hearing : List ℕ → ℕ → (ℕ → List ℕ) → ℕ → ℕ → ℕ → List Taken
-hearing image n strays tag t m = stepsFrom image n strays (start tag) (at t) m
+unfoldable pub hearing : (ℕ → List ℕ) → (ℕ → List ℕ) → ℕ → ℕ → ℕ → List Taken
+hearing sent strays tag t m = stepsFrom sent strays (start tag) (at t) m
+
+-- a cycle of n buckets repeated unchanged: places are "counted round by N"
+unfoldable pub repeated : List ℕ → ℕ → ℕ → List ℕ
+repeated image n x = bucketAt image (x % n)
 
 -- ---- what a hearing shows
 

@@ -3,9 +3,12 @@ pub mod Listener
 pub mod Hearing
 pub mod Lookup
 pub mod Demand3
+pub mod OnAir
 pub mod EndPlace
 pub mod HeardLimit
 pub mod SampleYard
+pub mod Readings
+pub mod ChangedList
 pub mod State
 pub mod Started
 pub mod Inner

@@ -1,6 +1,7 @@
--- Document 01, "The listener": its state, its start and its step, with the conditions 14, 8, 9 and 10 in that order.
+-- Document 01, "The listener", with document 02, C-12: its state, its start and its step, with the conditions 14, 8, 9 and 10 in
+-- that order.
 -- Assumes nothing.
-use Prim.Native.Nat.{ℕ, zero, suc, _+_, _-_, _*_, _/_, _%_}
+use Prim.Native.Nat.{ℕ, suc, _+_}
 use mathlib.Core.Bool.{Bool, true, false, _&&_, _||_, not}
 use mathlib.Core.Option.{Option, none, some}
 use mathlib.Core.List.{List, [], _∷_, _++_, map}
@@ -117,12 +118,17 @@ letterAwaited Either b = true
 letterAwaited Data b = not (isIndex b)
 letterAwaited Ended b = false
 
--- "The position and N awaited are those worked out from the last bucket."; at tune-in nothing is
+-- "The position and N awaited are those worked out from the last bucket."; document 02, C-12: "Past a start the awaited position
+-- is 0 and N may be new.", "9 tests N only within a cycle": within a cycle no doze ends at position 0
+abbrev pub dueAt : Listener → Bucket → Bool
+dueAt s b = eqb (b .position) (s .due) && (eqb (s .due) 0 || eqb (cycleLength b) (s .cycle))
+
+-- at tune-in nothing is
 abbrev pub placeAwaited : Phase → Listener → Bucket → Bool
 placeAwaited TuneIn s b = true
-placeAwaited Index s b = eqb (b .position) (s .due) && eqb (cycleLength b) (s .cycle)
-placeAwaited Either s b = eqb (b .position) (s .due) && eqb (cycleLength b) (s .cycle)
-placeAwaited Data s b = eqb (b .position) (s .due) && eqb (cycleLength b) (s .cycle)
+placeAwaited Index s b = dueAt s b
+placeAwaited Either s b = dueAt s b
+placeAwaited Data s b = dueAt s b
 placeAwaited Ended s b = false
 
 -- 9: "letter, position or N not as awaited" does not hold
@@ -180,15 +186,23 @@ heardWith s = s .heard + 1
 unfoldable pub elapsedWith : Listener → ℕ
 elapsedWith s = s .elapsed + s .doze
 
--- the cycle starts passed since tune-in, with those that a doze by d passes: the number of the next bucket's cycle, tune-in's
+-- a doze by d ends at the next cycle's start, beyond which no distance of a bucket reaches
+unfoldable pub reachesStart : Bucket → ℕ → Bool
+reachesStart b d = leb (b .toCycle) d
+
+-- the position awaited after a doze by d: d on in this cycle; "Past a start the awaited position is 0"
+unfoldable pub dueWith : Bucket → ℕ → ℕ
+dueWith b d = pick (reachesStart b d) 0 (b .position + d)
+
+-- the cycle starts passed since tune-in, with the one that a doze by d ends at: the number of the next bucket's cycle, tune-in's
 -- being 0
 unfoldable pub passedWith : Listener → Bucket → ℕ → ℕ
-passedWith s b d = s .passed + (b .position + d) / cycleLength b
+passedWith s b d = s .passed + pick (reachesStart b d) 1 0
 
--- 10: "the next bucket lies past the cycle after tune-in's". The law `PastByCount` of Started says the same by the buckets
--- counted from tune-in.
+-- 10: "the next bucket lies past the cycle after tune-in's": a start was passed since tune-in, and the doze would be to another.
+-- The law `PastByCount` of Started says the same by the buckets counted from tune-in: "10 counts the new cycle's N".
 unfoldable pub pastNextCycle : Listener → Bucket → ℕ → Bool
-pastNextCycle s b d = ltb 1 (passedWith s b d)
+pastNextCycle s b d = leb 1 (s .passed) && reachesStart b d
 
 -- the listener that dozes by d
 unfoldable pub dozing : Listener → Bucket → ℕ → Phase → Listener
@@ -196,7 +210,7 @@ dozing s b d awaits =
     record {
       tag = s .tag;
       phase = awaits;
-      due = (b .position + d) % cycleLength b;
+      due = dueWith b d;
       cycle = cycleLength b;
       passed = passedWith s b d;
       doze = d;

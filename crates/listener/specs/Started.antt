@@ -36,22 +36,24 @@ CountsFit = (tag : ℕ) (given : List (List ℕ)) → countsFit (after (start ta
 
 -- ---- 10
 
--- the printed position of the tune-in bucket: the first one given, or the one at hand
-abbrev pub positionRead : Option Bucket → ℕ
-positionRead none = 0
-positionRead (some b) = b .position
+-- the tune-in bucket: the first one given, or the one at hand
+abbrev pub readOr : Bucket → Option Bucket → Bucket
+readOr b none = b
+readOr b (some c) = c
 
-abbrev pub tuneInPosition : List (List ℕ) → Bucket → ℕ
-tuneInPosition [] b = b .position
-tuneInPosition (bytes ∷ more) b = positionRead (readBucket bytes)
+abbrev pub tuneInBucket : List (List ℕ) → Bucket → Bucket
+tuneInBucket [] b = b
+tuneInBucket (bytes ∷ more) b = readOr b (readBucket bytes)
 
--- 10 at a bucket that 9 lets pass: counted from the start of tune-in's cycle, the next bucket lies past two cycles
+-- 10 at a bucket that 9 lets pass, and a distance that it may have: counted from the start of tune-in's cycle, the next bucket
+-- lies past that cycle and the one after it. "10 counts the new cycle's N": past a start it is the N of the bucket at hand.
 abbrev pub PastByCount : Type 0
 PastByCount =
     (tag : ℕ) (given : List (List ℕ)) (bytes : List ℕ) (b : Bucket) (d : ℕ) → readBucket bytes ≡ some b →
-    awaited (after (start tag) given) b ≡ true →
+    awaited (after (start tag) given) b ≡ true → d ≤ b .toCycle →
     pastNextCycle (after (start tag) given) b d ≡
-    ltb (2 * cycleLength b) (tuneInPosition given b + (elapsedWith (after (start tag) given) + d))
+    ltb (cycleLength (tuneInBucket given b) + cycleLength b)
+    (tuneInBucket given b .position + (elapsedWith (after (start tag) given) + d))
 
 -- ---- a lookup's run
 

@@ -1,4 +1,4 @@
-// The listener and the lookup: document 01, "The listener".
+// The listener and the lookup: document 01, "The listener", with document 02, C-12.
 mod choose;
 mod hearing;
 pub mod lookup;
@@ -21,9 +21,9 @@ pub struct Listener {
     tag: u64,
     // what is awaited
     phase: Phase,
-    // the position awaited
+    // the position awaited; 0 is that of a cycle's start
     due: u64,
-    // the N awaited
+    // the N of the last bucket taken, which is awaited within its cycle
     cycle: u64,
     // the cycle starts passed since tune-in
     passed: u64,

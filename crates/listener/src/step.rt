@@ -1,4 +1,4 @@
-// A listener's start and its step: document 01, "The listener".
+// A listener's start and its step: document 01, "The listener", with document 02, C-12.
 use super::Answer;
 use super::Listener;
 use super::Phase;
@@ -12,16 +12,15 @@ use buckets::Line;
 use buckets::Reading;
 use buckets::reader;
 ghost use mathlib.Core.Path.{_≡_};
-ghost use mathlib.Core.Bool.{_&&_};
 ghost use mathlib.Core.List.{List};
-ghost use Prim.Native.Nat.{ℕ, _+_, _≤_};
-ghost use lib.Dec.{eqb};
+ghost use Prim.Native.Nat.{ℕ, _≤_};
 ghost use Rattle.buckets.specs.Lengths.{bucketsMost, bucketLinesMost};
 ghost use Rattle.buckets.specs.Bucket.{Body, dataBody, readBucket};
 ghost use Rattle.buckets.specs.Inner.Held.{bucketWith, indexOf, asReading};
 ghost use Rattle.listener.specs.Listener.{start, isEnded, isIndex, countsFit, ended, stepped, refused, refusedEnded};
-ghost use Rattle.listener.specs.Listener.{heardWith, elapsedWith, awaited, dozes, decided, bodyChoice, dataChoice};
+ghost use Rattle.listener.specs.Listener.{heardWith, elapsedWith, dueAt, awaited, dueWith, passedWith, dozing, dozes, decided, bodyChoice, dataChoice};
 ghost use Rattle.listener.specs.Listener.{heed, heedRead, step, stepNumbers};
+ghost use Rattle.listener.specs.declared.Answer.the-variants.{Doze};
 ghost use Rattle.listener.specs.Inner.OnReading.{isTuneIn, Counts, SoundHead, SoundIndex, WasRead, taggedLines};
 
 // Whether the tune-in bucket is awaited.
@@ -152,24 +151,28 @@ impl Listener {
         }
     }
 
-    // Doze by d, awaiting a bucket of the kind named, unless that lies past the cycle after tune-in's.
-    fn doze_by(self, h: Head, d: u64, awaits: Phase, first: u64, count: u64) -> Stepped
+    // Doze by d to the bucket at position `due`, awaiting one of the kind named, with the cycle starts passed by then.
+    fn dozing(
+        self,
+        h: Head,
+        due: u64,
+        passed: u64,
+        d: u64,
+        awaits: Phase,
+        first: u64,
+        count: u64,
+    ) -> Stepped
         requires { ⌜ Counts self ⌝ }
         requires { ⌜ SoundHead h ⌝ }
-        requires { ⌜ d ≤ bucketsMost ⌝ }
-        ensures { λ r. ⌜ ((body : Body) → r ≡ decided self (bucketWith h body) (dozes d awaits first count)) ⌝ }
+        ensures { λ r.
+            ⌜ ((body : Body) → dueWith (bucketWith h body) d ≡ due → passedWith self (bucketWith h body) d ≡ passed →
+            r ≡ stepped (dozing self (bucketWith h body) d awaits) (Doze d) first count) ⌝ }
     {
-        let n = h.position + h.to_cycle;
-        let next = h.position + d;
-        let passed = self.passed + next / n;
-        if 1 < passed {
-            return self.refused(10);
-        }
         let listener = Listener {
             tag: self.tag,
             phase: awaits,
-            due: next % n,
-            cycle: n,
+            due: due,
+            cycle: h.position + h.to_cycle,
             passed: passed,
             doze: d,
             heard: self.heard + 1,
@@ -183,13 +186,32 @@ impl Listener {
         }
     }
 
-    // Whether position and N are those awaited.
+    // Doze by d, awaiting a bucket of the kind named: in this cycle, or the next cycle's first unless a start was passed before.
+    fn doze_by(self, h: Head, d: u64, awaits: Phase, first: u64, count: u64) -> Stepped
+        requires { ⌜ Counts self ⌝ }
+        requires { ⌜ SoundHead h ⌝ }
+        requires { ⌜ d ≤ bucketsMost ⌝ }
+        ensures { λ r. ⌜ ((body : Body) → r ≡ decided self (bucketWith h body) (dozes d awaits first count)) ⌝ }
+    {
+        if d < h.to_cycle {
+            return self.dozing(h, h.position + d, self.passed, d, awaits, first, count);
+        }
+        if 1 <= self.passed {
+            return self.refused(10);
+        }
+        self.dozing(h, 0, self.passed + 1, d, awaits, first, count)
+    }
+
+    // Whether the position is the one awaited, and N too where no cycle starts there.
     fn due_at(self, h: Head) -> bool
         requires { ⌜ SoundHead h ⌝ }
-        ensures { λ r. ⌜ r ≡ (eqb (h .position) (self .due) && eqb (h .position + h .«to_cycle») (self .cycle)) ⌝ }
+        ensures { λ r. ⌜ ((body : Body) → r ≡ dueAt self (bucketWith h body)) ⌝ }
     {
         if h.position != self.due {
             return false;
+        }
+        if self.due == 0 {
+            return true;
         }
         h.position + h.to_cycle == self.cycle
     }

@@ -46,8 +46,8 @@ pub struct Size {
     pub n: u64,
     /// Bytes of the image, 240 for each bucket.
     pub bytes: u64,
-    /// The most buckets that a display hears, from any tune-in: 2 + k + C, C
-    /// being at most D and at least 1.
+    /// The most buckets that a display hears whose hearing ends in this cycle,
+    /// from any tune-in: 2 + k + C, C being at most D and at least 1.
     pub heard: u64,
 }
 

@@ -15,7 +15,9 @@ pub enum Answer {
     Refused(Refusal),
 }
 
-/// A listener for one tag, given bucket after bucket.
+/// A listener for one tag, given bucket after bucket. The list on air may change
+/// from cycle to cycle: the lines, or the absence, are those of the list in whose
+/// cycle the hearing ends.
 #[derive(Clone, Copy, Debug, PartialEq, Eq)]
 pub struct Listener {
     state: State,

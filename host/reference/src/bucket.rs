@@ -44,8 +44,8 @@ pub struct Pointer {
 #[derive(Default)]
 pub struct Bucket {
     pub position: u64,
-    /// N: the position plus the distance to the next cycle.
-    pub buckets: u64,
+    /// The distance to the next cycle's start.
+    pub to_cycle: u64,
     pub to_segment: u64,
     pub follow_on: u64,
     /// The letter I, else D.
@@ -66,17 +66,16 @@ impl Bucket {
     #[inline(always)]
     pub fn read(&mut self, bytes: &[u8; BUCKET]) -> Option<()> {
         self.position = read::<6>(bytes, POSITION)?;
-        let to_cycle = read::<6>(bytes, TO_CYCLE)?;
-        self.buckets = self.position + to_cycle;
+        self.to_cycle = read::<6>(bytes, TO_CYCLE)?;
         self.to_segment = read::<6>(bytes, TO_SEGMENT)?;
         self.follow_on = read::<6>(bytes, FOLLOW_ON)?;
         self.is_index = bytes[LETTER] == b'I';
         self.pair_count = read::<2>(bytes, PAIR_COUNT)? as usize;
         self.count = read::<2>(bytes, COUNT)? as usize;
-        // "N, at most 99,999", "each distance is 1 to N"; the two counts.
-        if to_cycle == 0
-            || self.buckets > MAX_BUCKETS
-            || !is_distance(self.to_segment, self.buckets)
+        // "N, at most 99,999", each distance; the two counts.
+        if self.to_cycle == 0
+            || self.buckets() > MAX_BUCKETS
+            || !is_distance(self.to_segment, self.to_cycle)
             || self.pair_count > MAX_PAIRS
             || self.count > MAX_ENTRIES
             || bytes[NEWLINE] != b'\n'
@@ -88,7 +87,7 @@ impl Bucket {
             b'I' if self.follow_on == 0 => self.read_index(bytes),
             // "No control pairs", 1 to 8 lines, the follow-on "is below the
             // distance to the next cycle".
-            b'D' if self.pair_count == 0 && self.count > 0 && self.follow_on < to_cycle => {
+            b'D' if self.pair_count == 0 && self.count > 0 && self.follow_on < self.to_cycle => {
                 self.read_data(bytes)
             }
             _ => None,
@@ -103,11 +102,11 @@ impl Bucket {
         self.first_blank = self.pair_count > 0 && *at::<TAG>(bytes, PAIRS) == [BLANK; TAG];
         for i in 0..self.pair_count {
             let columns = at(bytes, PAIRS + POINTER * i);
-            self.pairs[i] = read_pointer(columns, self.buckets, i == 0 && self.first_blank)?;
+            self.pairs[i] = read_pointer(columns, self.to_cycle, i == 0 && self.first_blank)?;
         }
         let mut last = 0;
         for i in 0..self.count {
-            let entry = read_pointer(at(bytes, ENTRIES + POINTER * i), self.buckets, false)?;
+            let entry = read_pointer(at(bytes, ENTRIES + POINTER * i), self.to_cycle, false)?;
             // "Entry tags never fall."
             if entry.tag < last {
                 return None;
@@ -134,6 +133,12 @@ impl Bucket {
             self.tags[i] = tag;
         }
         is_blank(&bytes[LINES + FIGURES * self.count..NEWLINE]).then_some(())
+    }
+
+    /// N: "the position plus the second".
+    #[inline(always)]
+    pub fn buckets(&self) -> u64 {
+        self.position + self.to_cycle
     }
 
     /// The control pairs of an index bucket.
@@ -171,16 +176,16 @@ pub fn line(bytes: &[u8], i: u64) -> Result<Option<[u64; 4]>, Refusal> {
 
 /// "each a tag (10, range as in a list line) and a distance (6)".
 #[inline(always)]
-fn read_pointer(columns: &[u8; POINTER], buckets: u64, blank: bool) -> Option<Pointer> {
+fn read_pointer(columns: &[u8; POINTER], to_cycle: u64, blank: bool) -> Option<Pointer> {
     let tag = if blank { 0 } else { line::tag(columns)? };
     let distance = read::<6>(columns, TAG)?;
-    is_distance(distance, buckets).then_some(Pointer { tag, distance })
+    is_distance(distance, to_cycle).then_some(Pointer { tag, distance })
 }
 
-/// "Each distance is 1 to N."
+/// At least 1, and "no distance exceeds" that to the next cycle's start (C-12).
 #[inline(always)]
-fn is_distance(distance: u64, buckets: u64) -> bool {
-    1 <= distance && distance <= buckets
+fn is_distance(distance: u64, to_cycle: u64) -> bool {
+    1 <= distance && distance <= to_cycle
 }
 
 /// "unused columns blank".

@@ -138,13 +138,15 @@ pub fn damaged_image(random: &mut Random, image: &[u8]) -> Vec<u8> {
     let at = random.below(buckets) as usize * BUCKET;
     let other = random.below(buckets) as usize * BUCKET;
     match random.below(12) {
-        // Pointers lead elsewhere.
+        // Pointers lead elsewhere, a few of them past the next cycle's start.
         0 | 1 => {
-            for bucket in image.chunks_exact_mut(BUCKET).filter(|bucket| bucket[24] == b'I') {
+            let index = |bucket: &(u64, &mut [u8])| bucket.1[24] == b'I';
+            for (place, bucket) in (0..).zip(image.chunks_exact_mut(BUCKET)).filter(index) {
                 for (count, start) in [(26, 39), (28, 103)] {
                     let count = bucket[count].saturating_sub(b'0').min(8) as usize;
                     for i in 0..count.min((BUCKET - start) / 16) {
-                        let distance = format!("{:>6}", 1 + random.below(buckets));
+                        let most = if random.below(20) == 0 { buckets } else { buckets - place };
+                        let distance = format!("{:>6}", 1 + random.below(most));
                         bucket[start + 16 * i..][..6].copy_from_slice(distance.as_bytes());
                     }
                 }

@@ -1,9 +1,11 @@
 //! Tare lists on air, written straight from document 01: a list is built into
 //! a cycle of buckets, a cycle is read back into its list, a listener picks
 //! out the lines of one tag, and a lookup runs it over an image. From document
-//! 02: a cycle's figures are told before there is a list (C-11).
+//! 02: a cycle's figures are told before there is a list (C-11), and the list
+//! may change between cycles (C-12).
 #![forbid(unsafe_code)]
 
+pub mod air;
 mod bucket;
 mod build;
 pub mod columns;

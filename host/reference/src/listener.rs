@@ -33,10 +33,11 @@ enum State {
 struct Awaited {
     letter: Letter,
     position: u64,
-    buckets: u64,
+    /// N, None at a cycle's start, where it "may be new".
+    buckets: Option<u64>,
     doze: u64,
-    /// The position printed in the tune-in bucket.
-    tune_in: u64,
+    /// A cycle's start lies between tune-in and that bucket, or it is one.
+    past_start: bool,
 }
 
 /// "after a pointer or pair, an index bucket; after an entry, either; after a
@@ -91,14 +92,14 @@ impl Listener {
         let bytes: &[u8; BUCKET] = bytes.try_into().map_err(|_| 8u64)?;
         let mut bucket = Bucket::default();
         bucket.read(bytes).ok_or(8u64)?;
-        let (doze, tune_in) = match self.state {
+        let (doze, past_start) = match self.state {
             State::Dozing(awaited) => {
                 if !awaited.is(&bucket) {
                     return Err(9);
                 }
-                (awaited.doze, awaited.tune_in)
+                (awaited.doze, awaited.past_start)
             }
-            _ => (1, bucket.position),
+            _ => (1, false),
         };
         let (chosen, first, count) = if self.state == State::TuneIn {
             // "Tune-in bucket: doze to the next segment, even if this one
@@ -117,17 +118,16 @@ impl Listener {
         };
         let answer = match chosen {
             Move::Doze(doze, letter) => {
+                let to_start = doze == bucket.to_cycle;
                 // 10: "the next bucket lies past the cycle after tune-in's"
-                if tune_in + next.elapsed + doze > 2 * bucket.buckets {
+                if to_start && past_start {
                     return Err(10);
                 }
-                // A doze is at most N, so this is the remainder by N.
-                let mut position = bucket.position + doze;
-                if position >= bucket.buckets {
-                    position -= bucket.buckets;
-                }
-                let buckets = bucket.buckets;
-                next.state = State::Dozing(Awaited { letter, position, buckets, doze, tune_in });
+                // "Past a start the awaited position is 0 and N may be new."
+                let position = if to_start { 0 } else { bucket.position + doze };
+                let buckets = (!to_start).then_some(bucket.buckets());
+                let past_start = to_start || past_start;
+                next.state = State::Dozing(Awaited { letter, position, buckets, doze, past_start });
                 Answer::Doze(doze)
             }
             Move::Found => Answer::Found,
@@ -142,7 +142,9 @@ impl Awaited {
     #[inline(always)]
     fn is(&self, bucket: &Bucket) -> bool {
         let wrong = if bucket.is_index { Letter::Data } else { Letter::Index };
-        self.letter != wrong && bucket.position == self.position && bucket.buckets == self.buckets
+        self.letter != wrong
+            && bucket.position == self.position
+            && self.buckets.is_none_or(|buckets| bucket.buckets() == buckets)
     }
 }
 

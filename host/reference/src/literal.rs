@@ -194,11 +194,11 @@ impl Cycle {
         }
     }
 
-    /// The distance from a place to the next one that fits, in the coming
-    /// repeat if this cycle has no more.
+    /// The distance from a place to the next one of this cycle that fits, or to
+    /// the next cycle's start if there is none.
     fn next(&self, place: usize, fits: impl Fn(&Slot) -> bool) -> usize {
-        let n = self.slots.len();
-        (1..=n).find(|d| fits(&self.slots[(place + d) % n])).unwrap()
+        let later = (place + 1..self.slots.len()).find(|&later| fits(&self.slots[later]));
+        later.unwrap_or(self.slots.len()) - place
     }
 
     fn to_next(&self, place: usize, sent: Sent) -> usize {
@@ -418,7 +418,7 @@ fn read_bucket(bytes: &[u8]) -> Option<Bucket> {
         _ => return None,
     }
     let in_range = buckets <= 99_999
-        && distances.iter().all(|d| (1..=buckets).contains(d))
+        && distances.iter().all(|d| (1..=to_cycle).contains(d))
         && pairs.iter().filter_map(|pair| pair.0).all(|tag| TAG_RANGE.contains(&tag))
         && entries.iter().all(|entry| TAG_RANGE.contains(&entry.0));
     let rising = entries.windows(2).all(|two| two[0].0 <= two[1].0)
@@ -480,11 +480,12 @@ impl Listener {
     fn hear(&mut self, bytes: &[u8]) -> Result<(Answer, u64, u64), u64> {
         let bucket = read_bucket(bytes).ok_or(8u64)?;
         if let Some(&(position, buckets, doze)) = self.taken.last() {
-            let due = (position + doze) % buckets;
-            if !self.awaited.contains(&bucket.letter)
-                || bucket.position != due
-                || bucket.buckets != buckets
-            {
+            let as_awaited = if position + doze < buckets {
+                bucket.position == position + doze && bucket.buckets == buckets
+            } else {
+                bucket.position == 0
+            };
+            if !self.awaited.contains(&bucket.letter) || !as_awaited {
                 return Err(9);
             }
         }
@@ -508,9 +509,12 @@ impl Listener {
         next.awaited = awaited;
         next.ended = doze == 0;
         if doze > 0 {
-            // The place of the next bucket, counted on from the tune-in's cycle.
-            let place = next.taken[0].0 + next.elapsed() - 1 + doze;
-            if place >= 2 * bucket.buckets {
+            // The place of the next bucket, counted on from the start of tune-in's
+            // cycle, and the end of the cycle after that one.
+            let (position, old, _) = next.taken[0];
+            let place = position + next.elapsed() - 1 + doze;
+            let within_old = place - doze < old;
+            if !within_old && place >= old + bucket.buckets {
                 return Err(10);
             }
         }

@@ -15,7 +15,9 @@ pub trait Lines {
 }
 
 impl Cycle {
-    /// Prints the bucket that stands at a place.
+    /// Prints the bucket that stands at a place. A pair or entry distance "that
+    /// would pass into the coming cycle becomes the distance to that cycle's
+    /// start" (C-12).
     #[inline(always)]
     pub(crate) fn print(&self, slot: &Slot, lines: &impl Lines, bucket: &mut [u8; BUCKET]) {
         bucket.fill(BLANK);
@@ -49,7 +51,7 @@ impl Cycle {
             let distance = if !(index + 1).is_multiple_of(self.n) && last + 1 < self.data {
                 block_end - place
             } else {
-                self.buckets + segment.first[j - 1] - place
+                self.buckets - place
             };
             let tag = self.last_tag(lines, last, block_end.min(self.buckets) - 1);
             print_pointer(bucket, PAIRS, j as u64 - 1, tag, distance);
@@ -59,10 +61,10 @@ impl Cycle {
         let next = segment.from / self.width[below];
         let first = children.start;
         for child in children {
-            // The first copy of a child, counted in the repeat if it has passed.
-            let passed = if child < next { self.buckets } else { 0 };
-            let distance = passed + 1 + child * (1 + block) - next * (1 + block);
-            let last_at = (place + distance + block - passed).min(self.buckets) - 1;
+            // The first copy of a child, unless it has passed.
+            let first_at = place + 1 + child * (1 + block) - next * (1 + block);
+            let distance = if child < next { self.buckets } else { first_at } - place;
+            let last_at = (first_at + block).min(self.buckets) - 1;
             let tag = self.last_tag(lines, self.last_under(below, child), last_at);
             print_pointer(bucket, ENTRIES, child - first, tag, distance);
         }
@@ -94,7 +96,7 @@ impl Cycle {
             } else if last_at > slot.place {
                 last_at - slot.place
             } else {
-                self.buckets + last_at - slot.place
+                self.buckets - slot.place
             };
             let tag = self.last_tag(lines, last, last_at);
             print_pointer(bucket, ENTRIES, child - first, tag, distance);

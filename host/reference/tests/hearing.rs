@@ -3,57 +3,23 @@
 mod common;
 
 use common::lookup_into;
+use reference::air::{hear_bounds, hear_changing, hearing, Heard, Hears, Sending};
 use reference::generate::{list, list_from, list_of, Random};
-use reference::yards::{damaged_cycle, image_of, legal_copies, levels, tags, tags_around};
+use reference::yards::{damaged_cycle, image_of, legal_copies, tags, tags_around};
 use reference::{literal, Answer, Listener, Looked, Refusal};
 
-/// One hearing over a cycle, held against the list.
-fn hear(list: &[u8], image: &[u8], [n, p, ..]: [u64; 4], tag: u64, tune_in: u64) {
-    let buckets = (image.len() / 240) as u64;
-    let (k, _) = levels((list.len() / 27) as u64, n, p);
-    let tags = tags(list);
-    let with_tag = tags.chunks(p as usize).filter(|run| run.contains(&tag)).count() as u64;
-    let most = 2 + k + with_tag.max(1);
-
-    let mut listener = Listener::new(tag);
-    let (mut steps, mut elapsed, mut place) = (0, 1, tune_in);
-    let mut lines = Vec::new();
-    let found = loop {
-        let bucket = &image[240 * place as usize..][..240];
-        let (next, answer, first, count) = listener.step(bucket);
-        listener = next;
-        steps += 1;
-        assert_eq!((listener.heard(), listener.elapsed()), (steps, elapsed));
-        assert!(steps <= most && elapsed <= 2 * buckets - tune_in);
-        for i in first..first + count {
-            lines.extend(&bucket[29 + 26 * i as usize..][..26]);
-            lines.push(b'\n');
-        }
-        match answer {
-            Answer::Doze(distance) => {
-                elapsed += distance;
-                place = (place + distance) % buckets;
-            }
-            Answer::Found => break true,
-            Answer::Absent => break false,
-            Answer::Refused(number) => panic!("refused by {number}"),
-        }
-    };
+/// One hearing over a cycle that is sent again unchanged, and the lookup.
+fn hear(list: &[u8], image: &[u8], sent: &Sending, tag: u64, tune_in: u64) {
+    let Heard { found, heard, elapsed, lines, .. } =
+        hearing(&[sent, sent], tag, tune_in, &mut Listener::new(tag));
     let ours: Vec<u8> = list
         .chunks(27)
-        .zip(&tags)
-        .filter(|line| *line.1 == tag)
+        .zip(tags(list))
+        .filter(|line| line.1 == tag)
         .flat_map(|line| line.0)
         .copied()
         .collect();
-    assert_eq!(found, !ours.is_empty());
-    assert!(lines == ours, "tag {tag}, tune-in {tune_in}");
-    // After the end any bytes are refused by 14 and change nothing.
-    for bytes in [&image[..240], b"", b"any"] {
-        assert_eq!(listener.step(bytes), (listener, Answer::Refused(14), 0, 0));
-    }
-
-    let looked = Looked { found, heard: steps, elapsed, lines: (ours.len() / 27) as u64 };
+    let looked = Looked { found, heard, elapsed, lines };
     assert!(lookup_into(image, tag, tune_in, ours.len()) == Ok((looked, ours.clone())));
     assert!(lookup_into(image, tag, tune_in, ours.len() + 5) == Ok((looked, ours.clone())));
     if found {
@@ -64,9 +30,10 @@ fn hear(list: &[u8], image: &[u8], [n, p, ..]: [u64; 4], tag: u64, tune_in: u64)
 
 fn hear_all(list: &[u8], settings: [u64; 4]) {
     let image = image_of(list, settings);
+    let sent = Sending::new(list.to_vec(), settings);
     for tag in tags_around(list) {
-        for tune_in in 0..(image.len() / 240) as u64 {
-            hear(list, &image, settings, tag, tune_in);
+        for tune_in in 0..sent.buckets() {
+            hear(list, &image, &sent, tag, tune_in);
         }
     }
 }
@@ -120,10 +87,10 @@ fn large_lists() {
     for settings in [[8, 8, 1, 1], [2, 1, 1, 4], [8, 1, 1, 4], [8, 8, 2, 4], [3, 2, 2, 2]] {
         let list = list(random, 5_000, 2);
         let image = image_of(&list, settings);
+        let sent = Sending::new(list.clone(), settings);
         for _ in 0..60 {
             let tag = random.below(5_200);
-            let tune_in = random.below((image.len() / 240) as u64);
-            hear(&list, &image, settings, tag, tune_in);
+            hear(&list, &image, &sent, tag, random.below(sent.buckets()));
         }
     }
 }
@@ -157,26 +124,57 @@ fn damaged_images() {
     }
 }
 
-/// Both listeners, step by step, on the awaited bucket or another one.
+/// The listener and the slow one, step by step.
+struct Both {
+    fast: Listener,
+    slow: literal::Listener,
+}
+
+impl Both {
+    fn new(tag: u64) -> Both {
+        Both { fast: Listener::new(tag), slow: literal::Listener::new(tag) }
+    }
+}
+
+impl Hears for Both {
+    fn hear(&mut self, bucket: &[u8]) -> (Answer, u64, u64) {
+        let answer = self.fast.hear(bucket);
+        assert_eq!(answer, self.slow.step(bucket));
+        assert_eq!(self.fast.counts(), (self.slow.heard(), self.slow.elapsed()));
+        answer
+    }
+
+    fn counts(&self) -> (u64, u64) {
+        self.fast.counts()
+    }
+}
+
+/// Lists and settings that change from cycle to cycle.
+#[test]
+fn changing_lists() {
+    hear_changing(Both::new);
+}
+
+#[test]
+fn bounds_of_8_to_10() {
+    hear_bounds(Both::new);
+}
+
+/// Both listeners on the awaited bucket or another one.
 fn hear_both(random: &mut Random, image: &[u8], tag: u64) {
     let buckets = image.len() / 240;
     if buckets == 0 {
         return;
     }
     let mut place = random.below(buckets as u64) as usize;
-    let mut fast = Listener::new(tag);
-    let mut slow = literal::Listener::new(tag);
+    let mut both = Both::new(tag);
     for _ in 0..12 {
         if random.below(12) == 0 {
             place = random.below(buckets as u64) as usize;
         }
         let length = if random.below(50) == 0 { random.below(250) as usize } else { 240 };
         let bucket = &image[240 * place..];
-        let bucket = &bucket[..length.min(bucket.len())];
-        let (next, answer, first, count) = fast.step(bucket);
-        assert_eq!((answer, first, count), slow.step(bucket));
-        fast = next;
-        assert_eq!((fast.heard(), fast.elapsed()), (slow.heard(), slow.elapsed()));
+        let (answer, ..) = both.hear(&bucket[..length.min(bucket.len())]);
         if let Answer::Doze(distance) = answer {
             place = (place + distance as usize) % buckets;
         }

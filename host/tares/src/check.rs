@@ -85,8 +85,8 @@ impl Check<'_> {
         let (lines, buckets) = (self.list.len() / LINE, self.image.len() / BUCKET);
         let text = format!(
             "right: {}\n{}\n\
-             every display that hears it intact gets exactly the lines of its tag, or is told\n\
-             that there are none, for every tag and from every tune-in (demand 3)\n",
+             every display that hears it intact and ends in it gets exactly the lines of its tag,\n\
+             or is told that there are none, for every tag and from every tune-in (demand 3)\n",
             counts(lines, buckets),
             fit_text("the image is this list's cycle", settings)
         );

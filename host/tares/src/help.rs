@@ -52,10 +52,10 @@ cannot be read or written.
 
 const CHECK: &str = "\
 Tells whether an image is the cycle of a list. The list is built afresh and every
-byte compared. If the image is right, every display that hears it intact gets
-exactly the lines of its tag, whatever the tag and from every tune-in. If it is
-wrong, the buckets that differ are told, field by field; and if it is the right
-cycle of another list, the lines that differ.
+byte compared. If the image is right, every display that hears it intact and ends
+in it gets exactly the lines of its tag, whatever the tag and from every tune-in.
+If it is wrong, the buckets that differ are told, field by field; and if it is the
+right cycle of another list, the lines that differ.
 
 Usage: tares check LIST IMAGE [--n N] [--p P] [--layout L] [--copies C] [--all]
 

@@ -62,7 +62,11 @@ fn field_reason(bucket: Bucket, field: &Field) -> Option<String> {
         Kind::Position => figure(MAX_BUCKETS),
         Kind::ToCycle => distance(&name, columns, MAX_BUCKETS as u64).or_else(|| over(bucket)),
         Kind::ToSegment | Kind::PairDistance(_) | Kind::EntryDistance(_) => {
-            distance(&name, columns, bucket.cycle()?)
+            let to_cycle = bucket.number(TO_CYCLE)?;
+            distance(&name, columns, to_cycle).map(|reason| match number(columns) {
+                Some(1..) => format!("{reason}, the distance to the next cycle"),
+                _ => reason,
+            })
         }
         Kind::FollowOn => figure(MAX_BUCKETS).or_else(|| follow_on(bucket)),
         Kind::Letter if bucket.is_index() || bucket.is_data() => None,
@@ -88,15 +92,12 @@ fn field_reason(bucket: Bucket, field: &Field) -> Option<String> {
     }
 }
 
-/// "Each distance is 1 to N".
-fn distance(name: &str, columns: &[u8], cycle: u64) -> Option<String> {
+/// A distance is at least 1, and at most `most`.
+fn distance(name: &str, columns: &[u8], most: u64) -> Option<String> {
     if number(columns) == Some(0) {
         return Some(format!("{name} is 0"));
     }
-    figure(name, columns, cycle).map(|reason| match number(columns) {
-        Some(_) => format!("{reason}, the number of buckets"),
-        None => reason,
-    })
+    figure(name, columns, most)
 }
 
 /// "The position plus the second is N, at most 99,999."

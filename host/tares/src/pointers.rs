@@ -66,9 +66,13 @@ pub fn awaited(tag: u64, heard: &Heard) -> Option<String> {
     };
     let pointer = Pointer::followed(tag, heard)?;
     let bucket = Bucket(heard.bucket);
-    let cycle = bucket.cycle().filter(|&cycle| cycle > 0)?;
-    let position = (bucket.position()? + distance) % cycle;
-    Some(format!("{} with position {position} and N {cycle}", pointer.awaits()))
+    let (position, cycle) = (bucket.position()? + distance, bucket.cycle()?);
+    let kind = pointer.awaits();
+    // "Past a start the awaited position is 0 and N may be new."
+    Some(match position < cycle {
+        true => format!("{kind} with position {position} and N {cycle}"),
+        false => format!("{kind} with position 0"),
+    })
 }
 
 /// What came instead.

@@ -149,10 +149,11 @@ pub fn unheard(number: u64, image: &[u8], tag: u64, tune_in: u64) -> Vec<String>
 
 /// 10
 fn too_far(bucket: Bucket, tuned: Bucket) -> Option<String> {
-    let (position, cycle) = (tuned.position()?, bucket.cycle()?);
-    let most = (2 * cycle).checked_sub(position)?;
+    let (position, old, new) = (tuned.position()?, tuned.cycle()?, bucket.cycle()?);
+    let most = (old + new).checked_sub(position)?;
     Some(format!(
-        "tuned in at position {position} of N {cycle}, at most {most} buckets go by, and the pointer leads past them"
+        "tuned in at position {position} of N {old}, and N is {new} in the next cycle: \
+         at most {most} buckets go by, and the pointer leads past them"
     ))
 }
 

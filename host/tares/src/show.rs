@@ -1,5 +1,6 @@
 //! Buckets in words.
 
+use std::cmp::Ordering;
 use std::fmt::Write;
 use std::ops::RangeInclusive;
 
@@ -88,11 +89,11 @@ fn value(bucket: Bucket, field: &Field) -> Option<String> {
 
 /// Where a distance leads.
 fn target(bucket: Bucket, distance: u64) -> Option<String> {
-    let (position, cycle) = (bucket.position()?, bucket.cycle().filter(|&cycle| cycle > 0)?);
+    let (position, cycle) = (bucket.position()?, bucket.cycle()?);
     let reached = position + distance;
-    Some(if reached < cycle {
-        format!("to bucket {reached}")
-    } else {
-        format!("to bucket {} of the next cycle", reached % cycle)
+    Some(match reached.cmp(&cycle) {
+        Ordering::Less => format!("to bucket {reached}"),
+        Ordering::Equal => "to bucket 0 of the next cycle".to_string(),
+        Ordering::Greater => "past the next cycle's start".to_string(),
     })
 }

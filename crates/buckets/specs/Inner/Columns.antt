@@ -46,7 +46,7 @@ readLineColumns m s =
 abbrev pub restPlaces : List ℕ
 restPlaces = places (tareWidth - 2) ++ (places (codeWidth - 2) ++ places (weighingWidth - 2))
 
--- an entry's columns, its tag at least m, in a cycle of n
+-- an entry's columns, its tag at least m, its distance at most n
 unfoldable pub readEntry : ℕ → ℕ → List ℕ → Option Entry
 readEntry n m s =
     andThen (numberWithin m tagMost (columns tagStart tagWidth s))
@@ -90,7 +90,7 @@ readHead s =
     (λ p.
     andThen (numberWithin 1 (bucketsMost - p) (columns toCycleStart placeWidth s))
     (λ c.
-    andThen (numberWithin 1 (p + c) (columns toSegmentStart placeWidth s))
+    andThen (numberWithin 1 c (columns toSegmentStart placeWidth s))
     (λ g. some (record { position = p; «to_cycle» = c; «to_segment» = g }))))
 
 -- behind the head h of an index bucket s
@@ -102,9 +102,9 @@ readIndex h s =
     (λ k.
     andThen (numberWithin 0 entriesMost (columns itemCountStart countWidth s))
     (λ c.
-    andThen (readPairs (h .position + h .«to_cycle») k (columns pairsStart pairsWidth s))
+    andThen (readPairs (h .«to_cycle») k (columns pairsStart pairsWidth s))
     (λ ps.
-    andThen (readEntries (h .position + h .«to_cycle») c (columns entriesStart entriesWidth s))
+    andThen (readEntries (h .«to_cycle») c (columns entriesStart entriesWidth s))
     (λ es. some (bucketWith h (indexBody ps es)))))))
 
 -- behind the head h of a data bucket s

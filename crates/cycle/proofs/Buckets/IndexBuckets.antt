@@ -66,7 +66,7 @@ module _ (f : Figures) (source : Source) (text : List ℕ) (ready : Ready f) (e 
   -- it is the one of level i that stands there
   module _ {i : ℕ} {xs : List Slot} (level : i ≡ f .k + 1 - e) (a : At t x i j xs) where
     abbrev ahead : List Slot
-    ahead = toSend a ++ slots t
+    ahead = toSend a
 
     entries-are :
         ((m : ℕ) → m < childCount → toNext ahead (i + 1) (j * f .n + m) ≡ childDistance (planOf f []) (f .size) x e j (j * f .n + m)) →

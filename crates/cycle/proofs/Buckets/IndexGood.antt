@@ -1,10 +1,8 @@
--- An index bucket of the cycle keeps the rules: its control pairs and entries are few, in range and in order, and each
--- distance is 1 to N.
+-- An index bucket of the cycle keeps the rules: its control pairs and entries are few, in range and in order, and no distance
+-- exceeds that to the next cycle's start.
 -- Assumes nothing.
 use mathlib.Core.Path.{_≡_, refl, subst, _∙_}
-use mathlib.Core.Logic.{⊎-elim}
 use Prim.Native.Nat.{ℕ, zero, suc, _+_, _-_, _*_, _≤_, _<_, min}
-use native.Mathlib.Nat.{eq-zero-or-pos}
 use native.Mathlib.Decide.{ℕ-discrete}
 use native.Mathlib.Omega.{arith}
 use mathlib.Core.Bool.{Bool, true, false}
@@ -17,15 +15,13 @@ use Rattle.buckets.specs.Lengths.{pairsMost, entriesMost}
 use Rattle.buckets.proofs.Good.{Reaches, fits-entry, fits-pair, GoodIndex}
 use Rattle.cycle.specs.Tree.{Plan, above, width, children}
 use Rattle.cycle.specs.Layouts.{Slot, slots}
-use Rattle.cycle.specs.Cycle.{occurs, toNext, isData, hasPairs, firstPair, laterPair, pairs, entry, entries, cycleSize}
+use Rattle.cycle.specs.Cycle.{occurs, toNext, isData, hasPairs, firstPair, laterPair, pairs, entry, entries}
 use Rattle.cycle.specs.Inner.Held.{lastOf}
 use Rattle.cycle.proofs.Basics.Ranges.{length-span}
 use Rattle.cycle.proofs.Trees.TreeLaws.{length-children}
-use Rattle.cycle.proofs.Trees.Inside.{Inside, inside-above, width-inside, slot-inside}
-use Rattle.cycle.proofs.Sequences.Occurring.{tree-sent}
-use Rattle.cycle.proofs.Reach.Distances.{distance-round}
+use Rattle.cycle.proofs.Reach.Distances.{distance-reaches}
 use Rattle.cycle.proofs.Lines.DataTags.{largest-mono}
-use Rattle.cycle.proofs.Building.Accepted.{Accepted, laid, lone-level}
+use Rattle.cycle.proofs.Building.Accepted.{Accepted, laid}
 use Rattle.cycle.proofs.Buckets.DataGood.{largest-fits, sent-fits}
 
 -- ---- over numbers in a row
@@ -60,18 +56,20 @@ module _
     high : x .level ≤ t .k
     high = laid t a .keeps .each before x rest splits index-here .high
 
-    -- a bucket of the tree is reached
-    pub node-reached : (i j : ℕ) → 1 ≤ i → i ≤ t .k + 1 → j < width t i → Reaches (cycleSize t) (toNext (rest ++ slots t) i j)
-    unfolding toNext cycleSize
-    node-reached i j u v w =
-        distance-round (occurs i j) (slots t) before x rest splits (tree-sent t (a .sound) (laid t a .keeps) i j u v w)
+    -- the distance to the next cycle's start
+    abbrev toStart : ℕ
+    toStart = suc (length rest)
+
+    pub next-reached : (i j : ℕ) → Reaches toStart (toNext rest i j)
+    unfolding toNext
+    next-reached i j = distance-reaches (occurs i j) rest
 
     -- ---- entries
 
-    pub few-entries : length (entries t (rest ++ slots t) x) ≤ entriesMost
+    pub few-entries : length (entries t rest x) ≤ entriesMost
     unfolding entries
     few-entries =
-        rw (length-map (children t (x .level) (x .place)) (entry t (rest ++ slots t) (x .level + 1)), length-children t pos (x .level) (x .place))
+        rw (length-map (children t (x .level) (x .place)) (entry t rest (x .level + 1)), length-children t pos (x .level) (x .place))
         (omega (arith, a .n-high))
 
     child-level : suc (x .level) ≡ x .level + 1
@@ -80,22 +78,21 @@ module _
     child-width : (c : ℕ) → c < width t (suc (x .level)) → c < width t (x .level + 1)
     child-width c h = subst (λ i. c < width t i) child-level h
 
-    pub entries-fit : every (entryFits (cycleSize t)) (entries t (rest ++ slots t) x) ≡ true
+    pub entries-fit : every (entryFits toStart) (entries t rest x) ≡ true
     unfolding entries entry children
     entries-fit =
         let first : ℕ = x .place * t .n in
         let end : ℕ = min (first + t .n) (width t (suc (x .level))) in
-        every-map (entryFits (cycleSize t)) (entry t (rest ++ slots t) (x .level + 1)) first (end - first)
+        every-map (entryFits toStart) (entry t rest (x .level + 1)) first (end - first)
         (λ c u v.
-        fits-entry (cycleSize t) (entry t (rest ++ slots t) (x .level + 1) c) (largest-fits t a (x .level + 1) c)
-        (node-reached (x .level + 1) c (omega arith) (omega (arith, high)) (child-width c (omega arith))))
+        fits-entry toStart (entry t rest (x .level + 1) c) (largest-fits t a (x .level + 1) c) (next-reached (x .level + 1) c))
 
-    pub entries-rise : rising 0 (map (λ e. e .tag) (entries t (rest ++ slots t) x)) ≡ true
+    pub entries-rise : rising 0 (map (λ e. e .tag) (entries t rest x)) ≡ true
     unfolding entries entry children
     entries-rise =
         let first : ℕ = x .place * t .n in
         let end : ℕ = min (first + t .n) (width t (suc (x .level))) in
-        rising-map (entry t (rest ++ slots t) (x .level + 1)) 0 first (end - first) (λ u. omega arith)
+        rising-map (entry t rest (x .level + 1)) 0 first (end - first) (λ u. omega arith)
         (λ c u v.
         largest-mono t (laid t a) (x .level + 1) c (suc c) (omega (arith, high)) (omega arith) (child-width (suc c) (omega arith)))
 
@@ -111,59 +108,40 @@ module _
           | no f ↦ let l : x .level ≡ 1 = eqb-true (x .level) 1 (rw (ne-eqb (t .layout) 1 f) at h) in omega arith
         ]
 
-    -- a level below the root holds data
-    pub deep-some : 2 ≤ x .level → 0 < t .d
-    deep-some h =
-        ⊎-elim
-        (λ (e : t .d ≡ 0). let one : t .k ≡ 1 = lone-level t a e in absurd (omega (arith, high)))
-        (λ (l : 0 < t .d). l)
-        (eq-zero-or-pos (t .d))
-
-    pub pair-reached :
-        (j : ℕ) → 2 ≤ j → j < x .level + 1 →
-        Reaches (cycleSize t) (toNext (rest ++ slots t) (j - 1) (above (t .n) (x .level - (j - 1)) (x .place)))
-    pair-reached j u v =
-        let e : x .level - (x .level - (j - 1)) ≡ j - 1 = omega arith in
-        let inside : Inside t (j - 1) (above (t .n) (x .level - (j - 1)) (x .place)) =
-        subst (λ i. Inside t i (above (t .n) (x .level - (j - 1)) (x .place))) e
-        (inside-above t pos (x .level) (x .place) (x .level - (j - 1)) (omega arith) (slot-inside t (a .sound) before x rest splits)) in
-        node-reached (j - 1) (above (t .n) (x .level - (j - 1)) (x .place)) (omega arith) (omega (arith, high))
-        (width-inside t pos (deep-some (omega arith)) inside)
-
-    pub later-fit : every (pairFits (cycleSize t)) (map (laterPair t (rest ++ slots t) x) (range 2 (x .level + 1))) ≡ true
+    pub later-fit : every (pairFits toStart) (map (laterPair t rest x) (range 2 (x .level + 1))) ≡ true
     unfolding laterPair
     later-fit =
-        every-map (pairFits (cycleSize t)) (laterPair t (rest ++ slots t) x) 2 (x .level + 1 - 2)
+        every-map (pairFits toStart) (laterPair t rest x) 2 (x .level + 1 - 2)
         (λ j u v.
-        fits-pair (cycleSize t) (laterPair t (rest ++ slots t) x j) (largest-fits t a j (above (t .n) (x .level - j) (x .place)))
-        (pair-reached j u (omega arith)))
+        fits-pair toStart (laterPair t rest x j) (largest-fits t a j (above (t .n) (x .level - j) (x .place)))
+        (next-reached (j - 1) (above (t .n) (x .level - (j - 1)) (x .place))))
 
-    pub later-printed : every (λ q. printedTag (q .tag)) (map (laterPair t (rest ++ slots t) x) (range 2 (x .level + 1))) ≡ true
+    pub later-printed : every (λ q. printedTag (q .tag)) (map (laterPair t rest x) (range 2 (x .level + 1))) ≡ true
     unfolding laterPair
-    later-printed = every-map (λ (q : Pair). printedTag (q .tag)) (laterPair t (rest ++ slots t) x) 2 (x .level + 1 - 2) (λ j u v. refl)
+    later-printed = every-map (λ (q : Pair). printedTag (q .tag)) (laterPair t rest x) 2 (x .level + 1 - 2) (λ j u v. refl)
 
     pub first-fits :
-        (s toCycle : ℕ) → Reaches (cycleSize t) toCycle → pairFits (cycleSize t) (firstPair (lastOf t s) toCycle) ≡ true
+        (s toCycle : ℕ) → Reaches toStart toCycle → pairFits toStart (firstPair (lastOf t s) toCycle) ≡ true
     unfolding firstPair
-    first-fits s toCycle r = fits-pair (cycleSize t) (firstPair (lastOf t s) toCycle) (sent-fits t a s) r
+    first-fits s toCycle r = fits-pair toStart (firstPair (lastOf t s) toCycle) (sent-fits t a s) r
 
-    pub later-few : length (map (laterPair t (rest ++ slots t) x) (range 2 (x .level + 1))) ≡ x .level + 1 - 2
-    later-few = length-map (range 2 (x .level + 1)) (laterPair t (rest ++ slots t) x) ∙ length-span 2 (x .level + 1 - 2)
+    pub later-few : length (map (laterPair t rest x) (range 2 (x .level + 1))) ≡ x .level + 1 - 2
+    later-few = length-map (range 2 (x .level + 1)) (laterPair t rest x) ∙ length-span 2 (x .level + 1 - 2)
 
     -- ---- together
 
     pub good-index :
-        (s toCycle : ℕ) → Reaches (cycleSize t) toCycle →
-        GoodIndex (cycleSize t) (pairs t (rest ++ slots t) (lastOf t s) toCycle x) (entries t (rest ++ slots t) x)
+        (s toCycle : ℕ) → Reaches toStart toCycle →
+        GoodIndex toStart (pairs t rest (lastOf t s) toCycle x) (entries t rest x)
     unfolding pairs
     good-index s toCycle r = by (hasPairs t x) refl
       where
         later : List Pair
-        later = map (laterPair t (rest ++ slots t) x) (range 2 (x .level + 1))
+        later = map (laterPair t rest x) (range 2 (x .level + 1))
 
         by :
             (b : Bool) → hasPairs t x ≡ b →
-            GoodIndex (cycleSize t) (pick b (firstPair (lastOf t s) toCycle ∷ later) []) (entries t (rest ++ slots t) x)
+            GoodIndex toStart (pick b (firstPair (lastOf t s) toCycle ∷ later) []) (entries t rest x)
         by true e =
             record {
               few-pairs = omega (arith, later-few, pairs-level e);

@@ -10,7 +10,7 @@ use native.Mathlib.Nat.{eq-zero-or-pos}
 use native.Mathlib.Numerals.{add-one}
 use native.Mathlib.Omega.{arith}
 use mathlib.Core.Option.{some}
-use mathlib.Core.List.{List, [], _∷_, _++_}
+use mathlib.Core.List.{List, [], _∷_}
 use lib.Dec.{eqb}
 use lib.ListN.{length}
 use borrow.Author.Tests.{eq-eqb, le-leb, lt-ltb}
@@ -53,7 +53,7 @@ module _ (t : Plan) (sound : Sound t) (one : t .layout ≡ 1) (b i m : ℕ) (low
   pathPlace = above (t .n) (blockLevel t - i) b
 
   abbrev pathAhead : List Slot
-  pathAhead = toSend (pathAt t sound one b i m low high count) ++ slots t
+  pathAhead = toSend (pathAt t sound one b i m low high count)
 
   over-path : (j : ℕ) → j ≤ i → above (t .n) (i - j) pathPlace ≡ placeOver t b j
   unfolding placeOver

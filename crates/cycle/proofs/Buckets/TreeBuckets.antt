@@ -10,7 +10,7 @@ use native.Mathlib.Decide.{ℕ-discrete}
 use native.Mathlib.Omega.{arith}
 use mathlib.Core.Bool.{Bool, true, false}
 use mathlib.Core.Option.{Option}
-use mathlib.Core.List.{List, [], _∷_, _++_}
+use mathlib.Core.List.{List, [], _∷_}
 use lib.Dec.{eqb}
 use lib.ListN.{length}
 use borrow.Author.Tests.{eq-eqb, ne-eqb, lt-leb, le-ltb}
@@ -85,7 +85,7 @@ one-at-most false c e = omega arith
 near-below :
     (t : Plan) {x i j : ℕ} (h : ℕ) (a : At t x i j (joined (λ c. subtree t h (suc i) c) (children t i j))) →
     i ≡ t .k + 1 - suc h → 1 ≤ h → suc h ≤ t .k → (c : ℕ) → j * t .n ≤ c → c < min (j * t .n + t .n) (width t (suc i)) →
-    toNext (toSend a ++ slots t) (i + 1) c ≡ 1 + length (joined (treeAt t h) (range (j * t .n) c))
+    toNext (toSend a) (i + 1) c ≡ 1 + length (joined (treeAt t h) (range (j * t .n) c))
 unfolding treeAt
 near-below t zero a p low high c u v = absurd (omega arith)
 near-below t {x} {i} {j} (suc h) a p low high c u v =
@@ -126,7 +126,7 @@ module _ {f : Figures} {source : Source} {text : List ℕ} {s : Segment} (w : Pr
       stand-at (subst (StandsAt t x) (treeAt-shape f [] ls e j ∙ ap (λ z. subtree t z i j) more) (stand-shape f [] ls (p .stands)))
 
   abbrev ahead : List Slot
-  ahead = toSend treeAtHere ++ slots t
+  ahead = toSend treeAtHere
 
   size : f .size ≡ length (slots t)
   size = size-slots f (w .ready) ∙ ap length (slots-shape f [] ls)

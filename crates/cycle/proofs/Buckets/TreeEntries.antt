@@ -6,13 +6,13 @@ use native.Mathlib.Nat.{add-comm}
 use native.Mathlib.Numerals.{add-one}
 use native.Mathlib.Omega.{arith}
 use mathlib.Core.Bool.{Bool, true, false, _&&_, _||_}
-use mathlib.Core.List.{List, [], _∷_, _++_, map, append-assoc}
+use mathlib.Core.List.{List, [], _∷_, _++_, map}
 use lib.Dec.{eqb}
 use lib.ListN.{length}
 use borrow.Author.Tests.{ne-eqb}
 use Rattle.columns.specs.Lists.{pick, any, joined, range}
 use Rattle.cycle.specs.Tree.{Plan, width, children}
-use Rattle.cycle.specs.Layouts.{Slot, slot, slots, subtree}
+use Rattle.cycle.specs.Layouts.{Slot, slot, subtree}
 use Rattle.cycle.specs.Cycle.{occurs, distanceTo, toNext}
 use Rattle.cycle.specs.Inner.Held.{bare}
 use Rattle.cycle.proofs.Basics.Ranges.{range-cons, joined-range}
@@ -109,7 +109,7 @@ module _ (t : Plan) (h i : ℕ) where
   pub next-child :
       {x j : ℕ} (a : At t x i j (subtrees (children t i j))) (c : ℕ) →
       j * t .n ≤ c → c < min (j * t .n + t .n) (width t (suc i)) →
-      toNext (toSend a ++ slots t) (i + 1) c ≡ 1 + length (subtrees (range (j * t .n) c))
+      toNext (toSend a) (i + 1) c ≡ 1 + length (subtrees (range (j * t .n) c))
   unfolding toNext children
   next-child {x} {j} a c low high =
       let from : ℕ = j * t .n in
@@ -117,8 +117,7 @@ module _ (t : Plan) (h i : ℕ) where
       let there : any (occurs (suc i) c) (a .next) ≡ true =
       sym (any-bare (suc i) c (a .next)) ∙ ap (any (occurs (suc i) c)) (a .alike) ∙ child-there from c to low high in
       rw (add-one i)
-      (ap (distanceTo (occurs (suc i) c)) (append-assoc (a .next) (a .behind) (slots t))
-      ∙ distance-within (occurs (suc i) c) (a .next) (a .behind ++ slots t) there
+      (distance-within (occurs (suc i) c) (a .next) (a .behind) there
       ∙ sym (distance-bare (suc i) c (a .next))
       ∙ ap (distanceTo (occurs (suc i) c)) (a .alike)
       ∙ child-distance from c to low high)

@@ -5,7 +5,7 @@ use Prim.Native.Nat.{ℕ, suc, _+_, _-_, _*_, _/_, _%_, _≤_, _<_}
 use native.Mathlib.Nat.{mul-comm, mul-mod-left, mul-div-cancel}
 use native.Mathlib.Omega.{arith}
 use mathlib.Core.Bool.{true}
-use mathlib.Core.List.{List, [], _++_, map}
+use mathlib.Core.List.{List, [], map}
 use lib.Dec.{lit<}
 use lib.ListN.{length, take, drop, length-drop, length-map}
 use lib.Seq.{ext-getD}
@@ -47,7 +47,7 @@ head-shape f ls ms x h =
     let same : slots (planOf f ls) ≡ slots (planOf f ms) = slots-shape f ls ms in
     let there : x < length (slots (planOf f ms)) = rw same at h in
     let shown : List Slot → Head =
-    λ xs. record { position = x; «to_cycle» = length xs - x; «to_segment» = toNextSegment (drop (suc x) xs ++ xs) } in
+    λ xs. record { position = x; «to_cycle» = length xs - x; «to_segment» = toNextSegment (drop (suc x) xs) } in
     head-at (at-position (planOf f ls) x h .1) ∙ ap shown same ∙ sym (head-at (at-position (planOf f ms) x there .1))
 
 module _ (f : Figures) (list : List ℕ) (s : AcceptedList f list) where

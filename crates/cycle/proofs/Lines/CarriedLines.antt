@@ -25,12 +25,12 @@ abbrev pub carriedBy : Plan → Slot → List Line
 carriedBy t x = pick (isData t x) (linesOf t (x .place)) []
 
 pub carried-of :
-    (t : Plan) (position : ℕ) (last : Option ℕ) (x : Slot) (rest all : List Slot) →
-    carried (bucketOf t position last x rest all) ≡ carriedBy t x
+    (t : Plan) (size position : ℕ) (last : Option ℕ) (x : Slot) (rest : List Slot) →
+    carried (bucketOf t size position last x rest) ≡ carriedBy t x
 unfolding bucketOf bodyOf
-carried-of t position last x rest all =
+carried-of t size position last x rest =
     by (isData t x) (followOnFrom t (lastTag t (x .place)) 1 rest) (linesOf t (x .place))
-    (pairs t (rest ++ all) last (length all - position) x) (entries t (rest ++ all) x)
+    (pairs t rest last (size - position) x) (entries t rest x)
   where
     by :
         (b : Bool) (f : ℕ) (ls : List Line) (ps : List Pair) (es : List Entry) →
@@ -39,11 +39,11 @@ carried-of t position last x rest all =
     by false f ls ps es = refl
 
 pub carried-from :
-    (t : Plan) (all : List Slot) (position : ℕ) (last : Option ℕ) (xs : List Slot) →
-    joined carried (bucketsFrom t all position last xs) ≡ joined (carriedBy t) xs
-carried-from t all position last [] = refl
-carried-from t all position last (x ∷ xs) =
-    ap₂ {C = List Line} _++_ (carried-of t position last x xs all) (carried-from t all (suc position) (lastSent t x last) xs)
+    (t : Plan) (size position : ℕ) (last : Option ℕ) (xs : List Slot) →
+    joined carried (bucketsFrom t size position last xs) ≡ joined (carriedBy t) xs
+carried-from t size position last [] = refl
+carried-from t size position last (x ∷ xs) =
+    ap₂ {C = List Line} _++_ (carried-of t size position last x xs) (carried-from t size (suc position) (lastSent t x last) xs)
 
 -- data buckets are sent in order
 pub carried-in-order :
@@ -87,7 +87,7 @@ lines-joined t h = chunks (t .p) 0 (t .d) (t .lines) ∙ rw zero-mul (take-all (
 pub lines-sent : (t : Plan) → Keeps t → length (t .lines) ≤ t .d * t .p → joined carried (buckets t) ≡ t .lines
 unfolding buckets
 lines-sent t keeps h =
-    carried-from t (slots t) 0 none (slots t)
+    carried-from t (length (slots t)) 0 none (slots t)
     ∙ carried-in-order t keeps [] (slots t) refl
     ∙ ap (λ c. joined (linesOf t) (span 0 c)) (keeps .all-sent)
     ∙ lines-joined t h

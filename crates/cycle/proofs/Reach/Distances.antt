@@ -1,4 +1,4 @@
--- The first bucket that passes a test: whether there is one in a list, and how far it is, in a list and round the cycle.
+-- The first bucket that passes a test: whether there is one in a list, and how far it is.
 -- Assumes nothing.
 use mathlib.Core.Path.{_≡_, refl, sym, ap, _∙_}
 use mathlib.Core.Logic.{_⊎_, inl, inr, ⊎-elim}
@@ -6,8 +6,8 @@ use Prim.Native.Nat.{ℕ, zero, suc, _+_, _≤_, _<_}
 use native.Mathlib.Nat.{zero-add, suc-add}
 use native.Mathlib.Omega.{arith}
 use mathlib.Core.Bool.{Bool, true, false, _||_, true≢false}
-use mathlib.Core.List.{List, [], _∷_, _++_, append-assoc}
-use lib.ListN.{length, length-append}
+use mathlib.Core.List.{List, [], _∷_, _++_}
+use lib.ListN.{length}
 use Rattle.columns.specs.Lists.{pick, any, joined, span}
 use Rattle.buckets.proofs.Good.{Reaches}
 use Rattle.cycle.specs.Layouts.{Slot}
@@ -33,9 +33,6 @@ module _ (f : Slot → Bool) where
   none-joined g a (suc c) h =
       none-append (g a) (joined g (span (suc a) c)) (h a (omega arith) (omega arith))
       (none-joined g (suc a) c (λ x p q. h x (omega arith) (omega arith)))
-
-  pub some-right : (xs ys : List Slot) → any f (xs ++ ys) ≡ true → any f xs ≡ false → any f ys ≡ true
-  some-right xs ys p q = rw q at (sym (any-append xs ys) ∙ p)
 
   pub some-left : (xs ys : List Slot) → any f (xs ++ ys) ≡ true → any f ys ≡ false → any f xs ≡ true
   some-left xs ys p q = by-test (any f xs) refl
@@ -113,24 +110,47 @@ module _ (f : Slot → Bool) where
       by-test true e r = rw e
       by-test false e r = rw e (ap suc (r (rw e at h)))
 
-  pub distance-all : (xs : List Slot) → distanceTo f xs ≤ length xs
-  distance-all [] = omega arith
-  distance-all (x ∷ xs) = by-test (f x) (distance-all xs)
+  -- none passes: the next cycle's start
+  pub distance-none : (xs : List Slot) → any f xs ≡ false → distanceTo f xs ≡ suc (length xs)
+  distance-none [] h = refl
+  distance-none (x ∷ xs) h = by-test (f x) refl (distance-none xs)
     where
-      by-test : (b : Bool) → distanceTo f xs ≤ length xs → pick b 1 (suc (distanceTo f xs)) ≤ suc (length xs)
-      by-test true h = omega arith
-      by-test false h = omega arith
+      by-test :
+          (b : Bool) → f x ≡ b → (any f xs ≡ false → distanceTo f xs ≡ suc (length xs)) →
+          pick (f x) 1 (suc (distanceTo f xs)) ≡ suc (suc (length xs))
+      by-test true e r = absurd (true≢false (rw e at h))
+      by-test false e r = rw e (ap suc (r (rw e at h)))
 
-  pub distance-low : (x : Slot) (xs : List Slot) → 1 ≤ distanceTo f (x ∷ xs)
-  distance-low x xs = by-test (f x)
+  pub distance-low : (xs : List Slot) → 1 ≤ distanceTo f xs
+  distance-low [] = omega arith
+  distance-low (x ∷ xs) = by-test (f x)
     where
       by-test : (b : Bool) → 1 ≤ pick b 1 (suc (distanceTo f xs))
       by-test true = omega arith
       by-test false = omega arith
 
-  pub distance-some : (xs : List Slot) → any f xs ≡ true → 1 ≤ distanceTo f xs
-  distance-some [] h = absurd (true≢false (sym h))
-  distance-some (x ∷ xs) h = distance-low x xs
+  -- the next cycle's start is the furthest
+  pub distance-reaches : (xs : List Slot) → Reaches (suc (length xs)) (distanceTo f xs)
+  distance-reaches xs = record { onward = distance-low xs; near = near xs }
+    where
+      near : (xs : List Slot) → distanceTo f xs ≤ suc (length xs)
+      near [] = omega arith
+      near (x ∷ xs) = by-test (f x) (near xs)
+        where
+          by-test : (b : Bool) → distanceTo f xs ≤ suc (length xs) → pick b 1 (suc (distanceTo f xs)) ≤ suc (suc (length xs))
+          by-test true h = omega arith
+          by-test false h = omega arith
+
+  -- what passes is no further than the last
+  pub distance-near : (xs : List Slot) → any f xs ≡ true → distanceTo f xs ≤ length xs
+  distance-near [] h = absurd (true≢false (sym h))
+  distance-near (x ∷ xs) h = by-test (f x) refl (distance-near xs)
+    where
+      by-test :
+          (b : Bool) → f x ≡ b → (any f xs ≡ true → distanceTo f xs ≤ length xs) →
+          pick (f x) 1 (suc (distanceTo f xs)) ≤ suc (length xs)
+      by-test true e r = rw e (omega arith)
+      by-test false e r = rw e (omega (arith, r (rw e at h)))
 
   pub distance-hit : (xs : List Slot) (y : Slot) (ys : List Slot) → any f xs ≡ false → f y ≡ true → distanceTo f (xs ++ (y ∷ ys)) ≡ length xs + 1
   distance-hit xs y ys h e = distance-past xs (y ∷ ys) h ∙ rw e
@@ -139,30 +159,4 @@ module _ (f : Slot → Bool) where
   pub distance-found : (xs ys : List Slot) → any f xs ≡ true → Reaches (length xs) (distanceTo f (xs ++ ys))
   distance-found xs ys h =
       let e : distanceTo f (xs ++ ys) ≡ distanceTo f xs = distance-within xs ys h in
-      record { onward = omega (arith, distance-some xs h); near = omega (arith, distance-all xs) }
-
-  -- from a bucket of the cycle, round to the bucket itself
-  pub distance-round :
-      (all before : List Slot) (x : Slot) (rest : List Slot) → all ≡ before ++ (x ∷ rest) → any f all ≡ true →
-      Reaches (length all) (distanceTo f (rest ++ all))
-  distance-round all before x rest e h = by (any f rest) refl
-    where
-      front : List Slot
-      front = before ++ (x ∷ [])
-
-      splits : all ≡ front ++ rest
-      splits = e ∙ sym (append-assoc before (x ∷ []) rest)
-
-      size : length all ≡ length front + length rest
-      size = ap length splits ∙ length-append front rest
-
-      by : (b : Bool) → any f rest ≡ b → Reaches (length all) (distanceTo f (rest ++ all))
-      by true g =
-          let r = distance-found rest all g in
-          record { onward = r .onward; near = omega (arith, r .near, size) }
-      by false g =
-          let sent : any f front ≡ true = some-left f front rest (ap (any f) (sym splits) ∙ h) g in
-          let r = distance-found front rest sent in
-          let far : distanceTo f (rest ++ all) ≡ length rest + distanceTo f (front ++ rest) =
-          distance-past rest all g ∙ ap (λ z. length rest + distanceTo f z) splits in
-          record { onward = omega (arith, r .onward, far); near = omega (arith, r .near, far, size) }
+      record { onward = omega (arith, distance-low xs); near = omega (arith, distance-near xs h) }

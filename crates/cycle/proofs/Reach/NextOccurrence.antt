@@ -1,4 +1,4 @@
--- The distance to the next occurrence of a bucket, by where it stands: skipped buckets, the rest of the cycle, the coming one.
+-- The distance to the next occurrence of a bucket, by where it stands: skipped buckets, and the rest of the cycle.
 -- Assumes nothing.
 use mathlib.Core.Path.{_≡_, sym, ap, _∙_}
 use mathlib.Core.Logic.{_⊎_, inl, inr}
@@ -15,7 +15,7 @@ use Rattle.cycle.specs.Cycle.{occurs, distanceTo, toNext}
 use Rattle.cycle.specs.Cycle.{firstPlace}
 use Rattle.cycle.specs.Inner.Held.{aheadOf}
 use Rattle.cycle.proofs.Segmenting.Positions.{At, at-length}
-use Rattle.cycle.proofs.Reach.Distances.{some-left, some-right, distance-past, distance-within, distance-all, distance-low, distance-some, distance-hit}
+use Rattle.cycle.proofs.Reach.Distances.{some-left, distance-past, distance-within, distance-none, distance-low, distance-near, distance-hit}
 
 -- the first occurrence, by what is sent before it
 pub first-hit :
@@ -43,52 +43,39 @@ module _ {t : Plan} {x i j : ℕ} {xs : List Slot} (a : At t x i j xs) where
 module _ {t : Plan} {x i j : ℕ} {xs : List Slot} (a : At t x i j xs) (l c : ℕ) where
   -- the first occurrence is ahead
   pub first-ahead :
-      any (occurs l c) (sentYet a) ≡ false → any (occurs l c) (toSend a) ≡ true → firstPlace t l c ≡ x + distanceTo (occurs l c) (toSend a)
+      any (occurs l c) (sentYet a) ≡ false → firstPlace t l c ≡ x + distanceTo (occurs l c) (toSend a)
   unfolding firstPlace
-  first-ahead p q =
+  first-ahead p =
       let e : distanceTo (occurs l c) (slots t) ≡ length (sentYet a) + distanceTo (occurs l c) (toSend a) =
       ap (distanceTo (occurs l c)) (at-parts a) ∙ distance-past (occurs l c) (sentYet a) (toSend a) p in
       omega (arith, length-sentYet a)
 
-  pub next-later :
-      any (occurs l c) (sentYet a) ≡ false → any (occurs l c) (toSend a) ≡ true → toNext ((toSend a) ++ slots t) l c ≡ firstPlace t l c - x
+  pub next-later : any (occurs l c) (sentYet a) ≡ false → toNext (toSend a) l c ≡ firstPlace t l c - x
   unfolding toNext
-  next-later p q =
-      let e : firstPlace t l c ≡ x + distanceTo (occurs l c) (toSend a) = first-ahead p q in
-      distance-within (occurs l c) (toSend a) (slots t) q ∙ omega arith
+  next-later p = omega (arith, first-ahead p)
 
   -- none is left in this cycle
-  pub next-again : any (occurs l c) (toSend a) ≡ false → toNext ((toSend a) ++ slots t) l c ≡ length (slots t) + firstPlace t l c - x
-  unfolding toNext firstPlace
-  next-again p =
-      let e : distanceTo (occurs l c) ((toSend a) ++ slots t) ≡ length (toSend a) + distanceTo (occurs l c) (slots t) =
-      distance-past (occurs l c) (toSend a) (slots t) p in
-      let s : 1 ≤ distanceTo (occurs l c) (slots t) = rw (a .splits) (opening (a .before)) in
-      omega (arith, at-length a)
-    where
-      opening : (ys : List Slot) → 1 ≤ distanceTo (occurs l c) (ys ++ (a .it ∷ (toSend a)))
-      opening [] = distance-low (occurs l c) (a .it) (toSend a)
-      opening (y ∷ ys) = distance-low (occurs l c) y (ys ++ (a .it ∷ (toSend a)))
+  pub next-none : any (occurs l c) (toSend a) ≡ false → toNext (toSend a) l c ≡ length (slots t) - x
+  unfolding toNext
+  next-none p = omega (arith, distance-none (occurs l c) (toSend a) p, at-length a)
 
   pub first-past : any (occurs l c) (sentYet a) ≡ true → firstPlace t l c ≤ x
   unfolding firstPlace
   first-past p =
       let e : distanceTo (occurs l c) (slots t) ≡ distanceTo (occurs l c) (sentYet a) =
       ap (distanceTo (occurs l c)) (at-parts a) ∙ distance-within (occurs l c) (sentYet a) (toSend a) p in
-      omega (arith, length-sentYet a, distance-all (occurs l c) (sentYet a))
+      omega (arith, length-sentYet a, distance-near (occurs l c) (sentYet a) p)
 
   -- where every occurrence is ahead, or every one is past
   pub next-ahead :
       any (occurs l c) (slots t) ≡ true → (any (occurs l c) (sentYet a) ≡ false) ⊎ (any (occurs l c) (toSend a) ≡ false) →
-      toNext ((toSend a) ++ slots t) l c ≡ aheadOf (length (slots t)) x (firstPlace t l c)
+      toNext (toSend a) l c ≡ aheadOf (length (slots t)) x (firstPlace t l c)
   unfolding aheadOf
   next-ahead h (inl p) =
-      let q : any (occurs l c) (toSend a) ≡ true =
-      some-right (occurs l c) (sentYet a) (toSend a) (sym (ap (any (occurs l c)) (at-parts a)) ∙ h) p in
-      let e : firstPlace t l c ≡ x + distanceTo (occurs l c) (toSend a) = first-ahead p q in
-      let s : 1 ≤ distanceTo (occurs l c) (toSend a) = distance-some (occurs l c) (toSend a) q in
-      rw (lt-ltb x (firstPlace t l c) (omega arith)) (next-later p q)
+      let e : firstPlace t l c ≡ x + distanceTo (occurs l c) (toSend a) = first-ahead p in
+      let s : 1 ≤ distanceTo (occurs l c) (toSend a) = distance-low (occurs l c) (toSend a) in
+      rw (lt-ltb x (firstPlace t l c) (omega arith)) (next-later p)
   next-ahead h (inr p) =
       let q : any (occurs l c) (sentYet a) ≡ true =
       some-left (occurs l c) (sentYet a) (toSend a) (sym (ap (any (occurs l c)) (at-parts a)) ∙ h) p in
-      rw (le-ltb x (firstPlace t l c) (first-past q)) (next-again p)
+      rw (le-ltb x (firstPlace t l c) (first-past q)) (next-none p)

@@ -7,7 +7,6 @@ use native.Mathlib.Nat.{div-add-mod', mod-lt}
 use native.Mathlib.Decide.{ℕ-discrete}
 use native.Mathlib.Numerals.{add-one}
 use native.Mathlib.Omega.{arith}
-use mathlib.Core.List.{_++_}
 use lib.ListN.{length}
 use borrow.Author.Tests.{eq-eqb, ne-eqb, lt-ltb, le-ltb}
 use Rattle.cycle.specs.Tree.{Plan, width, above}
@@ -21,15 +20,15 @@ use Rattle.cycle.proofs.Trees.TreeLaws.{bounds-child}
 use Rattle.cycle.proofs.Sequences.Blocks.{blockLevel, blockCount}
 use Rattle.cycle.proofs.Reach.NextOccurrence.{toSend}
 use Rattle.cycle.proofs.Reach.Occurrences.{topOf, placeOn}
-use Rattle.cycle.proofs.Reach.PathPairs.{pathAt, parent-above, pair-again, pair-turn, turn-ahead}
+use Rattle.cycle.proofs.Reach.PathPairs.{pathAt, parent-above, pair-last, pair-turn, turn-ahead}
 
 module _ (t : Plan) (size x j place : ℕ) where
-  pub reach-last : (place + 1) % t .n ≡ 0 → pairReach t size x j place ≡ size + firstPlace t (j - 1) (place / t .n) - x
+  pub reach-last : (place + 1) % t .n ≡ 0 → pairReach t size x j place ≡ size - x
   unfolding pairReach
   reach-last e = rw (eq-eqb ((place + 1) % t .n) 0 e)
 
   pub reach-end :
-      ((place + 1) % t .n ≡ 0 → ⊥) → width t j ≤ place + 1 → pairReach t size x j place ≡ size + firstPlace t (j - 1) (place / t .n) - x
+      ((place + 1) % t .n ≡ 0 → ⊥) → width t j ≤ place + 1 → pairReach t size x j place ≡ size - x
   unfolding pairReach
   reach-end f h = rw (ne-eqb ((place + 1) % t .n) 0 f, le-ltb (place + 1) (width t j) h)
 
@@ -63,23 +62,20 @@ module _ (t : Plan) (sound : Sound t) (one : t .layout ≡ 1) (b i m : ℕ) (low
       (same-quotient t here grows (subst (λ z. z % t .n ≡ 0 → ⊥) (add-one here) f) ∙ sym over))
 
   pub pair-reaches :
-      toNext (toSend (pathAt t sound one b i m low high count) ++ slots t) (j - 1) (placeOver t b (j - 1))
+      toNext (toSend (pathAt t sound one b i m low high count)) (j - 1) (placeOver t b (j - 1))
       ≡ pairReach t (length (slots t)) (placeOn t b i) j (placeOver t b j)
   unfolding placeOver
   pair-reaches =
       let size : ℕ = length (slots t) in
       let x : ℕ = placeOn t b i in
-      let again : size + firstPlace t (j - 1) (above (t .n) (blockLevel t - (j - 1)) b) - x ≡ size + firstPlace t (j - 1) (here / t .n) - x =
-      ap (λ z. size + firstPlace t (j - 1) z - x) over in
       elim (ℕ-discrete ((here + 1) % t .n) 0) [
         | yes e ↦
-            pair-again t sound one b i m low high count j from to (inl (ap (λ z. z % t .n) (sym (add-one here)) ∙ e))
-            ∙ again
+            pair-last t sound one b i m low high count j from to (inl (ap (λ z. z % t .n) (sym (add-one here)) ∙ e))
             ∙ sym (reach-last t size x j here e)
         | no f ↦
             ⊎-elim
             (λ (h : width t j ≤ here + 1).
-            pair-again t sound one b i m low high count j from to (inr (omega arith)) ∙ again ∙ sym (reach-end t size x j here f h))
+            pair-last t sound one b i m low high count j from to (inr (omega arith)) ∙ sym (reach-end t size x j here f h))
             (λ (h : here + 1 < width t j).
             pair-turn t sound one b i m low high count j from to (omega arith)
             (same-quotient t here grows (subst (λ z. z % t .n ≡ 0 → ⊥) (add-one here) f) ∙ sym over)

@@ -1,8 +1,8 @@
 -- Layout 1, under the figures of a cycle: the buckets above one of B's level, by the powers of n.
 -- Assumes nothing.
 use mathlib.Core.Path.{_≡_, sym, ap, subst, _∙_}
-use Prim.Native.Nat.{ℕ, suc, _+_, _-_, _*_, _/_, _^_, _≤_, _<_}
-use native.Mathlib.Nat.{pow-succ', mul-assoc, mul-le-mul-right, div-mul-le-self, one-le-pow}
+use Prim.Native.Nat.{ℕ, _+_, _-_, _*_, _/_, _^_, _≤_, _<_}
+use native.Mathlib.Nat.{mul-assoc, mul-le-mul-right, one-le-pow}
 use native.Mathlib.Omega.{arith}
 use mathlib.Core.List.{List, []}
 use lib.ListN.{length}
@@ -72,18 +72,6 @@ module _ (f : Figures) (ready : Ready f) (one : f .layout ≡ 1) where
     pub width-inside : (c : ℕ) → c < width (planOf f []) level → InTree f (f .k + 1 - level) c
     unfolding InTree planOf
     width-inside c h = (omega arith, omega (arith, width-lt (planOf f []) pos level c h))
-
-  pub parent-inside :
-      (level c : ℕ) → 2 ≤ level → level ≤ f .copies + 1 → InTree f (f .k + 1 - level) c → InTree f (f .k + 1 - (level - 1)) (c / f .n)
-  unfolding InTree
-  parent-inside level c low high inside =
-      let e : ℕ = f .k + 1 - level in
-      let height : f .k + 1 - (level - 1) ≡ suc e = omega (arith, few-copies .1) in
-      let q : ℕ = c / f .n in
-      let l : q * f .n * f .n ^ e ≤ c * f .n ^ e = mul-le-mul-right (f .n ^ e) (div-mul-le-self c (f .n)) in
-      let whole : q * f .n ^ (f .k + 1 - (level - 1)) ≡ q * f .n * f .n ^ e =
-      ap (λ y. q * f .n ^ y) height ∙ ap (λ y. q * y) (pow-succ' (f .n) e) ∙ sym (mul-assoc q (f .n) (f .n ^ e)) in
-      (omega (arith, few-copies .1), omega (arith, inside .1))
 
   -- a B is in the tree
   pub block-inside : (b : ℕ) → b < blockCount (planOf f []) → InTree f (f .k - f .copies) b

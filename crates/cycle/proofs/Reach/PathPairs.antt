@@ -26,7 +26,7 @@ use Rattle.cycle.proofs.Sequences.Turns.{segmentsFrom}
 use Rattle.cycle.proofs.Sequences.Pieces.{occurs-slot}
 use Rattle.cycle.proofs.Segmenting.Positions.{At, at-length}
 use Rattle.cycle.proofs.Reach.Distances.{none-append, distance-hit}
-use Rattle.cycle.proofs.Reach.NextOccurrence.{sentYet, toSend, next-ahead, next-again}
+use Rattle.cycle.proofs.Reach.NextOccurrence.{sentYet, toSend, next-ahead, next-none}
 use Rattle.cycle.proofs.Buckets.TreeEntries.{other-level, none-cons}
 use Rattle.cycle.proofs.Reach.Occurrences.{wayFrom, topOf, path-other, Silent, none-way, none-segments, Met, met, slots-at, placeOn, at-level, none-before-level}
 use Rattle.cycle.proofs.Reach.FirstPlaces.{pathTop-stays, pathTop-parts, firstUnder, first-inside, first-turn, first-there, first-place}
@@ -99,7 +99,7 @@ module _ (t : Plan) (sound : Sound t) (one : t .layout ≡ 1) where
 
     pub next-path-child :
         (c : ℕ) → c < max 1 (width t (suc i)) →
-        toNext (toSend pathAt ++ slots t) (suc i) c
+        toNext (toSend pathAt) (suc i) c
         ≡ aheadOf (length (slots t)) (placeOn t b i) (firstPlace t (suc i) c)
     next-path-child c inside =
         next-ahead pathAt (suc i) c (first-there t sound one (suc i) c (omega arith) (omega arith) inside)
@@ -170,12 +170,10 @@ module _ (t : Plan) (sound : Sound t) (one : t .layout ≡ 1) where
     abbrev at : At t (placeOn t b i) i (above (t .n) (blockLevel t - i) b) []
     at = pathAt b i m low high count
 
-    -- no further child: the level j - 1 bucket comes in the coming cycle
-    pub pair-again :
-        LastChild j place →
-        toNext (toSend at ++ slots t) (j - 1) parent ≡ length (slots t) + firstPlace t (j - 1) parent - placeOn t b i
-    pair-again last =
-        next-again at (j - 1) parent
+    -- no further child: the level j - 1 bucket does not come again in this cycle
+    pub pair-last : LastChild j place → toNext (toSend at) (j - 1) parent ≡ length (slots t) - placeOn t b i
+    pair-last last =
+        next-none at (j - 1) parent
         (none-later b i m low high count (j - 1) parent (omega arith)
         (λ y u v. other-level (j - 1) parent y (above (t .n) (blockLevel t - y) b) (λ e. omega arith))
         (λ b′ u v.
@@ -275,18 +273,17 @@ module _ (t : Plan) (sound : Sound t) (one : t .layout ≡ 1) where
             ap length sends-hit ∙ length-append skipped (g .hit ∷ behindHit) in
             omega (arith, at-length at, g .long)
 
-        next-turn : toNext (toSend at ++ slots t) (j - 1) parent ≡ firstPlace t j (suc place) - 1 - placeOn t b i
+        next-turn : toNext (toSend at) (j - 1) parent ≡ firstPlace t j (suc place) - 1 - placeOn t b i
         unfolding toNext
         next-turn =
             let first : firstPlace t j (suc place) ≡ placeOn t turn j =
             first-place t sound one j (suc place) (omega arith) (omega arith) inside in
             let far : length skipped + 1 ≡ firstPlace t j (suc place) - 1 - placeOn t b i = omega (arith, hit-place, turn-top) in
-            ap (distanceTo (occurs (j - 1) parent))
-            (ap (λ xs. xs ++ slots t) sends-hit ∙ append-assoc skipped (g .hit ∷ behindHit) (slots t))
-            ∙ distance-hit (occurs (j - 1) parent) skipped (g .hit) (behindHit ++ slots t) none-skipped hit-occurs
+            ap (distanceTo (occurs (j - 1) parent)) sends-hit
+            ∙ distance-hit (occurs (j - 1) parent) skipped (g .hit) behindHit none-skipped hit-occurs
             ∙ far
 
-      pub pair-turn : toNext (toSend at ++ slots t) (j - 1) parent ≡ firstPlace t j (suc place) - 1 - placeOn t b i
+      pub pair-turn : toNext (toSend at) (j - 1) parent ≡ firstPlace t j (suc place) - 1 - placeOn t b i
       pair-turn = next-turn (met t sound one turn (j - 1) lastRest turn-top (omega arith))
 
       pub turn-ahead : placeOn t b i < firstPlace t j (suc place)

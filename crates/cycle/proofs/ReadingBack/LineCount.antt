@@ -43,36 +43,36 @@ digitBehind t zero = 48
 digitBehind t (suc q) = 48 + length (linesOf t q) % 10
 
 told-kind :
-    (t : Plan) (p d last : ℕ) (position : ℕ) (sent : Option ℕ) (x : Slot) (rest all : List Slot) (ss : List (List ℕ)) →
+    (t : Plan) (p d last size position : ℕ) (sent : Option ℕ) (x : Slot) (rest : List Slot) (ss : List (List ℕ)) →
     (c : Bool) → isData t x ≡ c →
-    pick (eqb (letter (bucketOf t position sent x rest all .body)) letterData)
-    (countedFrom p (d + 1) (48 + itemCount (bucketOf t position sent x rest all .body) % 10) ss) (countedFrom p d last ss) ≡
+    pick (eqb (letter (bucketOf t size position sent x rest .body)) letterData)
+    (countedFrom p (d + 1) (48 + itemCount (bucketOf t size position sent x rest .body) % 10) ss) (countedFrom p d last ss) ≡
     pick (isData t x) (countedFrom p (d + 1) (48 + length (linesOf t (x .place)) % 10) ss) (countedFrom p d last ss)
 unfolding bucketOf bodyOf
-told-kind t p d last position sent x rest all ss true e = rw e
-told-kind t p d last position sent x rest all ss false e = rw e
+told-kind t p d last size position sent x rest ss true e = rw e
+told-kind t p d last size position sent x rest ss false e = rw e
 
 -- one bucket more
 pub counted-next :
-    (t : Plan) (p d last : ℕ) (position : ℕ) (sent : Option ℕ) (x : Slot) (rest all : List Slot) (ss : List (List ℕ)) →
-    countedFrom p d last (printBucket (bucketOf t position sent x rest all) ∷ ss) ≡
+    (t : Plan) (p d last size position : ℕ) (sent : Option ℕ) (x : Slot) (rest : List Slot) (ss : List (List ℕ)) →
+    countedFrom p d last (printBucket (bucketOf t size position sent x rest) ∷ ss) ≡
     pick (isData t x) (countedFrom p (d + 1) (48 + length (linesOf t (x .place)) % 10) ss) (countedFrom p d last ss)
-counted-next t p d last position sent x rest all ss =
-    let b : Bucket = bucketOf t position sent x rest all in
-    rw (letter-printed b, digit-printed b) (told-kind t p d last position sent x rest all ss (isData t x) refl)
+counted-next t p d last size position sent x rest ss =
+    let b : Bucket = bucketOf t size position sent x rest in
+    rw (letter-printed b, digit-printed b) (told-kind t p d last size position sent x rest ss (isData t x) refl)
 
 pub counted-all :
-    (t : Plan) → Keeps t → (p position : ℕ) (sent : Option ℕ) (done xs : List Slot) → slots t ≡ done ++ xs →
-    countedFrom p (dataCount t done) (digitBehind t (dataCount t done)) (map printBucket (bucketsFrom t (slots t) position sent xs)) ≡
+    (t : Plan) → Keeps t → (p size position : ℕ) (sent : Option ℕ) (done xs : List Slot) → slots t ≡ done ++ xs →
+    countedFrom p (dataCount t done) (digitBehind t (dataCount t done)) (map printBucket (bucketsFrom t size position sent xs)) ≡
     linesBy p (t .d) (digitBehind t (t .d))
-counted-all t keeps p position sent done [] e =
+counted-all t keeps p size position sent done [] e =
     let all : dataCount t done ≡ t .d = ap (dataCount t) (sym (append-nil done) ∙ sym e) ∙ keeps .all-sent in
     rw all
-counted-all t keeps p position sent done (x ∷ xs) e =
+counted-all t keeps p size position sent done (x ∷ xs) e =
     let c : ℕ = dataCount t done in
-    counted-next t p c (digitBehind t c) position sent x xs (slots t) (map printBucket (bucketsFrom t (slots t) (suc position) (lastSent t x sent) xs))
-    ∙ by (map printBucket (bucketsFrom t (slots t) (suc position) (lastSent t x sent) xs)) (isData t x) refl
-    (counted-all t keeps p (suc position) (lastSent t x sent) (done ++ (x ∷ [])) xs (e ∙ sym (append-assoc done (x ∷ []) xs)))
+    counted-next t p c (digitBehind t c) size position sent x xs (map printBucket (bucketsFrom t size (suc position) (lastSent t x sent) xs))
+    ∙ by (map printBucket (bucketsFrom t size (suc position) (lastSent t x sent) xs)) (isData t x) refl
+    (counted-all t keeps p size (suc position) (lastSent t x sent) (done ++ (x ∷ [])) xs (e ∙ sym (append-assoc done (x ∷ []) xs)))
   where
     by :
         (ss : List (List ℕ)) (b : Bool) → isData t x ≡ b →
@@ -118,7 +118,7 @@ lines-by t a (suc q) e =
 
 counted-buckets : (t : Plan) → Accepted t → countedFrom (t .p) 0 48 (map printBucket (buckets t)) ≡ linesBy (t .p) (t .d) (digitBehind t (t .d))
 unfolding buckets
-counted-buckets t a = counted-all t (laid t a .keeps) (t .p) 0 none [] (slots t) refl
+counted-buckets t a = counted-all t (laid t a .keeps) (t .p) (length (slots t)) 0 none [] (slots t) refl
 
 pub counted-lines : (t : Plan) → Accepted t → cycleSize t ≤ bucketsMost → counted (t .p) (image t) ≡ length (t .lines)
 unfolding counted image

@@ -21,11 +21,11 @@ use Rattle.cycle.proofs.Sequences.LastSent.{last-behind}
 
 pub bucket-at :
     (t : Plan) → Keeps t → (before : List Slot) (x : Slot) (rest : List Slot) → slots t ≡ before ++ (x ∷ rest) →
-    cycleBucket t (length before) ≡ bucketOf t (length before) (lastOf t (dataCount t before)) x rest (slots t)
+    cycleBucket t (length before) ≡ bucketOf t (length (slots t)) (length before) (lastOf t (dataCount t before)) x rest
 unfolding cycleBucket buckets
 bucket-at t keeps before x rest e =
-    ap (λ s. getD (bucketsFrom t (slots t) 0 none s) (length before) noBucket) e ∙
-    (getD-bucketsFrom t (slots t) 0 none before x rest ∙
+    ap (λ s. getD (bucketsFrom t (length (slots t)) 0 none s) (length before) noBucket) e ∙
+    (getD-bucketsFrom t (length (slots t)) 0 none before x rest ∙
     rw (zero-add, last-behind t keeps before (x ∷ rest) e))
 
 -- a place of the cycle, with the slot there

@@ -52,9 +52,6 @@ pub quiet-tree : (t : Plan) (e j : ℕ) → e ≤ t .k → dataCount t (treeAt t
 unfolding treeAt
 quiet-tree t e j h = quiet-subtree t e (t .k + 1 - e) j (omega arith)
 
-pub cycle-starts : (t : Plan) → Keeps t → toStart (slots t) ≡ 1
-cycle-starts t kept = ap toStart (kept .root-first)
-
 -- a segment with a tree starts at once
 pub segment-starts : (p q r more : List Slot) → 0 < length q → toStart (segment (p ++ (q ++ r)) ++ more) ≡ 1
 segment-starts p q r more h =
@@ -107,12 +104,12 @@ module _ (t : Plan) (sound : Sound t) (one : t .layout ≡ 1) where
       (quiet-path t sound one b)
       (quiet-tree t (blockHeight t) b (omega arith))
       time
-      (starts-joined f (slots t)
+      (starts-joined f
       (λ x more.
       ap (λ xs. toStart (xs ++ more)) (block-holds x)
       ∙ segment-starts (path t x) (treeAt t (blockHeight t) x) (sent t (range (x * blockWide t) (min (t .d) ((x + 1) * blockWide t)))) more
       (tree-some t (blockHeight t) x (omega (arith, fits))))
-      (cycle-starts t kept) (suc b) (blockCount t - suc b))
+      (suc b) (blockCount t - suc b))
 
 -- ---- layout 2
 
@@ -165,9 +162,9 @@ module _ (t : Plan) (sound : Sound t) (other : t .layout ≡ 1 → ⊥) where
       refl
       (quiet-tree t (t .k) 0 (omega arith))
       (whole-time i)
-      (starts-joined f (slots t)
+      (starts-joined f
       (λ x more.
       ap (λ xs. toStart (xs ++ more)) (whole-holds x)
       ∙ segment-starts [] (treeAt t (t .k) 0) (sent t (range (partStart t x) (partStart t (suc x)))) more
       (tree-some t (t .k) 0 (sound .levelled)))
-      (cycle-starts t kept) (suc i) (t .copies - suc i))
+      (suc i) (t .copies - suc i))

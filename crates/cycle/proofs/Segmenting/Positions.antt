@@ -69,21 +69,21 @@ at-position t x h =
 
 -- ---- the buckets of a cycle, one by one
 
-pub length-bucketsFrom : (t : Plan) (all : List Slot) (p : ℕ) (last : Option ℕ) (xs : List Slot) → length (bucketsFrom t all p last xs) ≡ length xs
-length-bucketsFrom t all p last [] = refl
-length-bucketsFrom t all p last (x ∷ xs) = ap suc (length-bucketsFrom t all (suc p) (lastSent t x last) xs)
+pub length-bucketsFrom : (t : Plan) (size p : ℕ) (last : Option ℕ) (xs : List Slot) → length (bucketsFrom t size p last xs) ≡ length xs
+length-bucketsFrom t size p last [] = refl
+length-bucketsFrom t size p last (x ∷ xs) = ap suc (length-bucketsFrom t size (suc p) (lastSent t x last) xs)
 
 pub length-buckets : (t : Plan) → length (buckets t) ≡ cycleSize t
 unfolding buckets cycleSize
-length-buckets t = length-bucketsFrom t (slots t) 0 none (slots t)
+length-buckets t = length-bucketsFrom t (length (slots t)) 0 none (slots t)
 
 pub getD-bucketsFrom :
-    (t : Plan) (all : List Slot) (p : ℕ) (last : Option ℕ) (before : List Slot) (x : Slot) (rest : List Slot) →
-    getD (bucketsFrom t all p last (before ++ (x ∷ rest))) (length before) noBucket
-    ≡ bucketOf t (p + length before) (lastSentIn t last before) x rest all
-getD-bucketsFrom t all p last [] x rest = rw add-zero
-getD-bucketsFrom t all p last (y ∷ ys) x rest =
-    rw (add-suc, ← suc-add) (getD-bucketsFrom t all (suc p) (lastSent t y last) ys x rest)
+    (t : Plan) (size p : ℕ) (last : Option ℕ) (before : List Slot) (x : Slot) (rest : List Slot) →
+    getD (bucketsFrom t size p last (before ++ (x ∷ rest))) (length before) noBucket
+    ≡ bucketOf t size (p + length before) (lastSentIn t last before) x rest
+getD-bucketsFrom t size p last [] x rest = rw add-zero
+getD-bucketsFrom t size p last (y ∷ ys) x rest =
+    rw (add-suc, ← suc-add) (getD-bucketsFrom t size (suc p) (lastSent t y last) ys x rest)
 
 module _ {t : Plan} {x i j : ℕ} {xs : List Slot} (a : At t x i j xs) where
   pub at-length : x + suc (length (a .next ++ a .behind)) ≡ length (slots t)
@@ -111,33 +111,33 @@ module _ {t : Plan} {x i j : ℕ} {xs : List Slot} (a : At t x i j xs) where
   unfolding lastSentBefore
   at-last = ap (lastSentIn t none) at-before
 
-  pub bucket-at : cycleBucket t x ≡ bucketOf t x (lastSentBefore t x) (a .it) (a .next ++ a .behind) (slots t)
+  pub bucket-at : cycleBucket t x ≡ bucketOf t (length (slots t)) x (lastSentBefore t x) (a .it) (a .next ++ a .behind)
   unfolding cycleBucket buckets
   bucket-at =
       let rest : List Slot = a .next ++ a .behind in
-      let one : getD (bucketsFrom t (slots t) 0 none (a .before ++ (a .it ∷ rest))) (length (a .before)) noBucket
-      ≡ bucketOf t (0 + length (a .before)) (lastSentIn t none (a .before)) (a .it) rest (slots t) =
-      getD-bucketsFrom t (slots t) 0 none (a .before) (a .it) rest in
+      let one : getD (bucketsFrom t (length (slots t)) 0 none (a .before ++ (a .it ∷ rest))) (length (a .before)) noBucket
+      ≡ bucketOf t (length (slots t)) (0 + length (a .before)) (lastSentIn t none (a .before)) (a .it) rest =
+      getD-bucketsFrom t (length (slots t)) 0 none (a .before) (a .it) rest in
       let p : 0 + length (a .before) ≡ x = omega (arith, a .here) in
-      ap₂ (λ ys p′. getD (bucketsFrom t (slots t) 0 none ys) p′ noBucket) (a .splits) (sym (a .here))
+      ap₂ (λ ys p′. getD (bucketsFrom t (length (slots t)) 0 none ys) p′ noBucket) (a .splits) (sym (a .here))
       ∙ one
-      ∙ ap₂ (λ p′ l. bucketOf t p′ l (a .it) rest (slots t)) p (sym at-last)
+      ∙ ap₂ (λ p′ l. bucketOf t (length (slots t)) p′ l (a .it) rest) p (sym at-last)
 
   -- the mark of a segment's start is not printed
   pub body-at :
-      cycleBucket t x .body ≡ bodyOf t (length (slots t) - x) (lastSentBefore t x) (slot i j) (a .next ++ a .behind) (slots t)
+      cycleBucket t x .body ≡ bodyOf t (length (slots t) - x) (lastSentBefore t x) (slot i j) (a .next ++ a .behind)
   unfolding bucketOf bodyOf isData pairs hasPairs laterPair entries slot
   body-at =
       ap (λ b. b .body) bucket-at
-      ∙ ap₂ (λ u v. bodyOf t (length (slots t) - x) (lastSentBefore t x) (slot u v) (a .next ++ a .behind) (slots t))
+      ∙ ap₂ (λ u v. bodyOf t (length (slots t) - x) (lastSentBefore t x) (slot u v) (a .next ++ a .behind))
       (a .level-is) (a .place-is)
 
   pub index-at :
       i ≤ t .k →
       cycleBucket t x .body
       ≡ indexBody
-      (pairs t ((a .next ++ a .behind) ++ slots t) (lastSentBefore t x) (length (slots t) - x) (slot i j))
-      (entries t ((a .next ++ a .behind) ++ slots t) (slot i j))
+      (pairs t (a .next ++ a .behind) (lastSentBefore t x) (length (slots t) - x) (slot i j))
+      (entries t (a .next ++ a .behind) (slot i j))
   unfolding bodyOf slot
   index-at h = body-at ∙ rw (index-slot t (slot i j) h)
 
@@ -150,7 +150,7 @@ module _ {t : Plan} {x i j : ℕ} {xs : List Slot} (a : At t x i j xs) where
   pub head-at :
       headOf (cycleBucket t x)
       ≡ record
-      { position = x; «to_cycle» = length (slots t) - x; «to_segment» = toNextSegment (drop (suc x) (slots t) ++ slots t) }
+      { position = x; «to_cycle» = length (slots t) - x; «to_segment» = toNextSegment (drop (suc x) (slots t)) }
   unfolding headOf bucketOf
   head-at = rw (bucket-at, at-rest)
 

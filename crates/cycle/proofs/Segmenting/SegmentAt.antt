@@ -26,7 +26,7 @@ pub record SegmentAt (t : Plan) (start : ℕ) (p q : List Slot) (first last : �
   pub data-stands : StandsAt t (start + length p + length q) (sent t (range first last))
   pub next-starts :
       (x : ℕ) → start ≤ x → x < start + length p + length q + (last - first) →
-      toNextSegment (drop (suc x) (slots t) ++ slots t) ≡ start + length p + length q + (last - first) - x
+      toNextSegment (drop (suc x) (slots t)) ≡ start + length p + length q + (last - first) - x
   pub sent-before : (x : ℕ) → start ≤ x → x < start + length p + length q → lastSentBefore t x ≡ lastOf t first
 
 module _ (t : Plan) (kept : Keeps t) (before p q behind : List Slot) (first last : ℕ) (splits : slots t ≡ before ++ (segment (p ++ (q ++ sent t (range first last))) ++ behind)) where
@@ -42,7 +42,7 @@ module _ (t : Plan) (kept : Keeps t) (before p q behind : List Slot) (first last
 
   pub laid :
       map bare p ≡ p → map bare q ≡ q → dataCount t p ≡ 0 → dataCount t q ≡ 0 → dataCount t before ≡ first →
-      toStart (behind ++ slots t) ≡ 1 → SegmentAt t (length before) p q first last
+      toStart behind ≡ 1 → SegmentAt t (length before) p q first last
   laid bare-p bare-q quiet-p quiet-q sent-first opens =
       let data-sent : List Slot = sent t (range first last) in
       let s : ℕ = length before in

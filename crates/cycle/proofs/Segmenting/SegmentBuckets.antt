@@ -122,16 +122,15 @@ pub starts-here : (xs ys : List Slot) → 0 < length xs → toStart (segment xs 
 starts-here [] ys h = absurd (omega arith)
 starts-here (x ∷ xs) ys h = refl
 
+-- the next segment starts at once, or the next cycle does
 pub starts-joined :
-    (f : ℕ → List Slot) (ys : List Slot) → ((b : ℕ) (more : List Slot) → toStart (f b ++ more) ≡ 1) → toStart ys ≡ 1 →
-    (a c : ℕ) → toStart (joined f (span a c) ++ ys) ≡ 1
-starts-joined f ys each last a zero = last
-starts-joined f ys each last a (suc c) = rw (append-assoc (f a) (joined f (span (suc a) c)) ys) (each a (joined f (span (suc a) c) ++ ys))
+    (f : ℕ → List Slot) → ((b : ℕ) (more : List Slot) → toStart (f b ++ more) ≡ 1) → (a c : ℕ) → toStart (joined f (span a c)) ≡ 1
+starts-joined f each a zero = refl
+starts-joined f each a (suc c) = each a (joined f (span (suc a) c))
 
 pub next-start :
     (t : Plan) (before xs behind : List Slot) → slots t ≡ before ++ (segment xs ++ behind) → map bare xs ≡ xs →
-    toStart (behind ++ slots t) ≡ 1 → (y : ℕ) → y < length xs →
-    toNextSegment (drop (suc (length before + y)) (slots t) ++ slots t) ≡ length xs - y
+    toStart behind ≡ 1 → (y : ℕ) → y < length xs → toNextSegment (drop (suc (length before + y)) (slots t)) ≡ length xs - y
 unfolding toNextSegment
 next-start t before [] behind splits e opens y h = absurd (omega arith)
 next-start t before (x ∷ xs) behind splits e opens y h =
@@ -141,7 +140,6 @@ next-start t before (x ∷ xs) behind splits e opens y h =
     ap₂ (λ n zs. drop n zs) at splits
     ∙ drop-append-add before (segment (x ∷ xs) ++ behind) (suc y)
     ∙ drop-append-le y xs behind (omega arith) in
-    ap (λ zs. toStart (zs ++ slots t)) rest
-    ∙ ap toStart (append-assoc (drop y xs) behind (slots t))
-    ∙ starts-past (drop y xs) (behind ++ slots t) (bare-drop y xs tail)
+    ap toStart rest
+    ∙ starts-past (drop y xs) behind (bare-drop y xs tail)
     ∙ rw (opens, length-drop y xs) (omega arith)

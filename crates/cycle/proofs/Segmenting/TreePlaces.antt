@@ -52,7 +52,7 @@ module _ (f : Figures) (s : Segment) (ready : Ready f) (placed : (ls : List Line
 
   pub head-asked :
       (x : ℕ) → s .start ≤ x → x < s .end →
-      Ready f × (x < s .end) × (s .end ≤ f .size) × (toNextSegment (drop (suc x) (slots (planOf f [])) ++ slots (planOf f [])) ≡ s .end - x)
+      Ready f × (x < s .end) × (s .end ≤ f .size) × (toNextSegment (drop (suc x) (slots (planOf f []))) ≡ s .end - x)
   head-asked x low high = (ready, high, seated f s ready placed .within, placed [] .next-starts x low high)
 
   -- the segment's own tree

@@ -117,7 +117,7 @@ module _ (t : Plan) (keeps : Keeps t) where
   -- the distance to a data bucket from anywhere
   pub next-data :
       {x i j : ℕ} {xs : List Slot} (a : At t x i j xs) (q : ℕ) → q < t .d →
-      toNext (toSend a ++ slots t) (t .k + 1) q ≡ aheadOf (length (slots t)) x (firstPlace t (t .k + 1) q)
+      toNext (toSend a) (t .k + 1) q ≡ aheadOf (length (slots t)) x (firstPlace t (t .k + 1) q)
   next-data a q h =
       next-ahead a (t .k + 1) q (data-sent q h)
       (⊎-elim

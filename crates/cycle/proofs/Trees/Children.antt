@@ -11,14 +11,12 @@ use Rattle.columns.proofs.Joined.{joined-append}
 use Rattle.buckets.specs.Lengths.{linesMost, entriesMost}
 use Rattle.cycle.specs.Tree.{Plan, width, children}
 use Rattle.cycle.specs.Layouts.{slots}
-use Rattle.cycle.specs.Cycle.{occurs, cycleSize}
+use Rattle.cycle.specs.Cycle.{cycleSize}
 use Rattle.cycle.specs.declared.Figures.{Figures}
 use Rattle.cycle.specs.Judging.{treeAt}
-use Rattle.cycle.specs.Cycle.{firstPlace}
 use Rattle.cycle.specs.Inner.Held.{planOf, InTree, Ready, spanMost}
 use Rattle.cycle.proofs.Basics.Ranges.{length-range, span-append}
 use Rattle.cycle.proofs.Trees.TreeLaws.{width-up, width-lt, length-children}
-use Rattle.cycle.proofs.Reach.Distances.{distance-all}
 use Rattle.cycle.proofs.Trees.Readiness.{Reached, reached}
 
 -- ---- N, and places in it
@@ -26,10 +24,6 @@ use Rattle.cycle.proofs.Trees.Readiness.{Reached, reached}
 pub size-slots : (f : Figures) → Ready f → f .size ≡ length (slots (planOf f []))
 unfolding cycleSize
 size-slots f ready = ready .size-is
-
-pub first-high : (t : Plan) (i j : ℕ) → firstPlace t i j ≤ length (slots t)
-unfolding firstPlace
-first-high t i j = omega (arith, distance-all (occurs i j) (slots t))
 
 -- ---- the distance to a child behind its earlier siblings
 

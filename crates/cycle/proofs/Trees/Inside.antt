@@ -14,7 +14,7 @@ use Rattle.cycle.specs.Tree.{Plan, above, width, children, dataUnder}
 use Rattle.cycle.specs.Layouts.{Slot, slot, segment, subtree, treeBelow, sent, pathTop, path, distributedSegment, distributed, wholeSegment, oneM, slots}
 use Rattle.cycle.proofs.Sequences.Sequence.{Sound}
 use Rattle.cycle.proofs.Sequences.Paths.{pathTop-low}
-use Rattle.cycle.proofs.Trees.TreeLaws.{above-le, width-lt, lt-width, dataUnder-range}
+use Rattle.cycle.proofs.Trees.TreeLaws.{above-le, width-lt, dataUnder-range}
 
 -- bucket j of level i is one of the tree; the root is one also of the empty list
 pub record Inside (t : Plan) (i j : ℕ) : Type 0 where
@@ -61,9 +61,6 @@ module _ (t : Plan) (pos : 0 < t .n) where
 
   pub inside-width : (i j : ℕ) → 1 ≤ i → i ≤ t .k + 1 → j < width t i → Inside t i j
   inside-width i j low high l = record { low = low; high = high; covers = omega (arith, width-lt t pos i j l) }
-
-  pub width-inside : {i j : ℕ} → 0 < t .d → Inside t i j → j < width t i
-  width-inside {i} {j} some w = lt-width t pos i j (omega (arith, w .covers))
 
   pub inside-data : (q : ℕ) → q < t .d → Inside t (t .k + 1) q
   inside-data q l =

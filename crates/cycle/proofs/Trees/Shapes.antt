@@ -78,7 +78,6 @@ module _ (f : Figures) (ls ms : List Line) where
       let w : ℕ → ℕ = width (planOf f ls) in
       let reach : (ℕ → ℕ → ℕ) → ℕ → ℕ → ℕ =
       λ g l c.
-      pick (eqb ((c + 1) % f .n) 0) (size + g (l - 1) (c / f .n) - x)
-      (pick (ltb (c + 1) (w l)) (g l (c + 1) - 1 - x) (size + g (l - 1) (c / f .n) - x)) in
+      pick (eqb ((c + 1) % f .n) 0) (size - x) (pick (ltb (c + 1) (w l)) (g l (c + 1) - 1 - x) (size - x)) in
       ap (λ g. (size - x) ∷ map (λ l. reach g l (above (f .n) (f .copies + 1 - l) b)) (range 2 (i + 1)))
       (λ k l c. firstPlace-shape l c k)

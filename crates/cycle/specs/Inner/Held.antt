@@ -100,9 +100,10 @@ pub record Ready (f : Figures) : Type 0 where
 
 -- ---- places
 
--- the distance from position x to a place of a cycle of this size: of this one if it is ahead, else of the coming one
+-- the distance from position x of a cycle of this size to a place of it: to that place if it is ahead, else to the next cycle's
+-- start
 unfoldable pub aheadOf : ℕ → ℕ → ℕ → ℕ
-aheadOf size x place = pick (ltb x place) (place - x) (size + place - x)
+aheadOf size x place = pick (ltb x place) (place - x) (size - x)
 
 -- a bucket as sent, apart from whether a segment starts with it
 unfoldable pub bare : Slot → Slot
@@ -157,7 +158,7 @@ pub record HoldsSegment (t : Plan) (s : Segment) : Type 0 where
   pub start-is : s .start ≡ length (joined (segmentSlots t) (range 0 (s .number)))
   pub end-is : s .end ≡ length (joined (segmentSlots t) (range 0 (suc (s .number))))
   -- the next segment, or the coming cycle, starts at `end`, and none in between
-  pub next-starts : (x : ℕ) → s .start ≤ x → x < s .end → toNextSegment (drop (suc x) (slots t) ++ slots t) ≡ s .end - x
+  pub next-starts : (x : ℕ) → s .start ≤ x → x < s .end → toNextSegment (drop (suc x) (slots t)) ≡ s .end - x
   -- the data buckets sent before the segment are those up to `first`
   pub sent-before : (x : ℕ) → s .start ≤ x → x < s .«data_at» → lastSentBefore t x ≡ lastOf t (s .first)
   -- in layout 1 they are those under its tree
@@ -245,12 +246,11 @@ unfoldable pub tagPlace : Figures → Source → ℕ → ℕ → ℕ
 tagPlace f source span j = lineAt (planOf f []) source (min (f .lines) ((j + 1) * span * f .p) - 1)
 
 -- the distance that pair j of a path bucket at x reaches, over bucket `place` of level j: right before the next bucket under
--- the same parent, or the parent in the coming cycle where there is none
+-- the same parent, or the next cycle's start where there is none
 unfoldable pub pairReach : Plan → ℕ → ℕ → ℕ → ℕ → ℕ
 pairReach t size x j place =
-    pick (eqb ((place + 1) % t .n) 0) (size + firstPlace t (j - 1) (place / t .n) - x)
-    (pick (ltb (place + 1) (width t j)) (firstPlace t j (place + 1) - 1 - x)
-    (size + firstPlace t (j - 1) (place / t .n) - x))
+    pick (eqb ((place + 1) % t .n) 0) (size - x)
+    (pick (ltb (place + 1) (width t j)) (firstPlace t j (place + 1) - 1 - x) (size - x))
 
 -- the bucket of level i above bucket b of level r + 1
 unfoldable pub placeOver : Plan → ℕ → ℕ → ℕ

@@ -5,6 +5,7 @@ use mathlib.Core.List.{List, [], _++_}
 use Prim.Native.Nat.{ℕ, zero, suc, _+_, _*_, _%_, _≤_}
 use native.Mathlib.Omega.{arith}
 use Rattle.buckets.specs.Lengths.{bucketsMost}
+use Rattle.buckets.specs.Bucket.{Bucket}
 use Rattle.buckets.specs.declared.Line.{Line}
 use Rattle.listener.specs.Listener.{start, step, named}
 use Rattle.cycle.specs.Cycle.{bucketAt}
@@ -26,8 +27,8 @@ module _ (image : List ℕ) (count : ℕ) (spent : ℕ → Finish) (more : ℕ) 
       runElse spent image count (budget + more) x s got ≡ run image count budget x s got
 
   enough-after :
-      {p : ℕ} {s : Listener} (r : Stepped) (budget x : ℕ) (got : List Line) → Leaves p s r →
-      (GoesOn p s r → Enough budget (r .listener)) →
+      {t : Bucket} {s : Listener} (r : Stepped) (budget x : ℕ) (got : List Line) → Leaves t s r →
+      (GoesOn t s r → Enough budget (r .listener)) →
       (a : Answer) → r .answer ≡ a →
       afterAnswer (runElse spent image count (budget + more)) count x got (r .listener) a ≡
       afterAnswer (run image count budget) count x got (r .listener) a
@@ -38,8 +39,8 @@ module _ (image : List ℕ) (count : ℕ) (spent : ℕ → Finish) (more : ℕ) 
 
   -- one step on
   enough-step :
-      {p : ℕ} (s : Listener) (budget : ℕ) → ((bytes : List ℕ) → Leaves p s (step s bytes)) →
-      ((bytes : List ℕ) → GoesOn p s (step s bytes) → Enough budget (step s bytes .listener)) →
+      {t : Bucket} (s : Listener) (budget : ℕ) → ((bytes : List ℕ) → Leaves t s (step s bytes)) →
+      ((bytes : List ℕ) → GoesOn t s (step s bytes) → Enough budget (step s bytes .listener)) →
       Enough (suc budget) s
   enough-step s budget leaves onward x got =
       let bytes = bucketAt image x in
@@ -49,10 +50,10 @@ module _ (image : List ℕ) (count : ℕ) (spent : ℕ → Finish) (more : ℕ) 
       (step s bytes .answer) refl)
 
   enough-midway :
-      {p : ℕ} (budget : ℕ) (s : Listener) → Midway p s → 2 * bucketsMost ≤ s .elapsed + budget → Enough budget s
+      {t : Bucket} (budget : ℕ) (s : Listener) → Midway t s → 2 * bucketsMost ≤ s .elapsed + budget → Enough budget s
   enough-midway zero s m h = λ x got. absurd (omega (arith, midway-short s m, m .dozed))
-  enough-midway {p} (suc budget) s m h =
-      enough-step s budget (λ bytes. tuned-step p s bytes (midway m))
+  enough-midway {t} (suc budget) s m h =
+      enough-step s budget (λ bytes. tuned-step t s bytes (midway m))
       (λ bytes g. enough-midway budget (step s bytes .listener) (g .awaits) (omega (arith, g .further, h)))
 
 -- from any started listener on, the steps of a whole run are enough

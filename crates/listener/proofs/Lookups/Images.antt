@@ -1,7 +1,7 @@
 -- The bytes of a cycle, as listeners and lookups take them: bucket by bucket, and as many buckets as they are long for.
 -- Assumes nothing.
 use mathlib.Core.Path.{_≡_, sym, ap, _∙_, subst}
-use Prim.Native.Nat.{ℕ, _*_, _/_, _%_, _≤_, _<_}
+use Prim.Native.Nat.{ℕ, _*_, _/_, _%_, _≤_}
 use mathlib.Core.Bool.{true}
 use mathlib.Core.List.{List, [], _∷_}
 use native.Mathlib.Nat.{mul-comm, mul-mod-left, mul-div-cancel}
@@ -12,7 +12,7 @@ use borrow.Author.Tests.{le-leb, eq-eqb}
 use Rattle.buckets.specs.ListLine.{listLines}
 use Rattle.buckets.specs.Bucket.{Bucket}
 use Rattle.cycle.specs.Tree.{Settings, Plan, plan}
-use Rattle.cycle.specs.Cycle.{cycleSize, image, bucketAt}
+use Rattle.cycle.specs.Cycle.{cycleSize}
 use Rattle.cycle.specs.Building
 use Rattle.cycle.specs.Building.{build}
 use Rattle.cycle.specs.declared.Built.{Built}
@@ -23,13 +23,8 @@ use Rattle.cycle.proofs.Lines.DataTags.{AcceptedPlan}
 use Rattle.cycle.proofs.Building.Accepted.{laid}
 use Rattle.cycle.proofs.Building.Outcomes.{Answered, answered, accepted}
 use Rattle.cycle.proofs.Building.BuiltImage.{CycleOf, cycle-of-plan}
-use Rattle.listener.proofs.Walks.Walked.{Reads}
 
 module _ (bytes : List ℕ) (n : ℕ) (bk : ℕ → Bucket) (c : CycleOf bytes n bk) where
-  pub image-reads : Reads bytes n bk
-  unfolding bucketAt
-  image-reads = record { small = c .small; read = c .read; position-is = c .position-is; cycle-is = c .cycle-is }
-
   pub image-long : length bytes ≡ n * 240
   image-long = c .long ∙ mul-comm 240 n
 
@@ -49,20 +44,26 @@ module _ (bytes : List ℕ) (n : ℕ) (bk : ℕ → Bucket) (c : CycleOf bytes n
       )
 
 -- an answer of building by its numbers
-pub cycle-answered : (b : Built) (n : ℕ) → Building.numbers b ≡ 0 ∷ 0 ∷ n ∷ [] → 0 < n → b ≡ Cycle n
-cycle-answered (Cycle m) n e h = ap (λ s. Cycle (getD s 2 0)) e
-cycle-answered (Refused number place) n e h = absurd (omega (arith, ap (λ s. getD s 2 0) e))
+pub cycle-answered : (b : Built) (n : ℕ) → Building.numbers b ≡ 0 ∷ 0 ∷ n ∷ [] → b ≡ Cycle n
+cycle-answered (Cycle m) n e = ap (λ s. Cycle (getD s 2 0)) e
+cycle-answered (Refused number place) n e = absurd (omega (arith, ap length e))
 
--- what holds of the cycle of a plan holds of what building made
-pub of-built :
-    (s : Settings) (list : List ℕ) (room n : ℕ) → build s list room .answer ≡ Cycle n → (P : List ℕ → ℕ → Type 0) →
-    (AcceptedPlan (plan s (listLines list)) →
-    CycleOf (image (plan s (listLines list))) (cycleSize (plan s (listLines list))) (cycleBucket (plan s (listLines list))) →
-    P (image (plan s (listLines list))) (cycleSize (plan s (listLines list)))) →
-    P (build s list room .output) n
-of-built s list room n built P h =
+-- what building made of a list: the cycle of its plan
+pub record BuiltCycle (t : Plan) (bytes : List ℕ) (n : ℕ) : Type 0 where
+  pub plan-fits : AcceptedPlan t
+  pub reads : CycleOf bytes (cycleSize t) (cycleBucket t)
+  pub size-is : n ≡ cycleSize t
+
+pub built-cycle :
+    (s : Settings) (list : List ℕ) (room n : ℕ) → Building.numbers (build s list room .answer) ≡ 0 ∷ 0 ∷ n ∷ [] →
+    BuiltCycle (plan s (listLines list)) (build s list room .output) n
+built-cycle s list room n e =
     let t : Plan = plan s (listLines list) in
+    let built : build s list room .answer ≡ Cycle n = cycle-answered (build s list room .answer) n e in
     let o : Answered s list room n = answered s list room n built in
     let ok = accepted s list room n built in
-    subst (λ z. P z n) (sym (o .output-is))
-    (subst (P (image t)) (sym (o .size-is)) (h (laid t ok) (cycle-of-plan t ok (o .short))))
+    record {
+      plan-fits = laid t ok;
+      reads = subst (λ z. CycleOf z (cycleSize t) (cycleBucket t)) (sym (o .output-is)) (cycle-of-plan t ok (o .short));
+      size-is = o .size-is;
+    }

@@ -9,6 +9,7 @@ use native.Mathlib.Nat.{mod-lt}
 use lib.ListN.{length, length-append}
 use Rattle.columns.specs.Lists.{pick}
 use Rattle.buckets.specs.Lengths.{bucketsMost, bucketLinesMost}
+use Rattle.buckets.specs.Bucket.{Bucket}
 use Rattle.buckets.specs.declared.Line.{Line}
 use Rattle.cycle.proofs.Trees.Children.{nil-of}
 use Rattle.listener.specs.Listener.{start, step, named, isEnded}
@@ -63,7 +64,7 @@ toGo h = 2 * (2 * bucketsMost - h .step .listener .elapsed) + pick (isEnded (h .
 
 -- a step that ends a run is one fewer to go, and one that goes on two
 fewer :
-    {p : ℕ} {s : Listener} {r : Stepped} → Leaves p s r → isEnded (s .phase) ≡ false → s .elapsed < 2 * bucketsMost →
+    {t : Bucket} {s : Listener} {r : Stepped} → Leaves t s r → isEnded (s .phase) ≡ false → s .elapsed < 2 * bucketsMost →
     2 * (2 * bucketsMost - r .listener .elapsed) + pick (isEnded (r .listener .phase)) 0 1 <
     2 * (2 * bucketsMost - s .elapsed) + pick (isEnded (s .phase)) 0 1
 fewer {s = s} {r = r} (goes-on g) o m =

@@ -2,29 +2,43 @@
 -- counts and the place awaited move on.
 -- Assumes nothing.
 use mathlib.Core.Path.{_≡_, refl, sym, _∙_, ap, ap₂}
-use Prim.Native.Nat.{ℕ, zero, suc, _+_, _*_, _/_, _%_, _≤_, _<_}
-use mathlib.Core.Bool.{true, false}
+use mathlib.Core.Logic.{⊎-elim}
+use Prim.Native.Nat.{ℕ, _+_, _-_, _≤_, _<_}
+use mathlib.Core.Bool.{Bool, true, false, _||_}
 use mathlib.Core.Option.{some}
 use mathlib.Core.List.{List}
 use native.Mathlib.Omega.{arith}
-use native.Mathlib.Nat.{add-mul, div-mul-le-self, div-add-mod'}
-use borrow.Author.Tests.{le-ltb, eq-eqb}
+use lib.Dec.{eqb}
+use borrow.Author.Tests.{eq-eqb}
 use Rattle.buckets.specs.Bucket.{Bucket, cycleLength, readBucket}
-use Rattle.listener.specs.Listener.{start, choice, letterAwaited, placeAwaited, awaited, isEnded, countsFit, refusedEnded, heardWith, elapsedWith, passedWith, pastNextCycle, dozing, decided, heed, step}
+use Rattle.listener.specs.Listener.{start, choice, letterAwaited, dueAt, placeAwaited, awaited, isEnded, countsFit, refusedEnded, heardWith, elapsedWith, pastNextCycle, dozing, decided, heed, step}
+use Rattle.cycle.proofs.Basics.Ranges.{le-or-lt}
 use Rattle.listener.specs.declared.Listener.{Listener}
 use Rattle.listener.specs.declared.Phase.{Phase}
 use Rattle.listener.specs.declared.Phase.the-variants.{TuneIn, Index, Either, Data, Ended}
 use Rattle.listener.specs.declared.Stepped.{Stepped}
 use Rattle.listener.proofs.Walks.Walk.{awake}
+use Rattle.listener.proofs.Steps.Dozes
 use Rattle.listener.proofs.Steps.States.{limits-fit}
 
--- s awaits bucket x, in the cycle that b stands for, and was tuned in at place u
-pub record Awaits (n tag u : ℕ) (bk : ℕ → Bucket) (b x : ℕ) (ph : Phase) (s : Listener) : Type 0 where
+-- what is on air reads as the buckets of two cycles, of n and n′ buckets, each at its place; places count from the first one's start
+pub record Airs (sent : ℕ → List ℕ) (n n′ : ℕ) (bk : ℕ → Bucket) : Type 0 where
+  pub small : n ≤ 99999
+  pub small′ : n′ ≤ 99999
+  pub read : (x : ℕ) → x < n + n′ → readBucket (sent x) ≡ some (bk x)
+  pub old-position : (x : ℕ) → x < n → bk x .position ≡ x
+  pub old-start : (x : ℕ) → x < n → bk x .toCycle ≡ n - x
+  pub new-position : (x : ℕ) → n ≤ x → x < n + n′ → bk x .position ≡ x - n
+  pub new-start : (x : ℕ) → n ≤ x → x < n + n′ → bk x .toCycle ≡ n + n′ - x
+
+-- s awaits the bucket at place x, and was tuned in at place u
+pub record Awaits (n tag u : ℕ) (bk : ℕ → Bucket) (x : ℕ) (ph : Phase) (s : Listener) : Type 0 where
   pub tag-is : s .tag ≡ tag
   pub phase-is : s .phase ≡ ph
   pub place-is : placeAwaited ph s (bk x) ≡ true
-  pub passed-is : s .passed * n ≡ b
-  pub gone-by : u + (s .elapsed + s .doze) ≡ b + x + 1
+  pub old-passed : x < n → s .passed ≡ 0
+  pub new-passed : n ≤ x → s .passed ≡ 1
+  pub gone-by : u + (s .elapsed + s .doze) ≡ x + 1
   pub dozes-some : 1 ≤ s .doze
   pub counted : s .heard ≤ s .elapsed
 
@@ -37,15 +51,15 @@ open-phase Data b h = refl
 open-phase Ended b h = sym h
 
 -- the listener that was just started awaits its tune-in bucket
-pub start-awaits :
-    (n tag u : ℕ) (bk : ℕ → Bucket) → bk u .position ≡ u → Awaits n tag u bk 0 u TuneIn (start tag)
+pub start-awaits : (n tag u : ℕ) (bk : ℕ → Bucket) → u < n → Awaits n tag u bk u TuneIn (start tag)
 unfolding start
-start-awaits n tag u bk e =
+start-awaits n tag u bk h =
     record {
       tag-is = refl;
       phase-is = refl;
       place-is = refl;
-      passed-is = omega arith;
+      old-passed = λ l. refl;
+      new-passed = λ l. absurd (omega arith);
       gone-by = omega arith;
       dozes-some = omega arith;
       counted = omega arith;
@@ -68,82 +82,130 @@ unfolding step
 step-ended s bytes e = rw e
 
 -- where a doze ends is what the phases after a doze await
-pub due-place :
-    (ph : Phase) (s : Listener) (b : Bucket) → awake ph ≡ true → b .position ≡ s .due → cycleLength b ≡ s .cycle →
-    placeAwaited ph s b ≡ true
-due-place TuneIn s b w p c = refl
-due-place Index s b w p c = rw (eq-eqb (b .position) (s .due) p, eq-eqb (cycleLength b) (s .cycle) c)
-due-place Either s b w p c = rw (eq-eqb (b .position) (s .due) p, eq-eqb (cycleLength b) (s .cycle) c)
-due-place Data s b w p c = rw (eq-eqb (b .position) (s .due) p, eq-eqb (cycleLength b) (s .cycle) c)
-due-place Ended s b w p c = w
+pub due-place : (ph : Phase) (s : Listener) (b : Bucket) → awake ph ≡ true → dueAt s b ≡ true → placeAwaited ph s b ≡ true
+due-place TuneIn s b w p = refl
+due-place Index s b w p = p
+due-place Either s b w p = p
+due-place Data s b w p = p
+due-place Ended s b w p = w
 
--- fewer than two cycles are at most one
-pub under-two : (k n : ℕ) → k * n < 2 * n → k ≤ 1
-under-two zero n h = omega arith
-under-two (suc zero) n h = omega arith
-under-two (suc (suc k)) n h = absurd (omega arith)
+-- within a cycle
+pub awaited-within : (s : Listener) (b : Bucket) → b .position ≡ s .due → cycleLength b ≡ s .cycle → dueAt s b ≡ true
+awaited-within s b p c =
+    rw (eq-eqb (b .position) (s .due) p, eq-eqb (cycleLength b) (s .cycle) c) (or-true (eqb (s .due) 0))
+  where
+    or-true : (o : Bool) → (o || true) ≡ true
+    or-true true = refl
+    or-true false = refl
+
+-- past a start
+pub awaited-at-start : (s : Listener) (b : Bucket) → b .position ≡ 0 → s .due ≡ 0 → dueAt s b ≡ true
+awaited-at-start s b p c = rw (p, c)
 
 -- an equation of a value of the phase, at the listener's own phase
 along {ℓ} : {A : Type ℓ} {x y : Phase} {z : A} (f : Phase → A) → x ≡ y → f y ≡ z → f x ≡ z
 along f e h = ap f e ∙ h
 
-module _ (n tag u : ℕ) (bk : ℕ → Bucket) (small : n ≤ 99999) where
+module _ (sent : ℕ → List ℕ) (n n′ tag u : ℕ) (bk : ℕ → Bucket) (air : Airs sent n n′ bk) where
   -- what a listener makes of the bucket that it awaits
   pub takes :
-      {b x : ℕ} {ph : Phase} (s : Listener) (bytes : List ℕ) → Awaits n tag u bk b x ph s → b ≤ n → x < n →
-      letterAwaited ph (bk x .body) ≡ true → readBucket bytes ≡ some (bk x) →
-      step s bytes ≡ decided s (bk x) (choice ph tag (bk x))
+      {x : ℕ} {ph : Phase} (s : Listener) → Awaits n tag u bk x ph s → x < n + n′ → letterAwaited ph (bk x .body) ≡ true →
+      step s (sent x) ≡ decided s (bk x) (choice ph tag (bk x))
   unfolding awaited
-  takes {b} {x} {ph} s bytes a hb hx l r =
+  takes {x} {ph} s a hx l =
       let l′ : letterAwaited (s .phase) (bk x .body) ≡ true = along (λ p. letterAwaited p (bk x .body)) (a .phase-is) l in
       let p′ : placeAwaited (s .phase) s (bk x) ≡ true = along (λ p. placeAwaited p s (bk x)) (a .phase-is) (a .place-is) in
-      step-takes s bytes (bk x) (open-phase (s .phase) (bk x) l′)
+      step-takes s (sent x) (bk x) (open-phase (s .phase) (bk x) l′)
       (limits-fit s
       (record {
-        heard = omega arith;
-        elapsed = omega arith;
-        doze = omega arith;
-        passed = under-two (s .passed) n (omega (arith, a .passed-is));
-      })) r ∙
+        heard = omega (arith, a .counted, a .gone-by, air .small, air .small′);
+        elapsed = omega (arith, a .gone-by, air .small, air .small′);
+        doze = omega (arith, a .gone-by, air .small, air .small′);
+        passed = once;
+      })) (air .read x hx) ∙
       (heed-decides s (bk x) (rw (l′, p′)) ∙
       ap₂ {C = Stepped} (λ p g. decided s (bk x) (choice p g (bk x))) (a .phase-is) (a .tag-is))
+    where
+      once : s .passed ≤ 1
+      once =
+          ⊎-elim
+          (λ (h : n ≤ x). omega (arith, a .new-passed h))
+          (λ (h : x < n). omega (arith, a .old-passed h))
+          (le-or-lt n x)
 
-  passed-at :
-      (x : ℕ) (s : Listener) (d : ℕ) → bk x .position ≡ x → cycleLength (bk x) ≡ n →
-      passedWith s (bk x) d ≡ s .passed + (x + d) / n
-  unfolding passedWith
-  passed-at x s d px nx = ap₂ {C = ℕ} (λ y z. s .passed + (y + d) / z) px nx
-
-  -- a doze to a bucket of this cycle or the next: the listener that awaits it
-  pub dozes-on :
-      {b x b′ x′ : ℕ} {ph next : Phase} (s : Listener) (d : ℕ) → Awaits n tag u bk b x ph s → bk x .position ≡ x →
-      cycleLength (bk x) ≡ n → bk x′ .position ≡ x′ → cycleLength (bk x′) ≡ n → awake next ≡ true → 1 ≤ d →
-      (x + d) % n ≡ x′ → b′ + x′ ≡ b + x + d → Awaits n tag u bk b′ x′ next (dozing s (bk x) d next)
+  -- what a listener awaits that dozes within a cycle
+  dozes-within :
+      {x : ℕ} {ph next : Phase} (s : Listener) (d : ℕ) → Awaits n tag u bk x ph s → awake next ≡ true → 1 ≤ d →
+      d < bk x .toCycle → bk (x + d) .position ≡ bk x .position + d → cycleLength (bk (x + d)) ≡ cycleLength (bk x) →
+      (x + d < n → s .passed ≡ 0) → (n ≤ x + d → s .passed ≡ 1) → Awaits n tag u bk (x + d) next (dozing s (bk x) d next)
   unfolding dozing heardWith elapsedWith
-  dozes-on {b} {x} {b′} {x′} {ph} {next} s d a px nx px′ nx′ w far lands sums =
+  dozes-within {x} {ph} {next} s d a w far near same cycle old new =
       record {
         tag-is = a .tag-is;
         phase-is = refl;
         place-is =
-            due-place next (dozing s (bk x) d next) (bk x′) w
-            (px′ ∙ (sym lands ∙ ap₂ {C = ℕ} (λ y z. (y + d) % z) (sym px) (sym nx)))
-            (nx′ ∙ sym nx);
-        passed-is =
-            ap (λ k. k * n) (passed-at x s d px nx) ∙
-            (add-mul (s .passed) ((x + d) / n) n ∙
-            omega (arith, a .passed-is, div-add-mod' (x + d) n, lands, sums));
-        gone-by = omega arith;
+            due-place next (dozing s (bk x) d next) (bk (x + d)) w
+            (awaited-within (dozing s (bk x) d next) (bk (x + d)) (same ∙ sym (Dozes.due-within (bk x) d near)) cycle);
+        old-passed = λ h. Dozes.passed-within (bk x) d near s ∙ old h;
+        new-passed = λ h. Dozes.passed-within (bk x) d near s ∙ new h;
+        gone-by = omega (arith, a .gone-by);
         dozes-some = far;
-        counted = omega arith;
+        counted = omega (arith, a .counted, a .dozes-some);
       }
+
+  -- what one awaits that dozes to the start of the next cycle
+  dozes-to-start :
+      {x : ℕ} {ph next : Phase} (s : Listener) (d : ℕ) → Awaits n tag u bk x ph s → awake next ≡ true → 1 ≤ d → x < n →
+      x + d ≡ n → bk x .toCycle ≡ d → bk (x + d) .position ≡ 0 → Awaits n tag u bk (x + d) next (dozing s (bk x) d next)
+  unfolding dozing heardWith elapsedWith
+  dozes-to-start {x} {ph} {next} s d a w far old sums start first =
+      let far-on : bk x .toCycle ≤ d = omega arith in
+      record {
+        tag-is = a .tag-is;
+        phase-is = refl;
+        place-is =
+            due-place next (dozing s (bk x) d next) (bk (x + d)) w (awaited-at-start (dozing s (bk x) d next) (bk (x + d)) first (Dozes.due-start (bk x) d far-on));
+        old-passed = λ h. absurd (omega arith);
+        new-passed = λ h. omega (arith, Dozes.passed-start (bk x) d far-on s, a .old-passed old);
+        gone-by = omega (arith, a .gone-by);
+        dozes-some = far;
+        counted = omega (arith, a .counted, a .dozes-some);
+      }
+
+  -- a doze to a bucket of this cycle, or to the first one of the next: the listener that awaits it
+  pub dozes-on :
+      {x : ℕ} {ph next : Phase} (s : Listener) (d : ℕ) → Awaits n tag u bk x ph s → awake next ≡ true → 1 ≤ d → d ≤ bk x .toCycle →
+      x + d < n + n′ → Awaits n tag u bk (x + d) next (dozing s (bk x) d next)
+  unfolding cycleLength
+  dozes-on {x} {ph} {next} s d a w far near inside = ⊎-elim in-new in-old (le-or-lt n x)
+    where
+      in-new : n ≤ x → Awaits n tag u bk (x + d) next (dozing s (bk x) d next)
+      in-new h =
+          let here : bk x .position ≡ x - n = air .new-position x h (omega arith) in
+          let there : bk (x + d) .position ≡ x + d - n = air .new-position (x + d) (omega arith) inside in
+          let start : bk x .toCycle ≡ n + n′ - x = air .new-start x h (omega arith) in
+          let start′ : bk (x + d) .toCycle ≡ n + n′ - (x + d) = air .new-start (x + d) (omega arith) inside in
+          dozes-within s d a w far (omega arith) (omega arith) (omega arith) (λ l. absurd (omega arith)) (λ l. a .new-passed h)
+
+      in-old : x < n → Awaits n tag u bk (x + d) next (dozing s (bk x) d next)
+      in-old h =
+          let here : bk x .position ≡ x = air .old-position x h in
+          let start : bk x .toCycle ≡ n - x = air .old-start x h in
+          ⊎-elim
+          (λ (l : n ≤ x + d).
+          dozes-to-start s d a w far h (omega arith) (omega arith) (air .new-position (x + d) l inside ∙ omega arith))
+          (λ (l : x + d < n).
+          let there : bk (x + d) .position ≡ x + d = air .old-position (x + d) l in
+          let start′ : bk (x + d) .toCycle ≡ n - (x + d) = air .old-start (x + d) l in
+          dozes-within s d a w far (omega arith) (omega arith) (omega arith) (λ k. a .old-passed h) (λ k. absurd (omega arith)))
+          (le-or-lt n (x + d))
 
   -- 10 does not hold of a doze that stays before the end of the next cycle
   pub not-past :
-      {b x b′ x′ : ℕ} {ph : Phase} (s : Listener) (d : ℕ) → Awaits n tag u bk b x ph s → bk x .position ≡ x →
-      cycleLength (bk x) ≡ n → b′ + x′ ≡ b + x + d → b′ ≤ n → x′ < n → pastNextCycle s (bk x) d ≡ false
+      {x : ℕ} {ph : Phase} (s : Listener) (d : ℕ) → Awaits n tag u bk x ph s → x + d < n + n′ → pastNextCycle s (bk x) d ≡ false
   unfolding pastNextCycle
-  not-past {b} {x} {b′} {x′} {ph} s d a px nx sums hb hx =
-      rw (passed-at x s d px nx)
-      (le-ltb 1 (s .passed + (x + d) / n)
-      (under-two (s .passed + (x + d) / n) n
-      (omega (arith, a .passed-is, add-mul (s .passed) ((x + d) / n) n, div-mul-le-self (x + d) n))))
+  not-past {x} {ph} s d a inside =
+      ⊎-elim
+      (λ (h : n ≤ x). Dozes.past-within (bk x) d (omega (arith, air .new-start x h (omega arith))) s)
+      (λ (h : x < n). rw (a .old-passed h))
+      (le-or-lt n x)

@@ -4,7 +4,7 @@ use mathlib.Core.Path.{_≡_, refl, sym, _∙_, ap, subst}
 use mathlib.Core.Bool.{true}
 use mathlib.Core.Option.{Option, none, some}
 use mathlib.Core.List.{List}
-use Prim.Native.Nat.{ℕ, _+_, _≤_}
+use Prim.Native.Nat.{ℕ, _≤_}
 use native.Mathlib.Omega.{arith}
 use Rattle.buckets.specs.Lengths.{bucketsMost, bucketLinesMost}
 use Rattle.buckets.specs.declared.Kind.the-variants
@@ -47,7 +47,7 @@ module _ (p c g : ℕ) where
       let b = bucket-good (bucket (indexBody ps es)) k in
       record {
         head = sound-head (bucket (indexBody ps es)) b;
-        index = sound-index (p + c) (b .short-cycle) ps es (b .good-rest);
+        index = sound-index c (omega (arith, b .short-cycle)) ps es (b .good-rest);
         is = λ s. ap (λ x. heed s (bucket x)) (index-held ps es (b .good-rest .later-printed));
       }
   index-of (dataBody f ls) k e = let z : _≡_ {A = ℕ} 0 1 = cc in absurd (omega arith)

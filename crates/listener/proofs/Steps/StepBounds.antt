@@ -29,50 +29,50 @@ use Rattle.listener.proofs.Steps.TagsAlone.{matching-few}
 
 -- ---- choices
 
--- a doze that goes on, no further than the longest cycle, and awaits a bucket
-pub record Hop (d : ℕ) (p : Phase) : Type 0 where
+-- a doze that goes on, no further than the next cycle's start, c buckets on, and awaits a bucket
+pub record Hop (c d : ℕ) (p : Phase) : Type 0 where
   pub onward : 1 ≤ d
-  pub near : d ≤ bucketsMost
+  pub near : d ≤ c
   pub wakes : awake p ≡ true
 
 -- a choice that names lines among n, and dozes so
-abbrev pub Bounded : ℕ → Choice → Type 0
-Bounded n (dozes d p i k) = Hop d p × (i + k ≤ n)
-Bounded n (finds i k) = i + k ≤ n
-Bounded n misses = 0 ≤ n
+abbrev pub Bounded : ℕ → ℕ → Choice → Type 0
+Bounded c n (dozes d p i k) = Hop c d p × (i + k ≤ n)
+Bounded c n (finds i k) = i + k ≤ n
+Bounded c n misses = 0 ≤ n
 
-either : (n : ℕ) (b : Bool) (x y : Choice) → Bounded n x → Bounded n y → Bounded n (pick b x y)
-either n true x y h g = h
-either n false x y h g = g
+either : (c n : ℕ) (b : Bool) (x y : Choice) → Bounded c n x → Bounded c n y → Bounded c n (pick b x y)
+either c n true x y h g = h
+either c n false x y h g = g
 
-module _ (m : ℕ) (near : m ≤ bucketsMost) (n tag : ℕ) where
-  bounded-entry : (es : List Entry) → every (entryFits m) es ≡ true → Bounded n (entryChoice tag es)
+module _ (c n tag : ℕ) where
+  bounded-entry : (es : List Entry) → every (entryFits c) es ≡ true → Bounded c n (entryChoice tag es)
   bounded-entry [] h = omega arith
   bounded-entry (e ∷ es) h =
-      let b = both (entryFits m e) (every (entryFits m) es) h in
-      let r = entry-fits m e (b .0) .1 in
-      either n (leb tag (e .tag)) (dozes (e .distance) Either 0 0) (entryChoice tag es)
-      (record { onward = r .onward; near = omega arith; wakes = refl }, omega arith)
+      let b = both (entryFits c e) (every (entryFits c) es) h in
+      let r = entry-fits c e (b .0) .1 in
+      either c n (leb tag (e .tag)) (dozes (e .distance) Either 0 0) (entryChoice tag es)
+      (record { onward = r .onward; near = r .near; wakes = refl }, omega arith)
       (bounded-entry es (b .1))
 
   -- a doze by a pair, or what is chosen behind it
   bounded-pair :
-      (p : Pair) (ps : List Pair) (t : Bool) (rest : Choice) → every (pairFits m) (p ∷ ps) ≡ true →
-      (every (pairFits m) ps ≡ true → Bounded n rest) → Bounded n (pick t (dozes (p .distance) Index 0 0) rest)
+      (p : Pair) (ps : List Pair) (t : Bool) (rest : Choice) → every (pairFits c) (p ∷ ps) ≡ true →
+      (every (pairFits c) ps ≡ true → Bounded c n rest) → Bounded c n (pick t (dozes (p .distance) Index 0 0) rest)
   bounded-pair p ps t rest h behind =
-      let b = both (pairFits m p) (every (pairFits m) ps) h in
-      let r = pair-fits m p (b .0) .1 in
-      either n t (dozes (p .distance) Index 0 0) rest (record { onward = r .onward; near = omega arith; wakes = refl }, omega arith) (behind (b .1))
+      let b = both (pairFits c p) (every (pairFits c) ps) h in
+      let r = pair-fits c p (b .0) .1 in
+      either c n t (dozes (p .distance) Index 0 0) rest (record { onward = r .onward; near = r .near; wakes = refl }, omega arith) (behind (b .1))
 
   bounded-later :
-      (ps : List Pair) (es : List Entry) → every (pairFits m) ps ≡ true → every (entryFits m) es ≡ true →
-      Bounded n (laterChoice tag ps es)
+      (ps : List Pair) (es : List Entry) → every (pairFits c) ps ≡ true → every (entryFits c) es ≡ true →
+      Bounded c n (laterChoice tag ps es)
   bounded-later [] es h g = bounded-entry es g
   bounded-later (p ∷ ps) es h g = bounded-pair p ps (tagBelow (p .tag) tag) (laterChoice tag ps es) h (λ k. bounded-later ps es k g)
 
   bounded-index :
-      (ps : List Pair) (es : List Entry) → every (pairFits m) ps ≡ true → every (entryFits m) es ≡ true →
-      Bounded n (indexChoice tag ps es)
+      (ps : List Pair) (es : List Entry) → every (pairFits c) ps ≡ true → every (entryFits c) es ≡ true →
+      Bounded c n (indexChoice tag ps es)
   bounded-index [] es h g = bounded-entry es g
   bounded-index (p ∷ ps) es h g = bounded-pair p ps (atMost tag (p .tag)) (laterChoice tag ps es) h (λ k. bounded-later ps es k g)
 
@@ -91,19 +91,19 @@ before-matching tag (l ∷ ls) = passed (eqb (l .tag) tag) (before-matching tag 
     passed true r k = omega arith
     passed false r k = omega arith
 
-bounded-data : (tag f : ℕ) (ls : List Line) → f ≤ bucketsMost → Bounded (length ls) (dataChoice tag f ls)
+bounded-data : (c tag f : ℕ) (ls : List Line) → f ≤ c → Bounded c (length ls) (dataChoice tag f ls)
 unfolding dataChoice
-bounded-data tag f ls h =
+bounded-data c tag f ls h =
     let k = length (matching tag ls) in
     let i = before tag ls in
     let r : i + k ≤ length ls = before-matching tag ls in
     let last = lastIs tag ls in
-    either (length ls) (eqb k 0) misses (pick (last && not (eqb f 0)) (dozes f Data i k) (finds i k)) (omega arith)
+    either c (length ls) (eqb k 0) misses (pick (last && not (eqb f 0)) (dozes f Data i k) (finds i k)) (omega arith)
     (by-follow-on last (eqb f 0) refl r)
   where
     by-follow-on :
         (last zero : Bool) → eqb f 0 ≡ zero → before tag ls + length (matching tag ls) ≤ length ls →
-        Bounded (length ls)
+        Bounded c (length ls)
         (pick (last && not zero) (dozes f Data (before tag ls) (length (matching tag ls)))
         (finds (before tag ls) (length (matching tag ls))))
     by-follow-on false zero e r = r
@@ -114,15 +114,14 @@ bounded-data tag f ls h =
 
 module _ (b : Bucket) (g : Good b) (tag : ℕ) where
   bounded-body :
-      (x : Body) → GoodBody (b .position + b .toCycle) (b .toCycle) x → Bounded (length (bodyLines x)) (bodyChoice tag x)
-  bounded-body (indexBody ps es) k =
-      bounded-index (b .position + b .toCycle) (g .short-cycle) 0 tag ps es (k .pairs-fit) (k .entries-fit)
-  bounded-body (dataBody f ls) k = bounded-data tag f ls (omega (arith, k .follow-on-near, g .short-cycle))
+      (x : Body) → GoodBody (b .toCycle) x → Bounded (b .toCycle) (length (bodyLines x)) (bodyChoice tag x)
+  bounded-body (indexBody ps es) k = bounded-index (b .toCycle) 0 tag ps es (k .pairs-fit) (k .entries-fit)
+  bounded-body (dataBody f ls) k = bounded-data (b .toCycle) tag f ls (omega (arith, k .follow-on-near))
 
-  pub bounded-choice : (p : Phase) → Bounded (length (bodyLines (b .body))) (choice p tag b)
+  pub bounded-choice : (p : Phase) → Bounded (b .toCycle) (length (bodyLines (b .body))) (choice p tag b)
   bounded-choice TuneIn =
       let r = g .segment-reached in
-      (record { onward = r .onward; near = omega (arith, r .near, g .short-cycle); wakes = refl }, omega arith)
+      (record { onward = r .onward; near = r .near; wakes = refl }, omega arith)
   bounded-choice Index = bounded-body (b .body) (g .good-rest)
   bounded-choice Either = bounded-body (b .body) (g .good-rest)
   bounded-choice Data = bounded-body (b .body) (g .good-rest)
@@ -152,12 +151,14 @@ within-ended : (n : ℕ) (s : Listener) → Within n (refusedEnded s)
 unfolding refusedEnded stepped
 within-ended n s = record { lines = omega arith; near = omega arith }
 
-within-decided : (n : ℕ) (s : Listener) (b : Bucket) (c : Choice) → Bounded n c → Within n (decided s b c)
+within-decided :
+    (n : ℕ) (s : Listener) (b : Bucket) (c : Choice) → Good b → Bounded (b .toCycle) n c → Within n (decided s b c)
 unfolding stepped
-within-decided n s b (dozes d p i k) h =
-    either-step n (pastNextCycle s b d) (within-refused n s 10) (record { lines = h .1; near = h .0 .near })
-within-decided n s b (finds i k) h = record { lines = h; near = omega arith }
-within-decided n s b misses h = record { lines = omega arith; near = omega arith }
+within-decided n s b (dozes d p i k) g h =
+    either-step n (pastNextCycle s b d) (within-refused n s 10)
+    (record { lines = h .1; near = omega (arith, h .0 .near, g .short-cycle) })
+within-decided n s b (finds i k) g h = record { lines = h; near = omega arith }
+within-decided n s b misses g h = record { lines = omega arith; near = omega arith }
 
 within-read :
     (s : Listener) (bytes : List ℕ) (o : Option Bucket) → readBucket bytes ≡ o →
@@ -168,7 +169,7 @@ within-read s bytes (some b) e =
     let n = length (bodyLines (b .body)) in
     let g = bucket-good b (print-of-read-bucket bytes e .1) in
     either-step n (awaited s b)
-    (within-decided n s b (choice (s .phase) (s .tag) b) (bounded-choice b g (s .tag) (s .phase)))
+    (within-decided n s b (choice (s .phase) (s .tag) b) g (bounded-choice b g (s .tag) (s .phase)))
     (within-refused n s 9)
 
 module _ (s : Listener) (bytes : List ℕ) where
@@ -187,11 +188,11 @@ module _ (s : Listener) (bytes : List ℕ) where
 pub few-lines : (bytes : List ℕ) (o : Option Bucket) → readBucket bytes ≡ o → length (linesRead o) ≤ 8
 few-lines bytes none e = omega arith
 few-lines bytes (some b) e =
-    of-body (b .position + b .toCycle) (b .toCycle) (b .body) (bucket-good b (print-of-read-bucket bytes e .1) .good-rest)
+    of-body (b .toCycle) (b .body) (bucket-good b (print-of-read-bucket bytes e .1) .good-rest)
   where
-    of-body : (n c : ℕ) (x : Body) → GoodBody n c x → length (bodyLines x) ≤ 8
-    of-body n c (indexBody ps es) g = omega arith
-    of-body n c (dataBody f ls) g = g .few-lines
+    of-body : (c : ℕ) (x : Body) → GoodBody c x → length (bodyLines x) ≤ 8
+    of-body c (indexBody ps es) g = omega arith
+    of-body c (dataBody f ls) g = g .few-lines
 
 pub few-named : (s : Listener) (bytes : List ℕ) → step s bytes .first + step s bytes .count ≤ 8
 few-named s bytes = omega (arith, within-step s bytes .lines, few-lines bytes (readBucket bytes) refl)

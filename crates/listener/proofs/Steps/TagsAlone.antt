@@ -13,7 +13,7 @@ use Rattle.buckets.specs.declared.Line.{Line}
 use Rattle.buckets.specs.declared.Head.{Head}
 use Rattle.buckets.specs.Bucket.{Body, dataBody, cycleLength}
 use Rattle.buckets.specs.Inner.Held.{bucketWith}
-use Rattle.listener.specs.Listener.{before, matching, lastIs, dataChoice, Choice, dozes, finds, misses, choice, awaited, letterAwaited, placeAwaited, decided, heed, passedWith, pastNextCycle, dozing}
+use Rattle.listener.specs.Listener.{before, matching, lastIs, dataChoice, Choice, dozes, finds, misses, choice, awaited, letterAwaited, placeAwaited, decided, heed, reachesStart, dueWith, passedWith, pastNextCycle, dozing}
 use Rattle.listener.specs.Inner.OnReading.{tagged, taggedLines}
 use Rattle.listener.specs.declared.Phase.{Phase}
 use Rattle.listener.specs.declared.Phase.the-variants.{TuneIn, Index, Either, Data, Ended}
@@ -66,7 +66,7 @@ module _ (s : Listener) (h : Head) where
   -- what is decided hangs on a bucket's head alone
   pub decided-by-head :
       (x y : Body) (c : Choice) → decided s (bucketWith h x) c ≡ decided s (bucketWith h y) c
-  unfolding bucketWith passedWith pastNextCycle dozing cycleLength
+  unfolding bucketWith reachesStart dueWith passedWith pastNextCycle dozing cycleLength
   decided-by-head x y (dozes d p i k) = refl
   decided-by-head x y (finds i k) = refl
   decided-by-head x y misses = refl

@@ -1,13 +1,14 @@
 -- At the target: the lines of the tag, or none, and as many data buckets heard as hold it, but at least one.
 -- Assumes nothing.
 use mathlib.Core.Path.{_≡_, refl, sym, _∙_, ap, subst}
-use Prim.Native.Nat.{ℕ, suc, _+_, _-_, _≤_, _<_, max}
+use Prim.Native.Nat.{ℕ, suc, _+_, _-_, _<_, max}
 use mathlib.Core.Bool.{Bool, true, false, true≢false}
 use mathlib.Core.List.{List, [], _∷_, _++_}
 use native.Mathlib.Omega.{arith}
 use Rattle.buckets.specs.declared.Line.{Line}
+use Rattle.buckets.specs.Bucket.{Bucket}
 use Rattle.cycle.specs.Tree.{Plan, linesOf, lastTag}
-use Rattle.cycle.specs.Cycle.{isData, followOnFrom, cycleSize}
+use Rattle.cycle.specs.Cycle.{isData, followOnFrom}
 use Rattle.cycle.proofs.Lines.DataTags.{AcceptedPlan}
 use Rattle.listener.specs.Listener.{matching}
 use Rattle.listener.specs.Hearing.{found, runsWith}
@@ -16,8 +17,8 @@ use Rattle.listener.specs.EndPlace.{target, lastHeard, position}
 use Rattle.listener.specs.declared.Phase.{Phase}
 use Rattle.listener.proofs.Walks.Target.{target-le, at-target}
 use Rattle.listener.proofs.Walks.DataLines.{linesFrom, runsFrom, lines-next, runs-hold, lines-skip, runs-skip, lines-to, runs-to, lines-end, all-lines, all-runs, holds-last, Stops, stops-over}
-use Rattle.listener.proofs.Walks.Walk.{awake, misses-here}
-use Rattle.listener.proofs.Walks.Ways.{Spot, here, sentTo, here-below, WalkOn, walk-as}
+use Rattle.listener.proofs.Walks.Walk.{awake}
+use Rattle.listener.proofs.Walks.Ways.{Spot, here, sentTo, Carries, WalkOn, misses-at, walk-as}
 use Rattle.listener.proofs.Walks.DataRun.{TakesData, all-sent, data-position, data-heard, data-choice, data-misses, data-run}
 use Rattle.listener.proofs.Walks.TagRuns.{holds, matching-some}
 
@@ -30,12 +31,12 @@ unfoldable pub runs : Plan → ℕ → ℕ
 runs t tag = runsWith (t .p) tag (t .lines)
 
 -- a walk that ends as it should, in h steps, at place z
-abbrev pub EndsAt : Plan → ℕ → ℕ → ℕ → Phase → ℕ → ℕ → Type 0
-EndsAt t tag b x ph h z = WalkOn t tag b x ph h (endWanted (wanted t tag)) z (wanted t tag)
+abbrev pub EndsAt : {last : ℕ} {bk : ℕ → Bucket} (t : Plan) → ℕ → Carries last bk t → ℕ → Phase → ℕ → ℕ → Type 0
+EndsAt t tag c x ph h z = WalkOn t tag c x ph h (endWanted (wanted t tag)) z (wanted t tag)
 
 -- the same, at the last data bucket heard
-abbrev pub Leads : Plan → ℕ → ℕ → ℕ → Phase → ℕ → Type 0
-Leads t tag b x ph h = EndsAt t tag b x ph h (b + position t (lastHeard t tag))
+abbrev pub Leads : {last : ℕ} {bk : ℕ → Bucket} (t : Plan) → ℕ → Carries last bk t → ℕ → Phase → ℕ → Type 0
+Leads t tag c x ph h = EndsAt t tag c x ph h (c .base + position t (lastHeard t tag))
 
 module _ (t : Plan) (a : AcceptedPlan t) (tag : ℕ) where
   pub wanted-from : wanted t tag ≡ linesFrom t tag (target t tag)
@@ -87,27 +88,27 @@ module _ (t : Plan) (a : AcceptedPlan t) (tag : ℕ) where
       by (l ∷ ls) n = refl
 
   pub arrives :
-      (b : ℕ) → b ≤ cycleSize t → (s : Spot t) → isData t (s .slot) ≡ true → sentTo s ≡ target t tag → (ph : Phase) →
-      awake ph ≡ true → TakesData ph → Leads t tag b (here s) ph (max 1 (runs t tag))
-  arrives b hb s d e ph w takes = by (holds tag (linesOf t (sentTo s))) refl
+      {last : ℕ} {bk : ℕ → Bucket} (c : Carries last bk t) (s : Spot t) → isData t (s .slot) ≡ true → sentTo s ≡ target t tag →
+      (ph : Phase) → awake ph ≡ true → TakesData ph → Leads t tag c (here s) ph (max 1 (runs t tag))
+  arrives c s d e ph w takes = by (holds tag (linesOf t (sentTo s))) refl
     where
       below : sentTo s < t .d
       below = omega (arith, all-sent t a s d)
 
-      by : (c : Bool) → holds tag (linesOf t (sentTo s)) ≡ c → Leads t tag b (here s) ph (max 1 (runs t tag))
+      by : (o : Bool) → holds tag (linesOf t (sentTo s)) ≡ o → Leads t tag c (here s) ph (max 1 (runs t tag))
       by true h =
           let q : ℕ = sentTo s in
           let some-runs : max 1 (runs t tag) ≡ runsFrom t tag q =
           ap (max 1) (runs-from ∙ ap (runsFrom t tag) (sym e)) ∙ omega (arith, runs-hold t tag q below h) in
           let same-end : q + runsFrom t tag q - 1 ≡ lastHeard t tag = omega (arith, e, some-runs, heard-last) in
-          subst (λ z. WalkOn t tag b (here s) ph (max 1 (runs t tag)) z (b + position t (lastHeard t tag)) (wanted t tag))
+          subst (λ z. WalkOn t tag c (here s) ph (max 1 (runs t tag)) z (c .base + position t (lastHeard t tag)) (wanted t tag))
           (sym (holds-some (rw e at h)))
-          (walk-as (sym some-runs) (ap (λ z. b + position t z) same-end) (ap (linesFrom t tag) e ∙ sym wanted-from)
-          (data-run t a tag b hb (t .d - suc q) s d (omega (arith, below)) ph w takes h))
+          (walk-as (sym some-runs) (ap (λ z. c .base + position t z) same-end) (ap (linesFrom t tag) e ∙ sym wanted-from)
+          (data-run t a tag c (t .d - suc q) s d (omega (arith, below)) ph w takes h))
       by false h =
           let l : Lacks = lacks (rw e at below) (rw e at h) in
           let same-end : lastHeard t tag ≡ sentTo s = omega (arith, e, l .no-runs, heard-last) in
           rw (l .no-lines, l .no-runs, same-end, data-position t a s d)
-          (misses-here hb (here-below s) (data-heard t a s d ph takes)
+          (misses-at c s tag (data-heard t a s d ph takes)
           (data-choice t a s d ph tag w ∙
           data-misses tag (followOnFrom t (lastTag t (sentTo s)) 1 (s .rest)) (linesOf t (sentTo s)) h))

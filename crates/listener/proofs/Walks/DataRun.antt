@@ -3,7 +3,7 @@
 -- Assumes nothing.
 use mathlib.Core.Path.{_≡_, refl, sym, _∙_, ap, subst}
 use mathlib.Core.Logic.{⊎-elim}
-use Prim.Native.Nat.{ℕ, zero, suc, _+_, _-_, _≤_, _<_}
+use Prim.Native.Nat.{ℕ, zero, suc, _+_, _-_, _<_}
 use mathlib.Core.Bool.{Bool, true, false, _&&_, _||_, not, true≢false, false≢true}
 use mathlib.Core.Option.{Option}
 use mathlib.Core.List.{List, [], _∷_, _++_, append-nil}
@@ -15,7 +15,7 @@ use Rattle.columns.specs.Lists.{pick, any}
 use Rattle.buckets.specs.declared.Line.{Line}
 use Rattle.buckets.specs.Bucket.{Bucket, dataBody}
 use Rattle.cycle.specs.Tree.{Plan, linesOf, firstTag, lastTag}
-use Rattle.cycle.specs.Layouts.{Slot, slots}
+use Rattle.cycle.specs.Layouts.{Slot}
 use Rattle.cycle.specs.Cycle.{isData, followOnFrom, bodyOf, cycleSize}
 use Rattle.cycle.specs.Inner.Held.{lastOf, cycleBucket}
 use Rattle.cycle.proofs.Sequences.Sequence.{dataCount}
@@ -32,8 +32,8 @@ use Rattle.listener.specs.declared.Phase.{Phase}
 use Rattle.listener.specs.declared.Phase.the-variants.{TuneIn, Index, Either, Data, Ended}
 use Rattle.listener.proofs.Walks.DataLines.{linesFrom, runsFrom, lines-next, runs-hold, last-from, holds-first, Stops, stops-over, stops-end, stops-break}
 use Rattle.listener.proofs.Walks.Places.{count-data}
-use Rattle.listener.proofs.Walks.Walk.{finds-here, awake, linesAt}
-use Rattle.listener.proofs.Walks.Ways.{Spot, here, sentTo, here-below, WalkOn, further, further-sent, hop-within, walk-as, body-here}
+use Rattle.listener.proofs.Walks.Walk.{awake, linesAt}
+use Rattle.listener.proofs.Walks.Ways.{Spot, here, sentTo, Carries, WalkOn, finds-at, further, further-sent, hop-within, walk-as, body-here}
 use Rattle.listener.proofs.Walks.TagRuns.{holds, matching-none, matching-some, matching-run}
 
 pub choice-awake : (ph : Phase) (tag : ℕ) (b : Bucket) → awake ph ≡ true → choice ph tag b ≡ bodyChoice tag (b .body)
@@ -95,10 +95,10 @@ all-sent t a s d =
     (sym (count-append t (s .before) (s .slot ∷ s .rest)) ∙ (ap (dataCount t) (sym (s .splits)) ∙ a .keeps .all-sent))
 
 pub body-data :
-    (t : Plan) (toCycle : ℕ) (last : Option ℕ) (x : Slot) (rest all : List Slot) → isData t x ≡ true →
-    bodyOf t toCycle last x rest all ≡ dataBody (followOnFrom t (lastTag t (x .place)) 1 rest) (linesOf t (x .place))
+    (t : Plan) (toCycle : ℕ) (last : Option ℕ) (x : Slot) (rest : List Slot) → isData t x ≡ true →
+    bodyOf t toCycle last x rest ≡ dataBody (followOnFrom t (lastTag t (x .place)) 1 rest) (linesOf t (x .place))
 unfolding bodyOf
-body-data t toCycle last x rest all d = rw d
+body-data t toCycle last x rest d = rw d
 
 module _ (t : Plan) (a : AcceptedPlan t) (s : Spot t) (d : isData t (s .slot) ≡ true) where
   pub data-place : s .slot .place ≡ sentTo s
@@ -118,7 +118,7 @@ module _ (t : Plan) (a : AcceptedPlan t) (s : Spot t) (d : isData t (s .slot) �
       cycleBucket t (here s) .body ≡ dataBody (followOnFrom t (lastTag t (sentTo s)) 1 (s .rest)) (linesOf t (sentTo s))
   data-body =
       body-here t (a .keeps) s ∙
-      (body-data t (cycleSize t - here s) (lastOf t (sentTo s)) (s .slot) (s .rest) (slots t) d ∙
+      (body-data t (cycleSize t - here s) (lastOf t (sentTo s)) (s .slot) (s .rest) d ∙
       ap (λ q. dataBody (followOnFrom t (lastTag t q) 1 (s .rest)) (linesOf t q)) data-place)
 
   pub data-heard : (ph : Phase) → TakesData ph → letterAwaited ph (cycleBucket t (here s) .body) ≡ true
@@ -165,28 +165,28 @@ unfolding further
 hit-data s f = f .is
 
 -- a walk from data bucket q, at place x, to the last bucket of the row that holds the tag
-abbrev pub RowFrom : Plan → ℕ → ℕ → ℕ → Phase → ℕ → Type 0
-RowFrom t tag b x ph q =
-    WalkOn t tag b x ph (runsFrom t tag q) found (b + position t (q + runsFrom t tag q - 1)) (linesFrom t tag q)
+abbrev pub RowFrom : {last : ℕ} {bk : ℕ → Bucket} (t : Plan) → ℕ → Carries last bk t → ℕ → Phase → ℕ → Type 0
+RowFrom t tag c x ph q =
+    WalkOn t tag c x ph (runsFrom t tag q) found (c .base + position t (q + runsFrom t tag q - 1)) (linesFrom t tag q)
 
-module _ (t : Plan) (a : AcceptedPlan t) (tag b : ℕ) (hb : b ≤ cycleSize t) where
+module _ (t : Plan) (a : AcceptedPlan t) (tag : ℕ) {end : ℕ} {bk : ℕ → Bucket} (c : Carries end bk t) where
   -- the row stops here
   pub finds-last :
       (s : Spot t) → isData t (s .slot) ≡ true → (ph : Phase) → awake ph ≡ true → TakesData ph →
       holds tag (linesOf t (sentTo s)) ≡ true →
       (lastIs tag (linesOf t (sentTo s)) && not (eqb (followOnFrom t (lastTag t (sentTo s)) 1 (s .rest)) 0)) ≡ false →
       Stops t a tag (sentTo s) →
-      RowFrom t tag b (here s) ph (sentTo s)
+      RowFrom t tag c (here s) ph (sentTo s)
   finds-last s d ph w takes h n stops =
       let q : ℕ = sentTo s in
       let below : q < t .d = omega (arith, data-all t a s d) in
       let last : q + runsFrom t tag q - 1 ≡ q = omega (arith, runs-hold t tag q below h, stops .no-runs) in
       walk-as
       (sym (runs-hold t tag q below h ∙ ap suc (stops .no-runs)))
-      (ap (λ z. b + z) (sym (ap (position t) last ∙ data-position t a s d)))
+      (ap (λ z. c .base + z) (sym (ap (position t) last ∙ data-position t a s d)))
       (data-lines t a s d tag ∙
       sym (lines-next t tag q ∙ (ap (λ z. matching tag (linesOf t q) ++ z) (stops .no-lines) ∙ append-nil (matching tag (linesOf t q)))))
-      (finds-here (before tag (linesOf t q)) (length (matching tag (linesOf t q))) hb (here-below s)
+      (finds-at c s tag (before tag (linesOf t q)) (length (matching tag (linesOf t q)))
       (data-heard t a s d ph takes)
       (data-choice t a s d ph tag w ∙ data-finds tag (followOnFrom t (lastTag t q) 1 (s .rest)) (linesOf t q) h n))
 
@@ -194,8 +194,8 @@ module _ (t : Plan) (a : AcceptedPlan t) (tag b : ℕ) (hb : b ≤ cycleSize t) 
   pub follows-on :
       (s : Spot t) (d : isData t (s .slot) ≡ true) (f : First (isData t) (s .rest)) (ph : Phase) → awake ph ≡ true → TakesData ph →
       holds tag (linesOf t (sentTo s)) ≡ true → lastTag t (sentTo s) ≡ tag → firstTag t (suc (sentTo s)) ≡ tag →
-      RowFrom t tag b (here (further s (f .skipped) (f .hit) (f .behind) (f .splits))) Data (suc (sentTo s)) →
-      RowFrom t tag b (here s) ph (sentTo s)
+      RowFrom t tag c (here (further s (f .skipped) (f .hit) (f .behind) (f .splits))) Data (suc (sentTo s)) →
+      RowFrom t tag c (here s) ph (sentTo s)
   follows-on s d f ph w takes h last first more =
       let q : ℕ = sentTo s in
       let below : q < t .d = omega (arith, data-all t a s d) in
@@ -208,10 +208,9 @@ module _ (t : Plan) (a : AcceptedPlan t) (tag b : ℕ) (hb : b ≤ cycleSize t) 
       let same-end : suc q + runsFrom t tag (suc q) - 1 ≡ q + runsFrom t tag q - 1 = omega (arith, runs-hold t tag q below h) in
       walk-as
       (sym (runs-hold t tag q below h))
-      (ap (λ z. b + position t z) same-end)
+      (ap (λ z. c .base + position t z) same-end)
       (ap (λ z. z ++ linesFrom t tag (suc q)) (data-lines t a s d tag) ∙ sym (lines-next t tag q))
-      (hop-within s (f .skipped) (f .hit) (f .behind) (f .splits) tag b (before tag (linesOf t q)) (length (matching tag (linesOf t q)))
-      hb
+      (hop-within s (f .skipped) (f .hit) (f .behind) (f .splits) tag c (before tag (linesOf t q)) (length (matching tag (linesOf t q)))
       (data-heard t a s d ph takes)
       (data-choice t a s d ph tag w ∙
       (data-follows tag (followOnFrom t (lastTag t q) 1 (s .rest)) (linesOf t q) h
@@ -225,8 +224,8 @@ module _ (t : Plan) (a : AcceptedPlan t) (tag b : ℕ) (hb : b ≤ cycleSize t) 
       (s : Spot t) → isData t (s .slot) ≡ true → (ph : Phase) → awake ph ≡ true → TakesData ph →
       holds tag (linesOf t (sentTo s)) ≡ true →
       ((f : First (isData t) (s .rest)) → holds tag (linesOf t (suc (sentTo s))) ≡ true →
-      RowFrom t tag b (here (further s (f .skipped) (f .hit) (f .behind) (f .splits))) Data (suc (sentTo s))) →
-      RowFrom t tag b (here s) ph (sentTo s)
+      RowFrom t tag c (here (further s (f .skipped) (f .hit) (f .behind) (f .splits))) Data (suc (sentTo s))) →
+      RowFrom t tag c (here s) ph (sentTo s)
   data-step s d ph w takes h go = by (eqb (lastTag t q) tag) refl
     where
       q : ℕ
@@ -238,8 +237,8 @@ module _ (t : Plan) (a : AcceptedPlan t) (tag b : ℕ) (hb : b ≤ cycleSize t) 
       ends : follow ≡ 0 → eqb (lastTag t q) tag ≡ true → (lastIs tag (linesOf t q) && not (eqb follow 0)) ≡ false
       ends f l = rw (data-last t a s d tag, l, f)
 
-      starts : (f : First (isData t) (s .rest)) → lastTag t q ≡ tag → (c : Bool) → eqb (firstTag t (suc q)) tag ≡ c →
-          RowFrom t tag b (here s) ph q
+      starts : (f : First (isData t) (s .rest)) → lastTag t q ≡ tag → (o : Bool) → eqb (firstTag t (suc q)) tag ≡ o →
+          RowFrom t tag c (here s) ph q
       starts f l true e =
           let first : firstTag t (suc q) ≡ tag = eqb-true (firstTag t (suc q)) tag e in
           let below : suc q < t .d = next-below t a s d f in
@@ -253,7 +252,7 @@ module _ (t : Plan) (a : AcceptedPlan t) (tag b : ℕ) (hb : b ≤ cycleSize t) 
           finds-last s d ph w takes h (ends none-follows (eq-eqb (lastTag t q) tag l))
           (stops-break t a tag q (next-below t a s d f) l other)
 
-      by : (c : Bool) → eqb (lastTag t q) tag ≡ c → RowFrom t tag b (here s) ph q
+      by : (o : Bool) → eqb (lastTag t q) tag ≡ o → RowFrom t tag c (here s) ph q
       by false e =
           let other : lastTag t q ≡ tag → ⊥ = eqb-false (lastTag t q) tag e in
           finds-last s d ph w takes h (rw (data-last t a s d tag, e))
@@ -269,15 +268,15 @@ module _ (t : Plan) (a : AcceptedPlan t) (tag b : ℕ) (hb : b ≤ cycleSize t) 
 
   -- from a bucket that holds the tag
   pub data-run :
-      (c : ℕ) (s : Spot t) → isData t (s .slot) ≡ true → sentTo s + suc c ≡ t .d → (ph : Phase) → awake ph ≡ true →
+      (more : ℕ) (s : Spot t) → isData t (s .slot) ≡ true → sentTo s + suc more ≡ t .d → (ph : Phase) → awake ph ≡ true →
       TakesData ph → holds tag (linesOf t (sentTo s)) ≡ true →
-      RowFrom t tag b (here s) ph (sentTo s)
+      RowFrom t tag c (here s) ph (sentTo s)
   data-run zero s d e ph w takes h =
       data-step s d ph w takes h (λ f g. absurd (omega (arith, next-below t a s d f)))
-  data-run (suc c) s d e ph w takes h =
+  data-run (suc more) s d e ph w takes h =
       data-step s d ph w takes h
       (λ f g.
       let n : Spot t = further s (f .skipped) (f .hit) (f .behind) (f .splits) in
       let m : sentTo n ≡ suc (sentTo s) = next-data t a s d f in
-      subst (RowFrom t tag b (here n) Data) m
-      (data-run c n (hit-data s f) (omega arith) Data refl (λ f ls. refl) (rw m g)))
+      subst (RowFrom t tag c (here n) Data) m
+      (data-run more n (hit-data s f) (omega arith) Data refl (λ f ls. refl) (rw m g)))

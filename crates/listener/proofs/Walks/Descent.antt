@@ -4,16 +4,17 @@
 use mathlib.Core.Path.{_≡_, refl, sym, _∙_, ap}
 use Prim.Native.Nat.{ℕ, zero, suc, _+_, _-_, _*_, _/_, _^_, _≤_, _<_, min, max}
 use mathlib.Core.Bool.{true, false}
-use mathlib.Core.List.{List, _++_}
+use mathlib.Core.List.{List}
 use native.Mathlib.Nat.{suc-add}
 use native.Mathlib.Numerals.{add-one}
 use native.Mathlib.Omega.{arith}
 use lib.Dec.{ltb}
 use lib.ListN.{length}
 use borrow.Author.Tests.{le-ltb}
+use Rattle.buckets.specs.Bucket.{Bucket}
 use Rattle.cycle.specs.Tree.{Plan, above, width, children, largestTag}
-use Rattle.cycle.specs.Layouts.{Slot, slots}
-use Rattle.cycle.specs.Cycle.{occurs, toNext, isData, hasPairs, laterPair, entry, entries, cycleSize}
+use Rattle.cycle.specs.Layouts.{Slot}
+use Rattle.cycle.specs.Cycle.{occurs, toNext, isData, hasPairs, laterPair, entry, entries}
 use Rattle.cycle.specs.Inner.Held.{cycleBucket}
 use Rattle.cycle.proofs.Sequences.Sequence.{IndexKeeps, Comes, placeAbove}
 use Rattle.cycle.proofs.Trees.TreeLaws.{above-add, above-suc, above-le, lt-width, children-bounds}
@@ -25,9 +26,9 @@ use Rattle.listener.specs.EndPlace.{target}
 use Rattle.listener.specs.declared.Phase.{Phase}
 use Rattle.listener.specs.declared.Phase.the-variants.{Index, Either}
 use Rattle.listener.proofs.Walks.Target.{entry-test, pair-test}
-use Rattle.listener.proofs.Walks.Places.{distance-within, count-index}
+use Rattle.listener.proofs.Walks.Places.{distance-first, count-index}
 use Rattle.listener.proofs.Walks.Walk.{awake, linesAt}
-use Rattle.listener.proofs.Walks.Ways.{Spot, here, sentTo, further, further-sent, hop-within, walk-as}
+use Rattle.listener.proofs.Walks.Ways.{Spot, here, sentTo, Carries, further, further-sent, hop-within, walk-as}
 use Rattle.listener.proofs.Walks.DataRun.{place-sent}
 use Rattle.listener.proofs.Walks.Arrival.{runs, Leads, arrives}
 use Rattle.listener.proofs.Walks.IndexTells.{TakesIndex, entry-found, entry-choice, index-heard}
@@ -70,11 +71,11 @@ named i j x h = let b = occurs-is i j x h in record { level-is = b .0; place-is 
 
 -- the distance to what comes in the rest of the cycle
 pub comes-at :
-    (t : Plan) (s q i j : ℕ) (rest all : List Slot) (c : Comes t s q i j rest) →
-    toNext (rest ++ all) i j ≡ suc (length (c .skipped))
+    {t : Plan} {s q i j : ℕ} {rest : List Slot} (c : Comes t s q i j rest) → toNext rest i j ≡ suc (length (c .skipped))
 unfolding toNext
-comes-at t s q i j rest all c =
-    distance-within (occurs i j) rest (c .skipped) (c .hit) (c .behind) all (c .splits) (c .first) (c .is)
+comes-at c =
+    distance-first
+    (record { skipped = c .skipped; hit = c .hit; behind = c .behind; splits = c .splits; is = c .is; fresh = c .first })
 
 -- ---- the way down
 
@@ -106,11 +107,11 @@ module _ (t : Plan) (a : AcceptedPlan t) (tag : ℕ) (below : target t tag < t .
       (s : Spot t) → isData t (s .slot) ≡ false → s .slot .level ≤ t .k → sentTo s ≤ target t tag →
       s .slot .place ≡ placeAbove t (s .slot .level) (target t tag) → (ph : Phase) → awake ph ≡ true →
       choice ph tag (cycleBucket t (here s)) ≡
-      dozes (toNext (s .rest ++ slots t) (s .slot .level + 1) (placeAbove t (s .slot .level + 1) (target t tag))) Either 0 0
+      dozes (toNext (s .rest) (s .slot .level + 1) (placeAbove t (s .slot .level + 1) (target t tag))) Either 0 0
   unfolding entries entry children laterPair
   child-choice s n high unsent is ph w =
       entry-choice t a s n ph tag w unsent quiet ∙
-      entry-found tag child (entry t (s .rest ++ slots t) (i + 1)) (j * t .n) (min (j * t .n + t .n) (width t (suc i)) - j * t .n)
+      entry-found tag child (entry t (s .rest) (i + 1)) (j * t .n) (min (j * t .n + t .n) (width t (suc i)) - j * t .n)
       (bounds .0)
       (omega (arith, bounds .0, bounds .1))
       (λ c u v. entry-test t a tag (i + 1) c below (omega arith) (rw (add-one i) (omega arith)))
@@ -135,7 +136,7 @@ module _ (t : Plan) (a : AcceptedPlan t) (tag : ℕ) (below : target t tag < t .
 
       quiet :
           (h : ℕ) → hasPairs t (s .slot) ≡ true → 2 ≤ h → h ≤ i →
-          tagBelow (laterPair t (s .rest ++ slots t) (s .slot) h .tag) tag ≡ false
+          tagBelow (laterPair t (s .rest) (s .slot) h .tag) tag ≡ false
       quiet h p u v =
           let e : above (t .n) (i - h) j ≡ placeAbove t h q = ap (above (t .n) (i - h)) is ∙ above-of t i h q v (omega arith) in
           let z : ltb (largestTag t h (placeAbove t h q)) tag ≡ false =
@@ -145,35 +146,35 @@ module _ (t : Plan) (a : AcceptedPlan t) (tag : ℕ) (below : target t tag < t .
 
   -- one hop down
   pub enters :
-      (b : ℕ) → b ≤ cycleSize t → (s : Spot t) (n : isData t (s .slot) ≡ false) → sentTo s ≤ target t tag →
+      {last : ℕ} {bk : ℕ → Bucket} (on : Carries last bk t) (s : Spot t) (n : isData t (s .slot) ≡ false) → sentTo s ≤ target t tag →
       s .slot .place ≡ placeAbove t (s .slot .level) (target t tag) → (ph : Phase) → awake ph ≡ true → TakesIndex ph → (h : ℕ) →
       ((c : Comes t (sentTo s) (target t tag) (s .slot .level + 1) (placeAbove t (s .slot .level + 1) (target t tag)) (s .rest)) →
-      Leads t tag b (here (landing s c)) Either h) →
-      Leads t tag b (here s) ph (suc h)
+      Leads t tag on (here (landing s c)) Either h) →
+      Leads t tag on (here s) ph (suc h)
   unfolding landing linesAt sentTo
-  enters b hb s n unsent is ph w takes h more =
+  enters on s n unsent is ph w takes h more =
       let k : IndexKeeps t (s .before) (s .slot) (s .rest) = index-keeps t a s n in
       let c : Comes t (sentTo s) (target t tag) (s .slot .level + 1) (placeAbove t (s .slot .level + 1) (target t tag)) (s .rest) =
       k .child (target t tag) below unsent (sym is) in
-      hop-within s (c .skipped) (c .hit) (c .behind) (c .splits) tag b 0 0 hb
+      hop-within s (c .skipped) (c .hit) (c .behind) (c .splits) tag on 0 0
       (index-heard t a s n ph takes)
       (child-choice s n (k .high) unsent is ph w ∙
       ap (λ z. dozes z Either 0 0)
-      (comes-at t (sentTo s) (target t tag) (s .slot .level + 1) (placeAbove t (s .slot .level + 1) (target t tag)) (s .rest) (slots t) c))
+      (comes-at c))
       refl
       (more c)
 
   -- one hop down, and then the way from there
   pub goes-down :
-      (b : ℕ) → b ≤ cycleSize t → (h : ℕ) (s : Spot t) → s .slot .level + suc h ≡ t .k + 1 → sentTo s ≤ target t tag →
+      {last : ℕ} {bk : ℕ → Bucket} (on : Carries last bk t) (h : ℕ) (s : Spot t) → s .slot .level + suc h ≡ t .k + 1 → sentTo s ≤ target t tag →
       s .slot .place ≡ placeAbove t (s .slot .level) (target t tag) → (ph : Phase) → awake ph ≡ true → TakesIndex ph →
       ((n : Spot t) → n .slot .level + h ≡ t .k + 1 → sentTo n ≤ target t tag →
-      n .slot .place ≡ placeAbove t (n .slot .level) (target t tag) → Leads t tag b (here n) Either (h + max 1 (runs t tag))) →
-      Leads t tag b (here s) ph (suc h + max 1 (runs t tag))
-  goes-down b hb h s e unsent is ph w takes more =
+      n .slot .place ≡ placeAbove t (n .slot .level) (target t tag) → Leads t tag on (here n) Either (h + max 1 (runs t tag))) →
+      Leads t tag on (here s) ph (suc h + max 1 (runs t tag))
+  goes-down on h s e unsent is ph w takes more =
       let n : isData t (s .slot) ≡ false = index-slot t (s .slot) (omega arith) in
       walk-as (sym (suc-add h (max 1 (runs t tag)))) refl refl
-      (enters b hb s n unsent is ph w takes (h + max 1 (runs t tag))
+      (enters on s n unsent is ph w takes (h + max 1 (runs t tag))
       (λ c.
       let l : Is (s .slot .level + 1) (placeAbove t (s .slot .level + 1) (target t tag)) (landing s c .slot) = landing-is s c in
       more (landing s c) (omega arith) (landing-sent s c n)
@@ -181,22 +182,22 @@ module _ (t : Plan) (a : AcceptedPlan t) (tag : ℕ) (below : target t tag < t .
 
   -- all the way down, h levels
   pub descends :
-      (b : ℕ) → b ≤ cycleSize t → (h : ℕ) (s : Spot t) → s .slot .level + h ≡ t .k + 1 → sentTo s ≤ target t tag →
-      s .slot .place ≡ placeAbove t (s .slot .level) (target t tag) → Leads t tag b (here s) Either (h + max 1 (runs t tag))
-  descends b hb zero s e unsent is =
+      {last : ℕ} {bk : ℕ → Bucket} (on : Carries last bk t) (h : ℕ) (s : Spot t) → s .slot .level + h ≡ t .k + 1 → sentTo s ≤ target t tag →
+      s .slot .place ≡ placeAbove t (s .slot .level) (target t tag) → Leads t tag on (here s) Either (h + max 1 (runs t tag))
+  descends on zero s e unsent is =
       let l : s .slot .level ≡ t .k + 1 = omega arith in
       let d : isData t (s .slot) ≡ true = data-level t (s .slot) l in
       let p : s .slot .place ≡ target t tag = is ∙ (ap (λ z. placeAbove t z (target t tag)) l ∙ above-data t (target t tag)) in
-      walk-as (omega arith) refl refl (arrives t a tag b hb s d (sym (place-sent t a s d) ∙ p) Either refl (λ f ls. refl))
-  descends b hb (suc h) s e unsent is =
-      goes-down b hb h s e unsent is Either refl (λ ps es. refl) (λ n. descends b hb h n)
+      walk-as (omega arith) refl refl (arrives t a tag on s d (sym (place-sent t a s d) ∙ p) Either refl (λ f ls. refl))
+  descends on (suc h) s e unsent is =
+      goes-down on h s e unsent is Either refl (λ ps es. refl) (λ n. descends on h n)
 
   -- from an index bucket that a pair, a pointer or the cycle's start led to
   pub descends-from :
-      (b : ℕ) → b ≤ cycleSize t → (s : Spot t) → s .slot .level ≤ t .k → sentTo s ≤ target t tag →
+      {last : ℕ} {bk : ℕ → Bucket} (on : Carries last bk t) (s : Spot t) → s .slot .level ≤ t .k → sentTo s ≤ target t tag →
       s .slot .place ≡ placeAbove t (s .slot .level) (target t tag) →
-      Leads t tag b (here s) Index (t .k + 1 - s .slot .level + max 1 (runs t tag))
-  descends-from b hb s high unsent is =
+      Leads t tag on (here s) Index (t .k + 1 - s .slot .level + max 1 (runs t tag))
+  descends-from on s high unsent is =
       let h : ℕ = t .k - s .slot .level in
       walk-as (omega arith) refl refl
-      (goes-down b hb h s (omega arith) unsent is Index refl (λ ps es. refl) (λ n. descends b hb h n))
+      (goes-down on h s (omega arith) unsent is Index refl (λ ps es. refl) (λ n. descends on h n))

@@ -15,12 +15,12 @@ use Rattle.cycle.specs.Layouts.{Slot, slots}
 use Rattle.cycle.specs.Cycle.{distanceTo, occurs, toNext, toNextSegment, cycleSize}
 use Rattle.cycle.specs.Cycle.{firstPlace}
 use Rattle.cycle.proofs.Lines.DataTags.{AcceptedPlan}
-use Rattle.cycle.proofs.Reach.Distances.{First, some-left, distance-past, distance-within, distance-all, distance-some, distance-low}
+use Rattle.cycle.proofs.Reach.Distances.{First, some-left, distance-past, distance-within, distance-none, distance-near, distance-low}
 use Rattle.cycle.proofs.Sequences.DataOnce.{data-sent, none-before, none-behind}
 use Rattle.listener.specs.EndPlace.{target, lastHeard, position, segmentBehind, sentBefore, rootFrom, endFrom, endPlace}
-use Rattle.listener.proofs.Walks.Places.{distance-within as distance-first}
+use Rattle.listener.proofs.Walks.Places.{distance-first}
 use Rattle.listener.proofs.Walks.Ways.{Spot, here, sentTo, further, further-here}
-use Rattle.listener.proofs.Walks.Roots.{rest-length, root-occurs, to-root}
+use Rattle.listener.proofs.Walks.Roots.{rest-length}
 
 -- the slots from a spot on, and those behind it
 pub drop-here : {t : Plan} (s : Spot t) → drop (here s) (slots t) ≡ s .slot ∷ s .rest
@@ -43,7 +43,7 @@ module _ (t : Plan) (a : AcceptedPlan t) where
   position-among pre post e q h =
       let d : distanceTo (occurs (t .k + 1) q) (slots t) ≡ distanceTo (occurs (t .k + 1) q) pre =
       ap (distanceTo (occurs (t .k + 1) q)) e ∙ distance-within (occurs (t .k + 1) q) pre post h in
-      omega (arith, distance-all (occurs (t .k + 1) q) pre, distance-some (occurs (t .k + 1) q) pre h)
+      omega (arith, distance-near (occurs (t .k + 1) q) pre h, distance-low (occurs (t .k + 1) q) pre)
 
   pub position-below : (q : ℕ) → q < t .d → position t q < cycleSize t
   unfolding cycleSize
@@ -72,7 +72,7 @@ module _ (t : Plan) (a : AcceptedPlan t) where
         ap (distanceTo f) (s .splits) ∙
         distance-past f (s .before) (s .slot ∷ s .rest)
         (none-before t (a .keeps) (s .before) (s .slot ∷ s .rest) (s .splits) q h) in
-        le-ltb (firstPlace t (t .k + 1) q) (length (s .before)) (omega (arith, distance-low f (s .slot) (s .rest)))
+        le-ltb (firstPlace t (t .k + 1) q) (length (s .before)) (omega (arith, distance-low f (s .slot ∷ s .rest)))
 
   -- ---- the cases
 
@@ -105,24 +105,23 @@ module _ (t : Plan) (a : AcceptedPlan t) where
   -- ---- the first segment start behind a bucket
 
   module _ (s : Spot t) where
-    segment-behind : segmentBehind t (here s) ≡ here s + toNextSegment (s .rest ++ slots t)
+    segment-behind : segmentBehind t (here s) ≡ here s + toNextSegment (s .rest)
     unfolding segmentBehind
     segment-behind = rw (drop-behind s)
 
     module _ (f : First (λ x. x .starts) (s .rest)) where
-      pub to-start : toNextSegment (s .rest ++ slots t) ≡ suc (length (f .skipped))
+      pub to-start : toNextSegment (s .rest) ≡ suc (length (f .skipped))
       unfolding toNextSegment
-      to-start =
-          distance-first (λ x. x .starts) (s .rest) (f .skipped) (f .hit) (f .behind) (slots t) (f .splits) (f .fresh) (f .is)
+      to-start = distance-first f
 
       pub behind-within : segmentBehind t (here s) ≡ here (further s (f .skipped) (f .hit) (f .behind) (f .splits))
       behind-within =
           omega (arith, segment-behind, to-start, further-here s (f .skipped) (f .hit) (f .behind) (f .splits))
 
     module _ (none-left : any (λ x. x .starts) (s .rest) ≡ false) where
-      pub to-coming : toNextSegment (s .rest ++ slots t) ≡ suc (length (s .rest))
+      pub to-coming : toNextSegment (s .rest) ≡ suc (length (s .rest))
       unfolding toNextSegment
-      to-coming = to-root t a (λ x. x .starts) (s .rest) none-left refl
+      to-coming = distance-none (λ x. x .starts) (s .rest) none-left
 
       pub behind-round : segmentBehind t (here s) ≡ cycleSize t
       behind-round = omega (arith, segment-behind, to-coming, rest-length s)
@@ -133,12 +132,11 @@ module _ (t : Plan) (a : AcceptedPlan t) where
   unfolding rootFrom toNext
   root-at s h = rw (drop-here s, h) (omega arith)
 
-  pub root-on : (s : Spot t) → 1 < s .slot .level → rootFrom t (here s) ≡ here s + toNext (s .rest ++ slots t) 1 0
+  pub root-on : (s : Spot t) → 1 < s .slot .level → rootFrom t (here s) ≡ here s + toNext (s .rest) 1 0
   unfolding rootFrom toNext occurs
   root-on s h = rw (drop-here s, ne-eqb (s .slot .level) 1 (λ e. omega arith)) (omega arith)
 
   pub root-coming : rootFrom t (cycleSize t) ≡ cycleSize t
   unfolding rootFrom toNext cycleSize
   root-coming =
-      rw (drop-of-length-le (slots t) {i = length (slots t)} (omega arith), to-root t a (occurs 1 0) [] refl root-occurs)
-      (omega arith)
+      rw (drop-of-length-le (slots t) {i = length (slots t)} (omega arith)) (omega arith)

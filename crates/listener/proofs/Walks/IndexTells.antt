@@ -5,14 +5,14 @@ use mathlib.Core.Logic.{_⊎_, inl, inr, ⊎-elim}
 use Prim.Native.Nat.{ℕ, zero, suc, _+_, _-_, _≤_, _<_}
 use mathlib.Core.Bool.{Bool, true, false}
 use mathlib.Core.Option.{Option}
-use mathlib.Core.List.{List, _++_, map}
+use mathlib.Core.List.{List, map}
 use native.Mathlib.Omega.{arith}
 use lib.Dec.{leb}
 use borrow.Author.Tests.{leb-true, leb-false, lt-leb, le-leb}
 use Rattle.columns.specs.Lists.{pick, span, range}
 use Rattle.buckets.specs.Bucket.{Pair, Entry, indexBody}
 use Rattle.cycle.specs.Tree.{Plan, lastTag}
-use Rattle.cycle.specs.Layouts.{Slot, slots}
+use Rattle.cycle.specs.Layouts.{Slot}
 use Rattle.cycle.specs.Cycle.{isData, hasPairs, firstPair, laterPair, pairs, entries, bodyOf, cycleSize}
 use Rattle.cycle.specs.Inner.Held.{lastOf, cycleBucket}
 use Rattle.cycle.proofs.Lines.DataTags.{AcceptedPlan}
@@ -137,69 +137,69 @@ first-fires t a tag (suc sent) h l = le-leb tag (lastTag t sent) (from-target t 
 abbrev pub TakesIndex : Phase → Type 0
 TakesIndex ph = (ps : List Pair) (es : List Entry) → letterAwaited ph (indexBody ps es) ≡ true
 
-module _ (t : Plan) (toCycle : ℕ) (last : Option ℕ) (x : Slot) (rest all : List Slot) where
+module _ (t : Plan) (toCycle : ℕ) (last : Option ℕ) (x : Slot) (rest : List Slot) where
   pub body-index :
       isData t x ≡ false →
-      bodyOf t toCycle last x rest all ≡ indexBody (pairs t (rest ++ all) last toCycle x) (entries t (rest ++ all) x)
+      bodyOf t toCycle last x rest ≡ indexBody (pairs t rest last toCycle x) (entries t rest x)
   unfolding bodyOf
   body-index n = rw n
 
-module _ (t : Plan) (ahead : List Slot) (last : Option ℕ) (toCycle : ℕ) (x : Slot) (tag : ℕ) (es : List Entry) where
-  pub pairs-plain : hasPairs t x ≡ false → indexChoice tag (pairs t ahead last toCycle x) es ≡ entryChoice tag es
+module _ (t : Plan) (rest : List Slot) (last : Option ℕ) (toCycle : ℕ) (x : Slot) (tag : ℕ) (es : List Entry) where
+  pub pairs-plain : hasPairs t x ≡ false → indexChoice tag (pairs t rest last toCycle x) es ≡ entryChoice tag es
   unfolding pairs
   pairs-plain h = rw h
 
   pub pairs-first :
       hasPairs t x ≡ true → atMost tag last ≡ true →
-      indexChoice tag (pairs t ahead last toCycle x) es ≡ dozes toCycle Index 0 0
+      indexChoice tag (pairs t rest last toCycle x) es ≡ dozes toCycle Index 0 0
   unfolding pairs firstPair
   pairs-first h f = rw (h, f)
 
   pub pairs-later :
       hasPairs t x ≡ true → atMost tag last ≡ false →
-      indexChoice tag (pairs t ahead last toCycle x) es ≡
-      laterChoice tag (map (laterPair t ahead x) (range 2 (x .level + 1))) es
+      indexChoice tag (pairs t rest last toCycle x) es ≡
+      laterChoice tag (map (laterPair t rest x) (range 2 (x .level + 1))) es
   unfolding pairs firstPair
   pairs-later h f = rw (h, f)
 
 module _ (t : Plan) (a : AcceptedPlan t) (s : Spot t) (n : isData t (s .slot) ≡ false) where
   pub index-body :
       cycleBucket t (here s) .body ≡
-      indexBody (pairs t (s .rest ++ slots t) (lastOf t (sentTo s)) (cycleSize t - here s) (s .slot))
-      (entries t (s .rest ++ slots t) (s .slot))
+      indexBody (pairs t (s .rest) (lastOf t (sentTo s)) (cycleSize t - here s) (s .slot))
+      (entries t (s .rest) (s .slot))
   index-body =
-      body-here t (a .keeps) s ∙ body-index t (cycleSize t - here s) (lastOf t (sentTo s)) (s .slot) (s .rest) (slots t) n
+      body-here t (a .keeps) s ∙ body-index t (cycleSize t - here s) (lastOf t (sentTo s)) (s .slot) (s .rest) n
 
   pub index-heard : (ph : Phase) → TakesIndex ph → letterAwaited ph (cycleBucket t (here s) .body) ≡ true
   index-heard ph h =
       rw index-body
-      (h (pairs t (s .rest ++ slots t) (lastOf t (sentTo s)) (cycleSize t - here s) (s .slot))
-      (entries t (s .rest ++ slots t) (s .slot)))
+      (h (pairs t (s .rest) (lastOf t (sentTo s)) (cycleSize t - here s) (s .slot))
+      (entries t (s .rest) (s .slot)))
 
   pub index-choice :
       (ph : Phase) (tag : ℕ) → awake ph ≡ true →
       choice ph tag (cycleBucket t (here s)) ≡
-      indexChoice tag (pairs t (s .rest ++ slots t) (lastOf t (sentTo s)) (cycleSize t - here s) (s .slot))
-      (entries t (s .rest ++ slots t) (s .slot))
+      indexChoice tag (pairs t (s .rest) (lastOf t (sentTo s)) (cycleSize t - here s) (s .slot))
+      (entries t (s .rest) (s .slot))
   index-choice ph tag w = choice-awake ph tag (cycleBucket t (here s)) w ∙ ap (bodyChoice tag) index-body
 
   -- the first pair stays quiet, and no later one is below our tag: an entry is followed, if any
   pub entry-choice :
       (ph : Phase) (tag : ℕ) → awake ph ≡ true → sentTo s ≤ target t tag →
       ((j : ℕ) → hasPairs t (s .slot) ≡ true → 2 ≤ j → j ≤ s .slot .level →
-      tagBelow (laterPair t (s .rest ++ slots t) (s .slot) j .tag) tag ≡ false) →
-      choice ph tag (cycleBucket t (here s)) ≡ entryChoice tag (entries t (s .rest ++ slots t) (s .slot))
+      tagBelow (laterPair t (s .rest) (s .slot) j .tag) tag ≡ false) →
+      choice ph tag (cycleBucket t (here s)) ≡ entryChoice tag (entries t (s .rest) (s .slot))
   entry-choice ph tag w unsent each = index-choice ph tag w ∙ by (hasPairs t (s .slot)) refl
     where
       es : List Entry
-      es = entries t (s .rest ++ slots t) (s .slot)
+      es = entries t (s .rest) (s .slot)
 
       by :
           (b : Bool) → hasPairs t (s .slot) ≡ b →
-          indexChoice tag (pairs t (s .rest ++ slots t) (lastOf t (sentTo s)) (cycleSize t - here s) (s .slot)) es ≡ entryChoice tag es
-      by false e = pairs-plain t (s .rest ++ slots t) (lastOf t (sentTo s)) (cycleSize t - here s) (s .slot) tag es e
+          indexChoice tag (pairs t (s .rest) (lastOf t (sentTo s)) (cycleSize t - here s) (s .slot)) es ≡ entryChoice tag es
+      by false e = pairs-plain t (s .rest) (lastOf t (sentTo s)) (cycleSize t - here s) (s .slot) tag es e
       by true e =
-          pairs-later t (s .rest ++ slots t) (lastOf t (sentTo s)) (cycleSize t - here s) (s .slot) tag es e
+          pairs-later t (s .rest) (lastOf t (sentTo s)) (cycleSize t - here s) (s .slot) tag es e
           (first-quiet t tag (sentTo s) unsent) ∙
-          later-none tag (laterPair t (s .rest ++ slots t) (s .slot)) es 2 (s .slot .level + 1 - 2)
+          later-none tag (laterPair t (s .rest) (s .slot)) es 2 (s .slot .level + 1 - 2)
           (λ j u v. each j e u (omega arith))

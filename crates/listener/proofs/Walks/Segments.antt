@@ -75,12 +75,11 @@ first-start t u x l h is =
     let p : Place t x = place-of t x h in
     let between : List Slot = drop (suc u) (p .before) in
     let front : List Slot = between ++ (p .slot ∷ []) in
-    let e : drop (suc u) (slots t) ++ slots t ≡ front ++ (p .rest ++ slots t) =
-    ap (λ xs. drop (suc u) xs ++ slots t) (p .splits) ∙
-    (ap (λ xs. xs ++ slots t) (drop-append-le (suc u) (p .before) (p .slot ∷ p .rest) (omega (arith, p .is))) ∙
-    (append-assoc between (p .slot ∷ p .rest) (slots t) ∙ sym (append-assoc between (p .slot ∷ []) (p .rest ++ slots t)))) in
+    let e : drop (suc u) (slots t) ≡ front ++ p .rest =
+    ap (drop (suc u)) (p .splits) ∙
+    (drop-append-le (suc u) (p .before) (p .slot ∷ p .rest) (omega (arith, p .is)) ∙ sym (append-assoc between (p .slot ∷ []) (p .rest))) in
     let starts : p .slot .starts ≡ true = sym (starts-here (spot-of p)) ∙ (ap (startsAt t) (spot-here p) ∙ is) in
-    let r = distance-found (λ y. y .starts) front (p .rest ++ slots t) (some-hit (λ y. y .starts) between (p .slot) [] starts) in
+    let r = distance-found (λ y. y .starts) front (p .rest) (some-hit (λ y. y .starts) between (p .slot) [] starts) in
     let long : length front ≡ length between + 1 = length-append between (p .slot ∷ []) in
     rw e (omega (arith, r .near, long, length-drop (suc u) (p .before), p .is))
 

@@ -1,8 +1,9 @@
 -- A walk: the buckets that a listener takes, hop by hop, to its end. It knows what each bucket tells the listener and where
--- each hop lands, and nothing of the listener's counts, nor of trees. Cycle 0 is tune-in's: b is 0 there, and N in the next.
+-- each hop lands, and nothing of the listener's counts, nor of trees. Places are counted on air from the start of tune-in's cycle.
 -- Assumes nothing.
 use mathlib.Core.Path.{_≡_}
-use Prim.Native.Nat.{ℕ, suc, _+_, _%_, _≤_, _<_}
+use Prim.Native.Nat.{ℕ, suc, _+_, _≤_, _<_}
+use native.Mathlib.Omega.{arith}
 use mathlib.Core.Bool.{Bool, true, false}
 use mathlib.Core.List.{List, [], _++_}
 use lib.ListN
@@ -27,17 +28,35 @@ awake Ended = false
 unfoldable pub linesAt : Bucket → ℕ → ℕ → List Line
 linesAt b first count = ListN.take count (drop first (bodyLines (b .body)))
 
--- from bucket x on, in cycle 0 (b is 0) or 1 (b is N), awaiting what a phase says: steps up to the end, the end, its place
--- counted from the start of cycle 0, the lines
-pub data Walk (n tag : ℕ) (bk : ℕ → Bucket) : ℕ → ℕ → Phase → ℕ → End → ℕ → List Line → Type 0 where
+-- from place x on, all places before `last`, awaiting what a phase says: steps up to the end, the end, its place, the lines
+pub data Walk (last tag : ℕ) (bk : ℕ → Bucket) : ℕ → Phase → ℕ → End → ℕ → List Line → Type 0 where
   misses-here :
-      {b x : ℕ} {ph : Phase} → b ≤ n → x < n → letterAwaited ph (bk x .body) ≡ true → choice ph tag (bk x) ≡ misses →
-      Walk n tag bk b x ph 1 absent (b + x) []
+      {x : ℕ} {ph : Phase} → x < last → letterAwaited ph (bk x .body) ≡ true → choice ph tag (bk x) ≡ misses →
+      Walk last tag bk x ph 1 absent x []
   finds-here :
-      {b x : ℕ} {ph : Phase} (first count : ℕ) → b ≤ n → x < n → letterAwaited ph (bk x .body) ≡ true →
-      choice ph tag (bk x) ≡ finds first count → Walk n tag bk b x ph 1 found (b + x) (linesAt (bk x) first count)
+      {x : ℕ} {ph : Phase} (first count : ℕ) → x < last → letterAwaited ph (bk x .body) ≡ true →
+      choice ph tag (bk x) ≡ finds first count → Walk last tag bk x ph 1 found x (linesAt (bk x) first count)
   hops :
-      {b x b′ x′ : ℕ} {ph next : Phase} {h : ℕ} {e : End} {z : ℕ} {got : List Line} (d first count : ℕ) →
-      b ≤ n → x < n → letterAwaited ph (bk x .body) ≡ true → choice ph tag (bk x) ≡ dozes d next first count →
-      awake next ≡ true → 1 ≤ d → (x + d) % n ≡ x′ → b′ + x′ ≡ b + x + d → b′ ≤ n → x′ < n →
-      Walk n tag bk b′ x′ next h e z got → Walk n tag bk b x ph (suc h) e z (linesAt (bk x) first count ++ got)
+      {x : ℕ} {ph next : Phase} {h : ℕ} {e : End} {z : ℕ} {got : List Line} (d first count : ℕ) →
+      x < last → letterAwaited ph (bk x .body) ≡ true → choice ph tag (bk x) ≡ dozes d next first count →
+      awake next ≡ true → 1 ≤ d → d ≤ bk x .toCycle → Walk last tag bk (x + d) next h e z got →
+      Walk last tag bk x ph (suc h) e z (linesAt (bk x) first count ++ got)
+
+module _ {last tag : ℕ} {bk : ℕ → Bucket} where
+  pub walk-here :
+      {x : ℕ} {ph : Phase} {h : ℕ} {e : End} {z : ℕ} {got : List Line} → Walk last tag bk x ph h e z got → x < last
+  walk-here (misses-here hx l c) = hx
+  walk-here (finds-here f c hx l e) = hx
+  walk-here (hops d f c hx l e w far near more) = hx
+
+  pub walk-some :
+      {x : ℕ} {ph : Phase} {h : ℕ} {e : End} {z : ℕ} {got : List Line} → Walk last tag bk x ph h e z got → 1 ≤ h
+  walk-some (misses-here hx l c) = omega arith
+  walk-some (finds-here f c hx l e) = omega arith
+  walk-some (hops d f c hx l e w far near more) = omega arith
+
+  pub walk-end :
+      {x : ℕ} {ph : Phase} {h : ℕ} {e : End} {z : ℕ} {got : List Line} → Walk last tag bk x ph h e z got → z < last
+  walk-end (misses-here hx l c) = hx
+  walk-end (finds-here f c hx l e) = hx
+  walk-end (hops d f c hx l e w far near more) = walk-end more

@@ -1,4 +1,5 @@
 use pansdaoh::calls::{self, State, Step};
+use reference::air::{hear_bounds, hear_changing, Hears};
 use reference::generate::{alter, list, Random};
 use reference::yards::{damaged_cycle, image_of};
 use reference::{Answer, Listener};
@@ -35,6 +36,12 @@ impl Both {
     }
 
     fn step(&mut self, bucket: &[u8]) -> Answer {
+        self.hear(bucket).0
+    }
+}
+
+impl Hears for Both {
+    fn hear(&mut self, bucket: &[u8]) -> (Answer, u64, u64) {
         let before = *self.state();
         let (next, answer, first, count) = self.reference.step(bucket);
         self.reference = next;
@@ -52,8 +59,23 @@ impl Both {
             assert_eq!(*self.state(), before);
         }
         self.check_counts();
-        answer
+        (answer, first, count)
     }
+
+    fn counts(&self) -> (u64, u64) {
+        self.reference.counts()
+    }
+}
+
+/// Lists and settings that change from cycle to cycle.
+#[test]
+fn changing_lists() {
+    hear_changing(Both::new);
+}
+
+#[test]
+fn bounds_of_8_to_10() {
+    hear_bounds(Both::new);
 }
 
 /// The step of a doze, then on round the image.

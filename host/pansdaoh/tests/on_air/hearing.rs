@@ -14,8 +14,21 @@ fn looked(image: &[u8], tag: u64, tune_in: u64) -> Looked {
 
 /// What a listener answers to each bucket, the lookup saying the same.
 pub fn hearing(image: &[u8], tag: u64, tune_in: u64) -> String {
+    let (text, ended) = heard([image, image], tag, tune_in, "");
+    assert_eq!(looked(image, tag, tune_in), ended);
+    text
+}
+
+/// The same where another list comes with the next cycle.
+pub fn changed(old: &[u8], new: &[u8], tag: u64, tune_in: u64) -> String {
+    let next = format!("next cycle, N {}\n", new.len() / BUCKET);
+    heard([old, new], tag, tune_in, &next).0
+}
+
+/// The answers over two cycles, and how they ended; `next` is said between them.
+fn heard(air: [&[u8]; 2], tag: u64, tune_in: u64, next: &str) -> (String, Looked) {
     let (mut listener, mut place, mut lines) = (Listener::new(tag), tune_in, 0);
-    let mut text = format!("tag {tag}, tune-in {tune_in}\n");
+    let (mut image, mut text) = (air[0], format!("tag {tag}, tune-in {tune_in}\n"));
     let found = loop {
         let bucket = bucket(image, place);
         let (answer, matching) = listener.step(bucket);
@@ -25,7 +38,11 @@ pub fn hearing(image: &[u8], tag: u64, tune_in: u64) -> String {
         match answer {
             Answer::Doze(distance) => {
                 let _ = writeln!(text, "doze by {distance}");
-                place = (place + distance) % (image.len() / BUCKET) as u64;
+                place += distance;
+                if place == (image.len() / BUCKET) as u64 {
+                    text += next;
+                    (image, place) = (air[1], 0);
+                }
             }
             Answer::Found => break true,
             Answer::Absent => break false,
@@ -33,9 +50,9 @@ pub fn hearing(image: &[u8], tag: u64, tune_in: u64) -> String {
         }
     };
     let (heard, elapsed) = (listener.heard(), listener.elapsed());
-    assert_eq!(looked(image, tag, tune_in), Looked { found, heard, elapsed, lines });
     let end = if found { "found" } else { "absent" };
-    format!("{text}{end}\nheard {heard}, elapsed {elapsed}\n")
+    let text = format!("{text}{end}\nheard {heard}, elapsed {elapsed}\n");
+    (text, Looked { found, heard, elapsed, lines })
 }
 
 /// N, or the refusal.

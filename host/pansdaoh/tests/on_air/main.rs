@@ -6,7 +6,7 @@ mod hearing;
 mod refusals;
 
 use drawing::{cycle, drawn_bucket, drawn_line, tree};
-use hearing::{hearing, sample_yard};
+use hearing::{changed, hearing, sample_yard};
 use pansdaoh::{build, Settings, BUCKET};
 use reference::generate::{line, list_of};
 
@@ -37,7 +37,7 @@ fn bucket(image: &[u8], position: u64) -> &[u8] {
 }
 
 /// The document's drawings, in its order.
-fn drawings() -> [String; 18] {
+fn drawings() -> [String; 19] {
     let line = line(1_004_711, 8_450, 12, 31);
     image(line.as_bytes(), sample(1, 0));
     let one_copy = sample_image(1, 1);
@@ -60,6 +60,7 @@ fn drawings() -> [String; 18] {
         hearing(&two_copies, 9, 4),
         cycle(&eight),
         hearing(&eight, 5, 12),
+        changed(&one_copy, &eight, 5, 0),
         TABLE.to_string(),
         sample_yard(),
     ]

@@ -8,8 +8,8 @@ use reference::yards::{image_of, legal_settings};
 use crate::run::{Folder, R1};
 
 const RIGHT: &str = "\
-every display that hears it intact gets exactly the lines of its tag, or is told
-that there are none, for every tag and from every tune-in (demand 3)
+every display that hears it intact and ends in it gets exactly the lines of its tag,
+or is told that there are none, for every tag and from every tune-in (demand 3)
 ";
 
 #[test]

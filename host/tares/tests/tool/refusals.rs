@@ -235,8 +235,8 @@ fn misprinted_bucket() {
 fn past_the_next_cycle() {
     let folder = Folder::new("refusals_past_the_next_cycle");
     let round = format!("{:<93}{:>10}{:>6}{:>131}", "     0     1     1     0I 0 1", 5, 1, "\n");
-    let why =
-        "tuned in at position 0 of N 1, at most 2 buckets go by, and the pointer leads past them";
+    let why = "tuned in at position 0 of N 1, and N is 1 in the next cycle: \
+               at most 2 buckets go by, and the pointer leads past them";
     assert_eq!(
         refused_image(&folder, round.as_bytes(), "lookup given 5 --tune-in 0"),
         format!(
@@ -268,6 +268,36 @@ fn no_image() {
              tune-in 12, and the last bucket is 11\n"
         );
     }
+}
+
+/// The lists of two cycles in one image: 10 counts the N of each.
+#[test]
+fn past_a_new_cycle() {
+    let folder = Folder::sample_yard("refusals_past_a_new_cycle");
+    let mut image = folder.read("image");
+    let round = format!("{:<93}{:>10}{:>6}{:>131}", "     0     1     1     0I 0 1", 5, 1, "\n");
+    image.extend(round.bytes());
+    let text = refused_image(&folder, &image, "lookup given 5 --tune-in 8");
+    let (first, details) = split(&text);
+    let by_10 = "the next bucket lies past the cycle after tune-in's";
+    assert_eq!(first, format!("tares: refused by 10, place 12: {by_10}"));
+    let why = "tuned in at position 8 of N 12, and N is 1 in the next cycle: \
+               at most 5 buckets go by, and the pointer leads past them";
+    assert_eq!(details[..2], ["tag 5, tune-in 8", why]);
+}
+
+/// Behind a doze to the next cycle's start 9 tells no N.
+#[test]
+fn start_not_as_awaited() {
+    let folder = Folder::sample_yard("refusals_start_not_as_awaited");
+    let mut image = folder.read("image");
+    image.copy_within(240..240 * 2, 0);
+    let text = refused_image(&folder, &image, "lookup given 5 --tune-in 8");
+    let (first, details) = split(&text);
+    assert_eq!(first, "tares: refused by 9, place 0: letter, position or N not as awaited");
+    let awaited = "awaited: an index bucket with position 0";
+    let came = "came: an index bucket with position 1 and N 12";
+    assert_eq!(details[..3], ["tag 5, tune-in 8", awaited, came]);
 }
 
 /// 9 says what was awaited and what came: letter, position, N.

@@ -15,7 +15,7 @@ bucket 8 (index, segment 1)
     29-38  pair 1 tag: 8, the last one sent earlier in this cycle
     39-44  pair 1 distance: 4, to bucket 0 of the next cycle
    93-102  entry 1 tag: 8, the largest below it
-  103-108  entry 1 distance: 5, to bucket 1 of the next cycle
+  103-108  entry 1 distance: 4, to bucket 0 of the next cycle
   109-118  entry 2 tag: 9, the largest below it
   119-124  entry 2 distance: 1, to bucket 9
 ";
@@ -69,12 +69,17 @@ fn overview() {
 
 /// Each rule of "A bucket" that a bucket may break: the bucket, the column from which it gets other
 /// bytes, and the reason told.
-const MISPRINTS: [(usize, usize, &str, &str); 21] = [
+const MISPRINTS: [(usize, usize, &str, &str); 22] = [
     (8, 0, "08", "position \"08   8\" has a blank among its digits"),
     (8, 6, "99995 ", "distance to the next cycle \"99995 \" is not right-justified"),
     (8, 6, " 99995", "position and distance to the next cycle make 100003, over 99999"),
     (8, 6, "     0", "distance to the next cycle is 0"),
-    (8, 12, "    13", "distance to the next index segment 13 is over 12, the number of buckets"),
+    (
+        8,
+        12,
+        "     5",
+        "distance to the next index segment 5 is over 4, the distance to the next cycle",
+    ),
     (8, 18, "     1", "follow-on 1 in an index bucket"),
     (5, 18, "     7", "follow-on 7 is not below the distance to the next cycle, 7"),
     (8, 24, "x", "letter \"x\" is neither I nor D"),
@@ -86,7 +91,8 @@ const MISPRINTS: [(usize, usize, &str, &str); 21] = [
     (8, 39, "     0", "pair 1 distance is 0"),
     (8, 93, "        10", "entry 2 tag 9 is below entry 1 tag 10"),
     (8, 93, "          ", "entry 1 tag is blank"),
-    (8, 119, "    13", "entry 2 distance 13 is over 12, the number of buckets"),
+    (8, 39, "     5", "pair 1 distance 5 is over 4, the distance to the next cycle"),
+    (8, 119, "     5", "entry 2 distance 5 is over 4, the distance to the next cycle"),
     (8, 130, "7", "unused column 130 not blank: \"7\""),
     (8, 60, "7 7", "unused columns 60 to 62 not blank: \"7 7\""),
     (5, 39, "100000", "line 1 tare 100000 is over 99999"),
@@ -108,6 +114,17 @@ fn misprints() {
         let line = overview.lines().nth(place).unwrap();
         assert!(line.ends_with(&format!("): misprinted: {reason}")), "{line}");
     }
+}
+
+/// A misprinted distance leads to no bucket.
+#[test]
+fn past_the_next_start() {
+    let folder = Folder::sample_yard("show_past_the_next_start");
+    let mut image = folder.read("image");
+    image[240 * 8 + 103..][..6].copy_from_slice(b"     5");
+    folder.write("given", &image);
+    let text = folder.tares("show given 8").done();
+    assert!(text.contains("  entry 1 distance: 5, past the next cycle's start\n"), "{text}");
 }
 
 #[test]

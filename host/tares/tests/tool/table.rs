@@ -79,17 +79,19 @@ fn damaged_images() {
     assert!(refused[0] > 60 && refused[1] > 60, "{refused:?}");
 }
 
-/// Bucket 9 sends tag 9 on to bucket 7 of the next cycle. Those who tune in before bucket 8 come by
-/// it to bucket 9 and end; who tunes in at it comes there in the second cycle, by bucket 0, and is
-/// refused one bucket later.
+/// Two cycles in one image. In the first, bucket 0 leads tag 9 to bucket 8, and that to the next
+/// cycle's start. Those who tune in there come by it to the second cycle and end; who tunes in late
+/// in the second comes to bucket 8 past a start, and is refused.
 #[test]
 fn same_buckets_in_both_cycles() {
     let folder = Folder::sample_yard("table_same_buckets_in_both_cycles");
     let mut image = folder.read("image");
+    let second = image.clone();
     image[119..125].copy_from_slice(b"     8");
-    image[240 * 9 + 103..240 * 9 + 109].copy_from_slice(b"    10");
+    image[240 * 8 + 119..240 * 8 + 125].copy_from_slice(b"     4");
+    image.extend(second);
     folder.write("image", &image);
-    assert_eq!(plain(&image, 9), Err((8, Refusal { number: 10, place: 9 })));
+    assert_eq!(plain(&image, 9), Err((20, Refusal { number: 10, place: 8 })));
     assert!(compare(folder.tares("table image 9"), &image, 9));
 }
 
@@ -105,8 +107,8 @@ fn absent_behind_lines() {
     assert_eq!(Ok(table), plain(&image, 5));
 }
 
-/// Entries that lead to their own bucket a cycle later, or nearly: some tags meet the limit on the
-/// cycle after tune-in's.
+/// Entries that lead to the next cycle's start, or nearly: some tags meet the limit on the cycle
+/// after tune-in's.
 #[test]
 fn limit_of_two_cycles() {
     let folder = Folder::new("table_limit_of_two_cycles");
@@ -117,10 +119,12 @@ fn limit_of_two_cycles() {
         let list = list(&mut random, lines, 1);
         let mut image = image_of(&list, legal_settings(&mut random, lines));
         let buckets = (image.len() / 240) as u64;
-        for bucket in image.chunks_mut(240).filter(|bucket| bucket[24] == b'I') {
+        let index = |bucket: &(u64, &mut [u8])| bucket.1[24] == b'I';
+        for (place, bucket) in (0..).zip(image.chunks_mut(240)).filter(index) {
             let at = 103 + 16 * random.below(2) as usize;
             if bucket[at + 5] != b' ' {
-                let distance = format!("{:>6}", buckets - random.below(2));
+                let to_cycle = buckets - place;
+                let distance = format!("{:>6}", to_cycle - random.below(to_cycle.min(2)));
                 bucket[at..at + 6].copy_from_slice(distance.as_bytes());
             }
         }

@@ -1,6 +1,5 @@
 -- `buckets::reader::read_head` meets its contract: three fields, one after the other.
 -- Assumes nothing.
-use native.Mathlib.Omega.{arith}
 use borrow.Author.Needs.{needs}
 use Rattle.columns.proofs.Rows.{_▹_, _▹₃_, _▹₆_}
 use Rattle.buckets.specs.Bucket.{columns}
@@ -16,10 +15,5 @@ unfolding readHead columns
 read-head-spec =
     tie.close
     (tie.spec ▹₆ search needs ▹ (λ c. search (told-out numbers asHeadRead)) ▹₃ search needs ▹ (λ c. search number-most) ▹₃ search needs
-    ▹ (λ c. search (told-on numbers asHeadRead, told-out numbers asHeadRead)) ▹₃ search needs
-    ▹ (λ c.
-    let cycle = c .before .before in
-    let position = cycle .before .before .before .before .before in
-    let most = number-most _ _ _ _ (position .before .before .six-within .ensures) (position .position .given .1) in
-    omega (arith, most, number-most _ _ _ _ (cycle .before .before .six-within2 .ensures) (cycle .to-cycle .given .1)))
-    ▹₃ search needs ▹ (λ c. search (told-on numbers asHeadRead, told-out numbers asHeadRead)) ▹ (λ c. search (told-on numbers asHeadRead)))
+    ▹ (λ c. search (told-on numbers asHeadRead, told-out numbers asHeadRead)) ▹₆ search needs
+    ▹ (λ c. search (told-on numbers asHeadRead, told-out numbers asHeadRead)) ▹ (λ c. search (told-on numbers asHeadRead)))

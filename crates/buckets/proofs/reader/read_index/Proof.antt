@@ -1,11 +1,11 @@
 -- `buckets::reader::read_index` meets its contract: no follow-on, the numbers of pairs and entries, the pairs, the entries.
 -- Assumes nothing.
-use Prim.Native.Nat.{ℕ, suc, _+_}
+use Prim.Native.Nat.{ℕ, suc}
 use mathlib.Core.Path.{_≡_, sym, _∙_}
 use mathlib.Core.Option.{Option, some}
 use mathlib.Core.List.{List}
 use borrow.Author.Needs.{needs}
-use Rattle.columns.proofs.Rows.{_▹_, _▹₃_, _▹₄_, _▹₇_}
+use Rattle.columns.proofs.Rows.{_▹_, _▹₃_, _▹₇_}
 use Rattle.buckets.specs.declared.Head.{Head}
 use Rattle.buckets.specs.declared.Reading.{Reading}
 use Rattle.buckets.specs.declared.reader.Pairs.{Pairs}
@@ -24,9 +24,9 @@ use Rattle.buckets.proofs.reader.read_index.Tie as tie
 -- behind the numbers of pairs and entries
 abbrev behindCounts : Head → ℕ → ℕ → List ℕ → Option Bucket
 behindCounts h k c s =
-    andThen (readPairs (h .position + h .«to_cycle») k (columns pairsStart pairsWidth s))
+    andThen (readPairs (h .«to_cycle») k (columns pairsStart pairsWidth s))
     (λ ps.
-    andThen (readEntries (h .position + h .«to_cycle») c (columns entriesStart entriesWidth s))
+    andThen (readEntries (h .«to_cycle») c (columns entriesStart entriesWidth s))
     (λ es. some (bucketWith h (indexBody ps es))))
 
 -- the whole answer
@@ -56,15 +56,15 @@ read-index-spec =
     (tie.spec ▹₇ search needs ▹ (λ c. search (told-out numbers asReading))
     ▹₇ search needs ▹ (λ c. search (told-on numbers asReading, told-out numbers asReading))
     ▹₇ search needs ▹ (λ c. search (told-on numbers asReading, told-out numbers asReading))
-    ▹₄ search needs ▹ (λ c κs. (search needs, search number-most)) ▹ search needs
+    ▹₃ search needs ▹ (λ c κs. (search needs, search number-most)) ▹ search needs
     ▹ (λ c.
-    counts-read (c .before .before .before .before .before .before)
+    counts-read (c .before .before .before .before .before)
     (search (held-out pairs-flag asReading)))
     ▹₃ search needs ▹ (λ c κs. (search needs, search number-most)) ▹ search needs
     ▹ (λ c.
-    counts-read (c .before .before .before .before .before .before .before .before .before .before)
+    counts-read (c .before .before .before .before .before .before .before .before .before)
     (search (held-on pairs-flag asReading, held-out entries-flag asReading)))
     ▹ search needs
     ▹ (λ c.
-    counts-read (c .before .before .before .before .before .before .before .before .before .before)
+    counts-read (c .before .before .before .before .before .before .before .before .before)
     (search (held-on pairs-flag asReading, held-on entries-flag asReading, answer))))

@@ -20,5 +20,4 @@ ahead-spec = tie.close
     (λ c. omega arith)
     returns
     (λ c. omega arith)
-    (λ c. omega arith)
     returns-2)

@@ -9,7 +9,7 @@ use Rattle.cycle.specs.Tree.{levelsMost}
 use Rattle.cycle.specs.Judging.{treeHeight}
 use Rattle.cycle.specs.Inner.Held.{planOf, InTree, IndexPlace, childDistance, aheadOf, spanMost}
 use Rattle.cycle.proofs.Trees.Readiness.{levels-are}
-use Rattle.cycle.proofs.Trees.Children.{size-slots, first-high, first-small, few, high, child-inside}
+use Rattle.cycle.proofs.Trees.Children.{first-small, few, high, child-inside}
 use Rattle.cycle.proofs.index.child_distance.Statement.{statement}
 use Rattle.cycle.proofs.index.child_distance.Tie as tie
 
@@ -57,10 +57,7 @@ first-place-requires c κs =
 
 ahead-requires : tie.Need-ahead-requires
 ahead-requires c κs =
-    let s = c .before .before .before .before .before in
-    let f = s .args .f in
-    let high-there = first-high (planOf f []) (f .k + 2 - s .args .e) (s .args .j * f .n + s .args .i) in
-    (place s .below, omega (arith, c .first-place .ensures, size-slots f (s .pre .0), high-there), s .pre .0 .size-high)
+    place (c .before .before .before .before .before) .below
 
 -- above the segment's tree, and in it
 told : (c : tie.Start) → treeHeight (planOf (c .args .f) []) ≡ c .args .s .height

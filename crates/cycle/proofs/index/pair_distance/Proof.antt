@@ -2,16 +2,14 @@
 -- Assumes nothing.
 use mathlib.Core.Path.{_≡_, sym, ap, _∙_}
 use mathlib.Core.List.{[]}
-use Prim.Native.Nat.{ℕ, _+_, _-_, _*_, _/_, _≤_, _<_}
+use Prim.Native.Nat.{ℕ, _+_, _-_, _≤_, _<_}
 use native.Mathlib.Omega.{arith}
 use Rattle.columns.specs.Lists.{up}
-use Rattle.buckets.specs.Lengths.{pairsMost, bucketsMost}
+use Rattle.buckets.specs.Lengths.{pairsMost}
 use Rattle.cycle.specs.Tree.{width, levelsMost}
-use Rattle.cycle.specs.Cycle.{firstPlace}
-use Rattle.cycle.specs.Inner.Held.{planOf, Ready, InTree}
+use Rattle.cycle.specs.Inner.Held.{planOf}
 use Rattle.cycle.proofs.Trees.Readiness.{Reached, reached}
-use Rattle.cycle.proofs.Trees.Children.{size-slots, first-high}
-use Rattle.cycle.proofs.Reach.PathFigures.{few-copies, level-width, width-inside, parent-inside}
+use Rattle.cycle.proofs.Reach.PathFigures.{few-copies, level-width, width-inside}
 use Rattle.cycle.proofs.Reach.PairReach.{reach-last, reach-end, reach-turn}
 use Rattle.cycle.proofs.index.pair_distance.Statement.{statement}
 use Rattle.cycle.proofs.index.pair_distance.Tie as tie
@@ -23,32 +21,11 @@ at c = reached (c .args .f) (c .args .f .k + 1 - c .args .level) (c .args .place
 bounds : (c : tie.Start) → (c .args .f .copies ≤ pairsMost) × (c .args .f .copies + 1 ≤ c .args .f .k) × (c .args .f .k ≤ levelsMost)
 bounds c = few-copies (c .args .f) (c .pre .0) (c .pre .2)
 
--- a place is at most N
-place-high : (c : tie.Start) (i j : ℕ) → firstPlace (planOf (c .args .f) []) i j ≤ c .args .f .size
-place-high c i j = omega (arith, size-slots (c .args .f) (c .pre .0), first-high (planOf (c .args .f) []) i j)
-
--- the bucket above: what its place asks, and a bound on it
-parent-asked : (s : tie.Start) →
-    let f = s .args .f in
-    Ready f × (f .layout ≡ 1) × (1 ≤ s .args .level - 1) × (s .args .level - 1 ≤ f .copies + 1)
-    × InTree f (f .k + 1 - (s .args .level - 1)) (s .args .place / f .n)
-parent-asked s = (
-  s .pre .0,
-  s .pre .2,
-  omega (arith, s .pre .3),
-  omega (arith, s .pre .4),
-  parent-inside (s .args .f) (s .pre .0) (s .pre .2) (s .args .level) (s .args .place) (s .pre .3) (omega (arith, s .pre .4)) (s .pre .5),
-)
-
-parent-high : (s : tie.Start) → s .args .f .size + firstPlace (planOf (s .args .f) []) (s .args .level - 1) (s .args .place / s .args .f .n) ≤ 2 * bucketsMost
-parent-high s = omega (arith, s .pre .0 .size-high, place-high s (s .args .level - 1) (s .args .place / s .args .f .n))
-
 returns : tie.Need-returns
 unfolding planOf
 returns c =
-    let s = c .before .before .before .before .before .before in
-    ap (λ z. s .args .f .size + z - s .args .x) (c .before .first-place .ensures)
-    ∙ sym (reach-last (planOf (s .args .f) []) (s .args .f .size) (s .args .x) (s .args .level) (s .args .place) (c .before .before .before .if1 .taken))
+    let s = c .before .before .before .before in
+    sym (reach-last (planOf (s .args .f) []) (s .args .f .size) (s .args .x) (s .args .level) (s .args .place) (c .before .if1 .taken))
 
 power-requires : tie.Need-power-requires
 power-requires c κs =
@@ -70,8 +47,8 @@ wide c =
     ∙ ap (up (s .args .f .d)) (c .before .power .ensures)
     ∙ sym (level-width (s .args .f) (s .pre .0) (s .pre .2) (s .args .level) (omega (arith, s .pre .3)) (omega (arith, s .pre .4)))
 
-first-place-requires-2 : tie.Need-first-place-requires-2
-first-place-requires-2 c κs =
+first-place-requires : tie.Need-first-place-requires
+first-place-requires c κs =
     let s = c .before .before .before .before .before .before in (
       s .pre .0,
       s .pre .2,
@@ -82,12 +59,12 @@ first-place-requires-2 c κs =
     )
 
 -- the place of the next bucket is ahead
-ahead : (c : tie.After-first-place2) → c .before .before .before .before .before .before .before .args .x < c .first-place2 .result
+ahead : (c : tie.After-first-place) → c .before .before .before .before .before .before .before .args .x < c .first-place .result
 ahead c =
     let s = c .before .before .before .before .before .before .before in
     omega (
       arith,
-      c .first-place2 .ensures,
+      c .first-place .ensures,
       s .pre .7 (omega (arith, wide (c .before .before), c .before .if2 .taken)) (c .before .before .before .before .if1 .left),
     )
 
@@ -95,7 +72,7 @@ returns-2 : tie.Need-returns-2
 unfolding planOf
 returns-2 c =
     let s = c .before .before .before .before .before .before .before in
-    ap (λ z. z - 1 - s .args .x) (c .first-place2 .ensures)
+    ap (λ z. z - 1 - s .args .x) (c .first-place .ensures)
     ∙ sym
     (reach-turn (planOf (s .args .f) []) (s .args .f .size) (s .args .x) (s .args .level) (s .args .place) (c .before .before .before .before .if1 .left)
     (omega (arith, wide (c .before .before), c .before .if2 .taken)))
@@ -103,12 +80,10 @@ returns-2 c =
 returns-3 : tie.Need-returns-3
 unfolding planOf
 returns-3 c =
-    let s = c .before .before .before .before .before .before .before .before .before in
-    let test = c .before .before .before in
-    ap (λ z. s .args .f .size + z - s .args .x) (c .before .first-place3 .ensures)
-    ∙ sym
-    (reach-end (planOf (s .args .f) []) (s .args .f .size) (s .args .x) (s .args .level) (s .args .place) (test .before .before .before .if1 .left)
-    (omega (arith, wide (test .before), test .if2 .left)))
+    let s = c .before .before .before .before .before .before .before in
+    sym
+    (reach-end (planOf (s .args .f) []) (s .args .f .size) (s .args .x) (s .args .level) (s .args .place) (c .before .before .before .before .if1 .left)
+    (omega (arith, wide (c .before .before), c .before .if2 .left)))
 
 pub pair-distance-spec : {M : Type 1} → statement M
 pair-distance-spec =
@@ -118,21 +93,13 @@ pair-distance-spec =
     (λ c. omega (arith, bounds (c .before) .1, c .before .pre .4))
     (λ c. omega (arith, at (c .before) .place))
     (λ c. omega (arith, c .before .before .pre .0 .shaped .n-low))
-    (λ c. omega (arith, c .before .before .before .pre .3))
-    (λ c. omega (arith, c .before .before .before .before .pre .0 .shaped .n-low))
-    (λ c κs. parent-asked (c .before .before .before .before))
-    (λ c. omega (arith, c .before .first-place .ensures, parent-high (c .before .before .before .before .before .before)))
-    (λ c. omega (arith, c .before .before .before .before .before .before .pre .6))
+    (λ c. omega (arith, c .before .before .before .before .pre .6))
     returns
     power-requires
     up-requires
-    first-place-requires-2
+    first-place-requires
     (λ c. omega (arith, ahead c))
     (λ c. omega (arith, ahead c))
     returns-2
-    (λ c. omega (arith, c .before .before .before .before .before .before .pre .3))
-    (λ c. omega (arith, c .before .before .before .before .before .before .before .pre .0 .shaped .n-low))
-    (λ c κs. parent-asked (c .before .before .before .before .before .before .before))
-    (λ c. omega (arith, c .before .first-place3 .ensures, parent-high (c .before .before .before .before .before .before .before .before .before)))
-    (λ c. omega (arith, c .before .before .before .before .before .before .before .before .before .pre .6))
+    (λ c. omega (arith, c .before .before .before .before .before .before .before .pre .6))
     returns-3)

@@ -15,7 +15,7 @@ use Rattle.cycle.specs.Judging.{treeAt, fullSize}
 use Rattle.cycle.specs.Cycle.{firstPlace}
 use Rattle.cycle.specs.Inner.Held.{planOf, Ready, InTree, Under, aheadOf, treeDistance}
 use Rattle.cycle.proofs.Trees.Readiness.{reached}
-use Rattle.cycle.proofs.Trees.Children.{near-here, near-next, few, first-small, under-data, children-count, size-slots, first-high}
+use Rattle.cycle.proofs.Trees.Children.{near-here, near-next, few, first-small, under-data, children-count}
 use Rattle.cycle.proofs.Trees.TreeSizes.{tree-full}
 use Rattle.cycle.proofs.Segmenting.TreePlaces.{tree-before}
 use Rattle.cycle.proofs.Segmenting.SegmentParts.{seated}
@@ -154,17 +154,8 @@ data-place-requires c κs =
 ahead-requires : tie.Need-ahead-requires
 ahead-requires c κs =
     let s = c .before .before .before .before .before in
-    let f = s .args .f in
-    let sits = seated f (s .args .s) (s .pre .0) (s .pre .1 .0) in (
-      omega (arith, sits, before-data s),
-      omega (
-        arith,
-        c .data-place .ensures,
-        size-slots f (s .pre .0),
-        first-high (planOf f []) (f .k + 1) (s .args .j * f .n + s .args .i),
-      ),
-      s .pre .0 .size-high,
-    )
+    let sits = seated (s .args .f) (s .args .s) (s .pre .0) (s .pre .1 .0) in
+    omega (arith, sits, before-data s)
 
 returns-3 : tie.Need-returns-3
 returns-3 c =

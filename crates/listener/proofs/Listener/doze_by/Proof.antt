@@ -1,38 +1,51 @@
--- `listener::Listener::doze_by` meets its contract: 10, or the listener that dozes.
+-- `listener::Listener::doze_by` meets its contract: a doze within the cycle, 10, or a doze to the next cycle's start.
 -- Assumes nothing.
-use mathlib.Core.Path.{refl}
-use native.Mathlib.Omega.{arith}
-use native.Mathlib.Nat.{div-le-self}
-use Prim.Native.Nat.{_+_}
 use borrow.Author.Needs.{needs}
-use borrow.Author.Tests.{lt-ltb, le-ltb}
-use Rattle.buckets.specs.Bucket.{cycleLength}
+use borrow.Author.Tests.{le-leb, lt-leb}
 use Rattle.buckets.specs.Inner.Held.{bucketWith}
-use Rattle.listener.specs.Listener.{passedWith, pastNextCycle, dozing, stepped, heardWith, elapsedWith}
+use Rattle.listener.proofs.Steps.Dozes.{due-within, passed-within, past-within, due-start, passed-start, past-start}
 use Rattle.listener.proofs.Listener.doze_by.Statement.{statement}
 use Rattle.listener.proofs.Listener.doze_by.Tie as tie
 
-add-passed : tie.Need-add-passed
-add-passed c =
-    let s = c .before .before .before in
-    let h = s .args .h in
-    omega (arith, s .pre, div-le-self (h .position + s .args .d) (h .position + h .«to_cycle»))
-
 returns : tie.Need-returns
-unfolding bucketWith pastNextCycle passedWith cycleLength
-returns c body = rw (lt-ltb _ _ (c .before .if1 .taken)) (c .refused .ensures)
+unfolding bucketWith
+returns c body =
+    let s = c .before .before .before .before in
+    let b = bucketWith (s .args .h) body in
+    let d = s .args .d in
+    let h = c .before .before .if1 .taken in
+    rw (past-within b d h (s .args .self))
+    (c .dozing .ensures body (due-within b d h) (passed-within b d h (s .args .self)))
 
 returns-2 : tie.Need-returns-2
-unfolding bucketWith pastNextCycle passedWith cycleLength dozing stepped heardWith elapsedWith
-returns-2 c body = rw (le-ltb _ _ (c .before .before .if1 .left)) refl
+unfolding bucketWith
+returns-2 c body =
+    let s = c .before .before .before .before .before in
+    let b = bucketWith (s .args .h) body in
+    let d = s .args .d in
+    rw (
+      past-start b d (c .before .before .before .if1 .left) (s .args .self),
+      le-leb 1 (s .args .self .passed) (c .before .if2 .taken),
+    )
+    (c .refused .ensures)
+
+returns-3 : tie.Need-returns-3
+unfolding bucketWith
+returns-3 c body =
+    let s = c .before .before .before .before .before .before in
+    let b = bucketWith (s .args .h) body in
+    let d = s .args .d in
+    let h = c .before .before .before .before .if1 .left in
+    rw (past-start b d h (s .args .self), lt-leb 1 (s .args .self .passed) (c .before .before .if2 .left))
+    (c .dozing2 .ensures body (due-start b d h) (passed-start b d h (s .args .self)))
 
 pub doze-by-spec : {M : Type 1} → statement M
 doze-by-spec =
     tie.close
     (tie.spec
-    (λ c. search needs) (λ c. search needs) (λ c. search needs)
-    add-passed
-    (λ c κs. search needs)
+    (λ c. search needs) (λ c κs. search needs)
     returns
-    (λ c. search needs) (λ c. search needs) (λ c. search needs)
-    returns-2)
+    (λ c κs. search needs)
+    returns-2
+    (λ c. search needs) (λ c κs. search needs)
+    returns-3)
