@@ -42,8 +42,8 @@ extern "C" {
 /*
  * The version of what this file declares. A change that programs must follow
  * raises the first number, or, while that is 0, the second. Cycles built before
- * 0.2 are to be built anew: their distances lead past the next cycle's start, and
- * are refused (8).
+ * 0.2 are to be built anew: distances in them may lead past the next cycle's
+ * start, and such buckets are refused (8).
  */
 #define PANSDAOH_VERSION_MAJOR 0
 #define PANSDAOH_VERSION_MINOR 2
