@@ -1,7 +1,7 @@
 #!/bin/sh
-# The library's calls against those of the reference, at 1,000, 10,000 and 40,000 lines: instructions a bucket, counted by
-# callgrind as the difference between one round and two, and nanoseconds a bucket, the best of several rounds. The growth is
-# that of a bucket's cost from the size before, for library and reference: 1.00 is linear.
+# The library's calls against those of the reference, at 1,000, 10,000 and 40,000 lines, a list full of zeros at 10,000:
+# instructions a bucket, counted by callgrind as the difference between one round and two, and nanoseconds a bucket, the best
+# of several rounds. The growth is that of a bucket's cost from the size before, for library and reference: 1.00 is linear.
 # Usage: bench.sh, some three minutes
 set -e
 cd "$(dirname "$0")"
@@ -42,7 +42,7 @@ rows() {
     shift 3
     before=
     before_time=
-    for lines in 1000 10000 40000; do
+    for lines in $sizes; do
         library=$(instructions library "$figures" "$call" "$@" $lines)
         reference=$(instructions reference "$figures" "$call" "$@" $lines)
         time=$("$bench" time "$figures" "$call" "$@" $lines)
@@ -64,6 +64,7 @@ header() {
     printf ' | %8s %9s %5s %5s %11s\n' library reference ratio "" growth
 }
 
+sizes="1000 10000 40000"
 header "A yard's list: tares of four or five digits, codes of three, weighing numbers of six"
 rows yard build 2200 8 8 1 1
 rows yard read_back 2300 8 8 1 1
@@ -85,3 +86,8 @@ rows any build 600 2 1 1 4
 rows any read_back 700 2 1 1 4
 rows any step 1200 2 1 1 4
 rows any lookup - 2 1 1 4
+
+sizes=10000
+header "The yard's list with all columns full of zeros"
+rows zeros build - 8 8 1 1
+rows zeros build - 2 1 1 4

@@ -43,10 +43,11 @@ extern "C" {
  * The version of what this file declares. A change that programs must follow
  * raises the first number, or, while that is 0, the second. Cycles built before
  * 0.2 are to be built anew: distances in them may lead past the next cycle's
- * start, and such buckets are refused (8).
+ * start, and such buckets are refused (8). From 0.3 on a list's numbers may have
+ * leading zeros, and a list read back need not be the bytes that were built.
  */
 #define PANSDAOH_VERSION_MAJOR 0
-#define PANSDAOH_VERSION_MINOR 2
+#define PANSDAOH_VERSION_MINOR 3
 #define PANSDAOH_VERSION_PATCH 0
 
 #define PANSDAOH_LINE 27           /* bytes of a list line, its newline included */
@@ -63,7 +64,7 @@ enum pansdaoh_refusal {
     PANSDAOH_REFUSED_SETTINGS = 1,
     /* list length no multiple of 27, or over 40,000 lines */
     PANSDAOH_REFUSED_LIST_LENGTH = 2,
-    /* line misprinted; place: first such line */
+    /* line misprinted; place: first such line; leading zeros are no misprint */
     PANSDAOH_REFUSED_LINE = 3,
     /* tag falls; place: first such line */
     PANSDAOH_REFUSED_TAG_FALLS = 4,
@@ -100,6 +101,10 @@ struct pansdaoh_answer {
  * Builds the cycle of a list into out and returns N, its number of buckets, as
  * the count: 240 x N bytes are written. Room for any cycle is
  * 240 x 99,999 bytes.
+ *
+ * A number of a list line has blanks or leading zeros before it, or both, the
+ * blanks first. The cycle has blanks in their place, so lists that differ in
+ * leading zeros alone have the same cycle.
  *
  *   n       entries for an index bucket, 2 to 8
  *   p       lines for a data bucket, 1 to 8
@@ -152,6 +157,10 @@ struct pansdaoh_size_answer pansdaoh_size(uint64_t lines, uint64_t n, uint64_t p
  * Writes the list that builds this image under these settings to out and
  * returns its number of lines as the count: 27 bytes for each are written. Room
  * for any list is 27 x 40,000 bytes.
+ *
+ * Of the lists that build it, this is the one without leading zeros: the list
+ * that was built, with its leading zeros made blank. An image that has a leading
+ * zero itself is built by none (13).
  *
  * Refused by 1, 11, 13, 7, in this order.
  */

@@ -1,6 +1,5 @@
 -- The laws of the definitions that more than one proof cites.
 pub mod ListLines
-pub mod Lists
 pub mod Good
 pub mod Buckets
 pub mod BucketLines
@@ -9,7 +8,14 @@ pub mod Within
 pub mod Bounds
 pub mod Items
 pub mod LineColumns
+pub mod ColumnByColumn
 pub mod PrintedRest
+pub mod LenientLines
+pub mod Blanked
+pub mod ListParts
+pub mod Lists
+pub mod BlankedLists
+pub mod Bridges
 pub mod Entries
 pub mod EntriesPut
 pub mod BodyItems
@@ -20,5 +26,4 @@ pub mod Progress
 pub mod Holding
 pub mod Fronts
 pub mod Pages
-pub mod ListParts
 pub mod CopiedLines

@@ -14,13 +14,13 @@ use Rattle.columns.specs.Lists.{pick}
 use Rattle.columns.specs.PrintedNumbers.{print, asNumber}
 use Rattle.columns.proofs.Strict.{both}
 use Rattle.buckets.specs.declared.Line.{Line}
-use Rattle.buckets.specs.ListLine.{fits, lineColumns, printLine, readLine}
+use Rattle.buckets.specs.ListLine.{fits, lineColumns, printLine}
 use Rattle.buckets.specs.Bucket.{columns}
-use Rattle.buckets.specs.Inner.Columns.{numberWithin, readLineColumns}
+use Rattle.buckets.specs.Inner.Columns.{numberWithin, readLineColumns, readPlain}
 use Rattle.buckets.specs.Lengths.{newline, tagWidth, tareWidth, codeWidth, weighingWidth, tagStart, tareStart, codeStart}
 use Rattle.buckets.specs.Lengths.{weighingStart, lineColumnsWidth, restWidth, lineLength, tagMost, tareMost, codeMost}
 use Rattle.buckets.specs.Lengths.{weighingMost}
-use Rattle.buckets.proofs.ListLines.{Fits, line-fits, small-tag, length-line-columns, length-printLine, read-of-print-line, print-of-read-line}
+use Rattle.buckets.proofs.ListLines.{Fits, line-fits, small-tag, length-line-columns, length-printLine, read-of-print-plain, print-of-read-plain}
 use Rattle.buckets.proofs.Chained.{then-found, pick-found, same-reading}
 use Rattle.buckets.proofs.Stages.{number-most}
 use Rattle.buckets.proofs.Within.{within-back, columns-split, columns-all, columns-one, field-only}
@@ -123,18 +123,15 @@ line-only s {l} h =
     )
 
 -- a line read field by field is the line read strictly
-pub read-line-fields : (s : List ℕ) → readLine s ≡ readLineFields s
+pub read-line-fields : (s : List ℕ) → readPlain s ≡ readLineFields s
 read-line-fields =
-    same-reading printLine fits readLine readLineFields read-of-print-line
-    (λ s l e. let told = print-of-read-line s e in (told .0, told .1)) line-back (λ s l e. line-only s e)
+    same-reading printLine fits readPlain readLineFields read-of-print-plain
+    (λ s l e. let told = print-of-read-plain s e in (told .0, told .1)) line-back (λ s l e. line-only s e)
 
-pub by-fields : {R : Type 0} (answer : Option Line → R) (s : List ℕ) {z : R} → z ≡ answer (readLineFields s) → z ≡ answer (readLine s)
+pub by-fields : {R : Type 0} (answer : Option Line → R) (s : List ℕ) {z : R} → z ≡ answer (readLineFields s) → z ≡ answer (readPlain s)
 by-fields answer s is = is ∙ ap answer (sym (read-line-fields s))
 
 -- ---- the tag of a line that was read
-
-tag-small : (l : Line) → fits l ≡ true → l .tag ≤ tagMost
-tag-small l h = line-fits l h .small-tag
 
 pub line-columns-tag-small : (m : ℕ) (s : List ℕ) (l : Line) → readLineColumns m s ≡ some l → l .tag ≤ tagMost
 unfolding readLineColumns
@@ -145,6 +142,3 @@ line-columns-tag-small m s l h =
     let fourth = then-found (numberWithin 0 weighingMost (columns weighingStart weighingWidth s)) _ (third .2) in
     let is : l .tag ≡ first .0 = cc in
     rw is (number-most m tagMost (columns tagStart tagWidth s) (first .0) refl (ap asNumber (first .1)))
-
-pub line-tag-small : (s : List ℕ) (l : Line) → readLine s ≡ some l → l .tag ≤ tagMost
-line-tag-small s l h = tag-small l (print-of-read-line s h .1)

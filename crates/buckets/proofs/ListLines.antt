@@ -1,4 +1,5 @@
--- The laws of a list line: its width, and that reading undoes printing and printing undoes reading.
+-- The laws of a list line: its width, and, of a line without leading zeros, that reading undoes printing and printing undoes
+-- reading.
 -- Assumes nothing.
 use Prim.Native.Nat.{ℕ, _≤_}
 use mathlib.Core.Path.{_≡_, refl, ap, _∙_}
@@ -12,7 +13,8 @@ use borrow.Author.Tests.{leb-true, le-leb}
 use Rattle.columns.proofs.Strict.{both, strict-back, strict-only}
 use Rattle.columns.proofs.Printed.{value-print}
 use Rattle.buckets.specs.declared.Line.{Line}
-use Rattle.buckets.specs.ListLine.{tagFits, fits, lineColumns, printLine, spelledColumns, spelled, readLine, taken}
+use Rattle.buckets.specs.ListLine.{tagFits, fits, lineColumns, printLine, spelledColumns, spelled, taken}
+use Rattle.buckets.specs.Inner.Columns.{readPlain}
 use Rattle.buckets.specs.Lengths.{newline, tagWidth, tareWidth, codeWidth, weighingWidth, lineColumnsWidth, lineLength}
 use Rattle.buckets.specs.Lengths.{tagMost, tareMost, codeMost, weighingMost}
 
@@ -79,20 +81,22 @@ pub spelled-printLine : (l : Line) → fits l ≡ true → spelled (printLine l)
 unfolding printLine
 spelled-printLine l h = spelled-line-columns l (newline ∷ []) h
 
-pub read-of-print-line : (l : Line) → fits l ≡ true → readLine (printLine l) ≡ some l
-unfolding readLine
-read-of-print-line l h = strict-back spelled fits printLine l h (spelled-printLine l h)
+-- ---- without leading zeros
 
-pub print-of-read-line : (s : List ℕ) {l : Line} → readLine s ≡ some l → (s ≡ printLine l) × (fits l ≡ true) × (l ≡ spelled s)
-unfolding readLine
-print-of-read-line s h = strict-only spelled fits printLine s h
+pub read-of-print-plain : (l : Line) → fits l ≡ true → readPlain (printLine l) ≡ some l
+unfolding readPlain
+read-of-print-plain l h = strict-back spelled fits printLine l h (spelled-printLine l h)
 
--- bytes that read are the print of what they spell
-pub read-line-spelled : (s : List ℕ) → taken (readLine s) ≡ true → (s ≡ printLine (spelled s)) × (fits (spelled s) ≡ true)
-read-line-spelled s h = go (readLine s) refl h
+pub print-of-read-plain : (s : List ℕ) {l : Line} → readPlain s ≡ some l → (s ≡ printLine l) × (fits l ≡ true) × (l ≡ spelled s)
+unfolding readPlain
+print-of-read-plain s h = strict-only spelled fits printLine s h
+
+-- bytes that read so are the print of what they spell
+pub plain-spelled : (s : List ℕ) → taken (readPlain s) ≡ true → (s ≡ printLine (spelled s)) × (fits (spelled s) ≡ true)
+plain-spelled s h = go (readPlain s) refl h
   where
-    go : (o : Option Line) → readLine s ≡ o → taken o ≡ true → (s ≡ printLine (spelled s)) × (fits (spelled s) ≡ true)
+    go : (o : Option Line) → readPlain s ≡ o → taken o ≡ true → (s ≡ printLine (spelled s)) × (fits (spelled s) ≡ true)
     go none e k = absurd (let z : _≡_ {A = ℕ} 0 1 = cc in omega arith)
     go (some l) e k =
-        let told = print-of-read-line s e in
+        let told = print-of-read-plain s e in
         (told .0 ∙ ap printLine (told .2), rw (told .2) at (told .1))

@@ -5,14 +5,14 @@ use Prim.Native.Nat.{ℕ, suc, _^_, _≤_, _<_, _+_, _-_}
 use mathlib.Core.Path.{_≡_, refl, sym, ap, _∙_}
 use mathlib.Core.Bool.{Bool, true, false, _&&_, true≢false}
 use mathlib.Core.Option.{Option, none, some}
-use mathlib.Core.List.{List, [], _++_, append-nil}
+use mathlib.Core.List.{List, _++_}
 use native.Mathlib.Omega.{arith}
 use lib.Dec.{leb}
 use lib.ListN.{length, drop, getD, length-drop}
 use Rattle.columns.specs.Lists.{pick}
 use Rattle.columns.specs.PrintedNumbers.{readNumber, orMisprint}
-use Rattle.columns.specs.Inner.Places.{places, columnsPrinted}
-use Rattle.columns.proofs.Strict.{both, and-true}
+use Rattle.columns.specs.Inner.Places.{columnPrinted, columnsBy}
+use Rattle.columns.proofs.Strict.{both}
 use Rattle.columns.proofs.Printed.{print-of-read}
 use Rattle.columns.proofs.LeadingBlanks.{past-one}
 use Rattle.columns.proofs.Places.{found, field-printed}
@@ -24,29 +24,17 @@ use Rattle.buckets.specs.Lengths.{tagWidth, tareWidth, codeWidth, weighi
 use Rattle.buckets.specs.Lengths.{weighingStart, lineColumnsWidth, restWidth, tagMost, tareMost, codeMost, weighingMost}
 use Rattle.buckets.proofs.Bounds.{within, answer-within}
 use Rattle.buckets.proofs.Chained.{then-found}
+use Rattle.buckets.proofs.ColumnByColumn.{rest-fields}
 use Rattle.buckets.proofs.Within.{length-columns, columns-split, columns-first, first-used}
 
--- three fields one behind the other
-fields-printed : (a b c : List ℕ) → length a ≡ tareWidth → length b ≡ codeWidth → length c ≡ weighingWidth
-    → columnsPrinted restPlaces 32 (a ++ (b ++ c))
-    ≡ (found (readNumber a) && (found (readNumber b) && found (readNumber c)))
-fields-printed a b c wide-tare wide-code wide-weighing =
-    field-printed (places (codeWidth - 2) ++ places (weighingWidth - 2)) (b ++ c) (found (readNumber b) && found (readNumber c)) second (tareWidth - 2) 32 a wide-tare
-  where
-    third : (x : ℕ) → columnsPrinted (places (weighingWidth - 2)) x c ≡ found (readNumber c)
-    third x = rw (append-nil c, and-true (found (readNumber c))) at (field-printed [] [] true (λ y. refl) (weighingWidth - 2) x c wide-weighing)
-
-    second : (x : ℕ) → columnsPrinted (places (codeWidth - 2) ++ places (weighingWidth - 2)) x (b ++ c) ≡ (found (readNumber b) && found (readNumber c))
-    second x = field-printed (places (weighingWidth - 2)) c (found (readNumber c)) third (codeWidth - 2) x b wide-code
-
 module _ (s : List ℕ) (long : lineColumnsWidth ≤ length s) where
-  pub rest-printed : columnsPrinted restPlaces 32 (columns tareStart restWidth s)
+  pub rest-printed : columnsBy columnPrinted restPlaces 32 (columns tareStart restWidth s)
       ≡ (found (readNumber (columns tareStart tareWidth s)) && (found (readNumber (columns codeStart codeWidth s)) && found (readNumber (columns weighingStart weighingWidth s))))
   rest-printed =
       let cut : columns tareStart restWidth s ≡ columns tareStart tareWidth s ++ (columns codeStart codeWidth s ++ columns weighingStart weighingWidth s) =
       columns-split tareStart tareWidth (codeWidth + weighingWidth) s ∙ ap (λ (r : List ℕ). columns tareStart tareWidth s ++ r) (columns-split codeStart codeWidth weighingWidth s) in
-      ap (columnsPrinted restPlaces 32) cut
-      ∙ fields-printed (columns tareStart tareWidth s) (columns codeStart codeWidth s) (columns weighingStart weighingWidth s)
+      ap (columnsBy columnPrinted restPlaces 32) cut
+      ∙ rest-fields columnPrinted (λ f. found (readNumber f)) field-printed 32 (columns tareStart tareWidth s) (columns codeStart codeWidth s) (columns weighingStart weighingWidth s)
       (length-columns tareStart tareWidth s (omega arith)) (length-columns codeStart codeWidth s (omega arith)) (length-columns weighingStart weighingWidth s (omega arith))
 
 -- a number read within bounds was read
@@ -78,7 +66,7 @@ tare-within f wide blank h =
 
 module _ (m : ℕ) (s : List ℕ) (long : lineColumnsWidth ≤ length s) where
   -- a line that was read tells of its columns
-  line-columns-printed : {l : Line} → readLineColumns m s ≡ some l → columnsPrinted restPlaces 32 (columns tareStart restWidth s) ≡ true
+  line-columns-printed : {l : Line} → readLineColumns m s ≡ some l → columnsBy columnPrinted restPlaces 32 (columns tareStart restWidth s) ≡ true
   unfolding readLineColumns
   line-columns-printed h =
       let first = then-found (numberWithin m tagMost (columns tagStart tagWidth s)) _ h in
@@ -89,7 +77,7 @@ module _ (m : ℕ) (s : List ℕ) (long : lineColumnsWidth ≤ length s) where
       ∙ rw (read-found 0 tareMost _ (second .1), read-found 0 codeMost _ (third .1), read-found 0 weighingMost _ (fourth .1))
 
   -- what the code answers where r tells whether the columns behind the tag are well printed
-  pub rest-misprinted : {r : Bool} → r ≡ columnsPrinted restPlaces 32 (columns tareStart restWidth s) → r ≡ false
+  pub rest-misprinted : {r : Bool} → r ≡ columnsBy columnPrinted restPlaces 32 (columns tareStart restWidth s) → r ≡ false
       → 18446744073709551615 ≡ tagOrMisprint (readLineColumns m s)
   rest-misprinted test h = go (readLineColumns m s) refl
     where
@@ -109,7 +97,7 @@ module _ (m : ℕ) (s : List ℕ) (long : lineColumnsWidth ≤ length s) where
     unfolding readLineColumns
     tare-too-long n = rw (tag, first-used 0 tareMost (tareWidth - 2) (columns tareStart tareWidth s) (length-columns tareStart tareWidth s (omega arith)) (omega arith) (λ e. n (sym tare-first ∙ e)))
 
-    pub tag-answered : {r : Bool} → getD s tareStart 0 ≡ 32 → r ≡ columnsPrinted restPlaces 32 (columns tareStart restWidth s) → r ≡ true
+    pub tag-answered : {r : Bool} → getD s tareStart 0 ≡ 32 → r ≡ columnsBy columnPrinted restPlaces 32 (columns tareStart restWidth s) → r ≡ true
         → t ≡ tagOrMisprint (readLineColumns m s)
     unfolding readLineColumns
     tag-answered b test h =

@@ -3,4 +3,5 @@ pub mod Lengths
 pub mod ListLine
 pub mod Bucket
 pub mod BucketLines
+pub mod Bridges
 pub mod Inner

@@ -1,4 +1,4 @@
--- Document 01, "A list line", and the conditions 2, 3 and 4 of "Refused inputs".
+-- Document 01, "A list line", with document 02, C-13, and the conditions 2, 3 and 4 of "Refused inputs".
 -- Assumes nothing.
 use Prim.Native.Nat.{ℕ, suc, _/_, _%_}
 use mathlib.Core.Bool.{Bool, true, false, _&&_}
@@ -6,8 +6,8 @@ use mathlib.Core.Option.{Option, none, some}
 use mathlib.Core.List.{List, [], _∷_, _++_, map}
 use lib.Dec.{leb, eqb}
 use lib.ListN.{length, take, drop}
-use Rattle.columns.specs.Lists.{pick, joined, parts, strict}
-use Rattle.columns.specs.PrintedNumbers.{print, value}
+use Rattle.columns.specs.Lists.{pick, joined, every, parts, same}
+use Rattle.columns.specs.PrintedNumbers.{print, value, readLenient, blankZeros}
 use Rattle.buckets.specs.declared.Line.{Line}
 use Rattle.buckets.specs.Lengths.{newline, tagWidth, tareWidth, codeWidth, weighingWidth, tareStart, codeStart}
 use Rattle.buckets.specs.Lengths.{weighingStart, lineColumnsWidth, lineLength, tagMost, tareMost, codeMost, weighingMost}
@@ -53,9 +53,27 @@ spelledColumns s =
 unfoldable pub spelled : List ℕ → Line
 spelled s = spelledColumns s
 
--- a list line read strictly
+-- whether a reading took what it was given
+abbrev pub taken {ℓ} : {A : Type ℓ} → Option A → Bool
+taken none = false
+taken (some x) = true
+
+-- the columns of a line's four numbers
+abbrev pub lineFields : List ℕ → List (List ℕ)
+lineFields s =
+    take tagWidth s ∷
+    take tareWidth (drop tareStart s) ∷
+    take codeWidth (drop codeStart s) ∷
+    take weighingWidth (drop weighingStart s) ∷ []
+
+-- four numbers and a newline, nothing behind it; document 02, C-13: "The reading of a number in a list line accepts leading
+-- zeros, blanks before them or none."
+unfoldable pub hasNumbers : List ℕ → Bool
+hasNumbers s = every (λ field. taken (readLenient field)) (lineFields s) && same (drop lineColumnsWidth s) (newline ∷ [])
+
+-- a list line read: its four numbers, each in its range
 unfoldable pub readLine : List ℕ → Option Line
-readLine s = strict spelled fits printLine s
+readLine s = pick (hasNumbers s && fits (spelled s)) (some (spelled s)) none
 
 -- a list's lines as bytes, 27 each
 unfoldable pub cutLines : List ℕ → List (List ℕ)
@@ -73,11 +91,6 @@ fewLines c = leb c linesMost
 unfoldable pub wholeLines : ℕ → Bool
 wholeLines c = eqb (c % lineLength) 0 && fewLines (c / lineLength)
 
--- whether a strict reading took what it was given
-abbrev pub taken {ℓ} : {A : Type ℓ} → Option A → Bool
-taken none = false
-taken (some x) = true
-
 -- 3: "line misprinted; place: first such line", counted from i
 abbrev pub misprintFrom : ℕ → List (List ℕ) → Option ℕ
 misprintFrom i [] = none
@@ -87,3 +100,17 @@ misprintFrom i (s ∷ ss) = pick (taken (readLine s)) (misprintFrom (suc i) ss) 
 abbrev pub fallFrom : ℕ → ℕ → List Line → Option ℕ
 fallFrom i m [] = none
 fallFrom i m (l ∷ ls) = pick (leb m (l .tag)) (fallFrom (suc i) (l .tag) ls) (some i)
+
+-- ---- document 02, C-13: "the list with its leading zeros made blank (zero stays one 0)"
+
+-- a field: only one that holds a number is changed
+unfoldable pub blankedField : List ℕ → List ℕ
+blankedField field = pick (taken (readLenient field)) (blankZeros field) field
+
+-- a list line, field by field; its newline stays
+unfoldable pub blankedLine : List ℕ → List ℕ
+blankedLine s = joined blankedField (lineFields s) ++ drop lineColumnsWidth s
+
+-- a list; one that is no whole lines stays
+unfoldable pub blankedList : List ℕ → List ℕ
+blankedList s = pick (eqb (length s % lineLength) 0) (joined blankedLine (cutLines s)) s

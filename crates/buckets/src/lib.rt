@@ -112,7 +112,7 @@ const BLANK: u8 = 32;
 
 pub const NEWLINE: u8 = 10;
 
-// What a strict reading of a list line finds.
+// What a reading of a line finds: lenient of a list line, strict of a line of a bucket.
 pub enum LineRead {
     Read(Line),
     Misprinted,

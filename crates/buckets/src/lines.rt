@@ -11,19 +11,50 @@ use columns::LAST;
 use columns::MISPRINT;
 use columns::Number;
 ghost use mathlib.Core.Path.{_≡_};
+ghost use mathlib.Core.Bool.{true};
 ghost use Prim.Native.Nat.{_+_, _*_, _≤_};
 ghost use lib.ListN.{length, take, drop};
 ghost use Rattle.columns.specs.Lists.{put};
 ghost use Rattle.columns.specs.PrintedNumbers.{value};
-ghost use Rattle.columns.specs.Inner.Places.{columnsPrinted};
+ghost use Rattle.columns.specs.Inner.Places.{columnPrinted, columnDigits, columnsBy};
 ghost use Rattle.buckets.specs.Lengths.{tagWidth, lineColumnsWidth, restWidth, lineLength};
 ghost use Rattle.buckets.specs.ListLine.{lineColumns, printLine, endedLine, endedLines, readLine};
 ghost use Rattle.buckets.specs.Bucket.{spelledLine};
 ghost use Rattle.buckets.specs.Inner.Held.{asLineRead, tagOrMisprint};
-ghost use Rattle.buckets.specs.Inner.Columns.{readLineColumns, restPlaces};
+ghost use Rattle.buckets.specs.Inner.Columns.{readLineColumns, readPlain, blankedColumns, restPlaces, linePlaces};
 
 // The places of the columns of tare, material code and weighing number in their fields.
 const PLACES: [u8; Line::REST] = [
+    FIRST,
+    BETWEEN,
+    BETWEEN,
+    BETWEEN,
+    BETWEEN,
+    LAST,
+    FIRST,
+    BETWEEN,
+    BETWEEN,
+    LAST,
+    FIRST,
+    BETWEEN,
+    BETWEEN,
+    BETWEEN,
+    BETWEEN,
+    LAST,
+];
+
+// The places of all columns of a line.
+const LINE_PLACES: [u8; Line::COLUMNS] = [
+    FIRST,
+    BETWEEN,
+    BETWEEN,
+    BETWEEN,
+    BETWEEN,
+    BETWEEN,
+    BETWEEN,
+    BETWEEN,
+    BETWEEN,
+    LAST,
     FIRST,
     BETWEEN,
     BETWEEN,
@@ -84,7 +115,7 @@ pub fn read_columns(part: &[u8], low: u64) -> LineRead
 // that all are tested at once.
 fn rest_printed(part: &[u8]) -> bool
     requires { ⌜ length (now part) ≡ restWidth ⌝ }
-    ensures { λ r. ⌜ r ≡ columnsPrinted restPlaces 32 (now (part .entry)) ⌝ }
+    ensures { λ r. ⌜ r ≡ columnsBy columnPrinted restPlaces 32 (now (part .entry)) ⌝ }
 {
     let places = PLACES;
     let mut still = true;
@@ -121,20 +152,39 @@ pub fn read_tag(part: &[u8], low: u64) -> u64
     MISPRINT
 }
 
-// The list line that part is.
-pub fn read_line(part: &[u8]) -> LineRead
-    ensures { λ r. ⌜ r ≡ asLineRead (readLine (now (part .entry))) ⌝ }
+// The tag of the list line that part is, if no number of it has a leading zero, or MISPRINT.
+pub fn plain_tag(part: &[u8]) -> u64
+    ensures { λ r. ⌜ r ≡ tagOrMisprint (readPlain (now (part .entry))) ⌝ }
 {
     if part.len() != Line::LENGTH {
-        return LineRead::Misprinted;
+        return MISPRINT;
     }
     if part[Line::COLUMNS] != NEWLINE {
-        return LineRead::Misprinted;
+        return MISPRINT;
     }
-    read_columns(part, 0)
+    read_tag(part, 0)
 }
 
-// The tag of the list line that part is, or MISPRINT.
+// Whether the columns of a list line hold numbers, leading zeros or none. Each column is looked at, so that all are tested at
+// once.
+fn has_numbers(part: &[u8]) -> bool
+    requires { ⌜ length (now part) ≡ lineColumnsWidth ⌝ }
+    ensures { λ r. ⌜ r ≡ columnsBy columnDigits linePlaces 32 (now (part .entry)) ⌝ }
+{
+    let places = LINE_PLACES;
+    let mut still = true;
+    let mut before = BLANK;
+    let mut i = 0;
+    while i < Line::COLUMNS {
+        let c = part[i];
+        still = columns::still_digits(still, places[i], before, c);
+        before = c;
+        i += 1;
+    }
+    still
+}
+
+// The tag of the list line that part is, or MISPRINT. A tare leaves its first column blank or 0.
 pub fn line_tag(part: &[u8]) -> u64
     ensures { λ r. ⌜ r ≡ tagOrMisprint (readLine (now (part .entry))) ⌝ }
 {
@@ -144,7 +194,27 @@ pub fn line_tag(part: &[u8]) -> u64
     if part[Line::COLUMNS] != NEWLINE {
         return MISPRINT;
     }
-    read_tag(part, 0)
+    if !has_numbers(&part[Line::TAG..Line::COLUMNS]) {
+        return MISPRINT;
+    }
+    if b'0' < part[Line::TARE] {
+        return MISPRINT;
+    }
+    let tag = columns::lenient_number(&part[Line::TAG..Line::TARE]);
+    if Line::TAG_MOST < tag {
+        return MISPRINT;
+    }
+    tag
+}
+
+// The list line that part is.
+pub fn read_line(part: &[u8]) -> LineRead
+    ensures { λ r. ⌜ r ≡ asLineRead (readLine (now (part .entry))) ⌝ }
+{
+    if line_tag(part) == MISPRINT {
+        return LineRead::Misprinted;
+    }
+    LineRead::Read(spelled_line(&part[Line::TAG..Line::COLUMNS]))
 }
 
 // A line without its newline.
@@ -165,6 +235,22 @@ pub fn write_line(part: &mut [u8], l: Line)
 {
     write_columns(&mut part[0..Line::COLUMNS], l);
     part[Line::COLUMNS] = NEWLINE;
+}
+
+// The columns of a list line with leading zeros made blank. Where `plain` says so, it has none.
+pub fn put_columns(part: &mut [u8], line: &[u8], plain: bool)
+    requires { ⌜ (length (now part) ≡ lineColumnsWidth) × ((length (now line) ≡ lineColumnsWidth)
+        × (plain ≡ true → blankedColumns (now line) ≡ now line)) ⌝ }
+    ensures { λ _. ⌜ now (part .exit) ≡ blankedColumns (now (line .entry)) ⌝ }
+{
+    columns::copy_columns(part, line);
+    if plain {
+        return;
+    }
+    columns::blank_zeros(&mut part[Line::TAG..Line::TARE]);
+    columns::blank_zeros(&mut part[Line::TARE..Line::CODE]);
+    columns::blank_zeros(&mut part[Line::CODE..Line::WEIGHING]);
+    columns::blank_zeros(&mut part[Line::WEIGHING..Line::COLUMNS]);
 }
 
 // A line's columns from a place of a text on, and a newline, to a place of out.

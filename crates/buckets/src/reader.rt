@@ -17,7 +17,7 @@ ghost use mathlib.Core.Option.{none};
 ghost use Prim.Native.Nat.{_+_, _≤_};
 ghost use lib.ListN.{length};
 ghost use Rattle.buckets.specs.Lengths.{entryWidth, pairsWidth, entriesWidth, linesWidth, bucketLength};
-ghost use Rattle.buckets.specs.Lengths.{pairsMost, entriesMost, bucketLinesMost, bucketsMost};
+ghost use Rattle.buckets.specs.Lengths.{pairsMost, entriesMost, bucketLinesMost};
 ghost use Rattle.buckets.specs.Bucket.{readBucket};
 ghost use Rattle.buckets.specs.Inner.Held.{heldIndex, asReading};
 ghost use Rattle.buckets.specs.Inner.Columns.{readEntry, readBlankPair, readPrintedPair, readPair, readPairs, readEntries};

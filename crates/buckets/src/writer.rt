@@ -3,18 +3,21 @@ use super::Bucket;
 use super::Head;
 use super::Line;
 use super::NEWLINE;
+use super::lines::put_columns;
 use columns;
 ghost use mathlib.Core.Path.{_≡_};
+ghost use mathlib.Core.Bool.{true};
 ghost use mathlib.Core.Option.{none};
 ghost use mathlib.Core.List.{[], _∷_, _++_};
 ghost use Prim.Native.Nat.{_+_, _*_, _%_, _≤_, _<_};
 ghost use lib.ListN.{length, take, drop};
 ghost use Rattle.columns.specs.Lists.{joined, padded, put};
-ghost use Rattle.columns.specs.PrintedNumbers.{print, blanks};
+ghost use Rattle.columns.specs.PrintedNumbers.{print, blanks, blankZeros};
 ghost use Rattle.buckets.specs.Lengths.{newline, tagWidth, placeWidth, lineLength, headWidth, entryWidth, linesWidth, bucketEnd, bucketLength};
 ghost use Rattle.buckets.specs.Lengths.{pairsMost, entriesMost, bucketLinesMost, pairsWidth};
 ghost use Rattle.buckets.specs.ListLine.{lineColumns, cutLines, listLines, misprintFrom};
 ghost use Rattle.buckets.specs.Bucket.{headColumns, printPair, printEntry, printBucket, dataBody};
+ghost use Rattle.buckets.specs.Inner.Columns.{PlainList};
 ghost use Rattle.buckets.specs.Inner.Held.{entriesOf, pairsOf, bucketWith, indexFront, entryStart, EntryBlank};
 
 // The columns before the pairs or the lines.
@@ -110,39 +113,62 @@ pub fn start_index<'a>(
     part[Bucket::END] = NEWLINE;
 }
 
-// Entry i of an index bucket, over columns that are blank: its tag copied from a place in a text, and its distance.
-pub fn put_entry(part: &mut [u8], i: usize, text: &[u8], from: usize, distance: u64)
-    requires { ⌜ (length (now part) ≡ bucketLength) × ((i < entriesMost) × ((from + tagWidth ≤ length (now text)) × EntryBlank (now part) i)) ⌝ }
-    ensures { λ _. ⌜ now (part .exit) ≡ put (now (part .entry)) (entryStart i) (take tagWidth (drop from (now (text .entry))) ++ print placeWidth distance) ⌝ }
+// A tag's columns with leading zeros made blank. Where `plain` says so, it has none.
+fn put_tag(part: &mut [u8], tag: &[u8], plain: bool)
+    requires { ⌜ (length (now part) ≡ tagWidth) × ((length (now tag) ≡ tagWidth)
+        × (plain ≡ true → blankZeros (now tag) ≡ now tag)) ⌝ }
+    ensures { λ _. ⌜ now (part .exit) ≡ blankZeros (now (tag .entry)) ⌝ }
+{
+    if plain {
+        columns::copy_columns(part, tag);
+        return;
+    }
+    columns::copy_blanked(part, tag);
+}
+
+// Entry i of an index bucket, the columns of its distance being blank: its tag copied from a place in a text, with leading zeros
+// made blank, and its distance. Where `plain` says so, the tag has none.
+pub fn put_entry(part: &mut [u8], i: usize, text: &[u8], from: usize, plain: bool, distance: u64)
+    requires { ⌜ (length (now part) ≡ bucketLength) × ((i < entriesMost) × ((from + tagWidth ≤ length (now text))
+        × (EntryBlank (now part) i
+        × (plain ≡ true → blankZeros (take tagWidth (drop from (now text))) ≡ take tagWidth (drop from (now text)))))) ⌝ }
+    ensures { λ _. ⌜ now (part .exit) ≡ put (now (part .entry)) (entryStart i) (blankZeros (take tagWidth (drop from (now (text .entry)))) ++ print placeWidth distance) ⌝ }
 {
     let at = Bucket::ENTRIES + i * Bucket::ENTRY;
     let to = at + Bucket::DISTANCE;
-    columns::copy_columns(&mut part[at..to], &text[from..from + Line::TAG_WIDTH]);
+    put_tag(
+        &mut part[at..to],
+        &text[from..from + Line::TAG_WIDTH],
+        plain,
+    );
     columns::print_at(part, to, at + Bucket::ENTRY, distance);
 }
 
-// List lines without their newlines.
-fn write_lines(part: &mut [u8], lines: &[u8])
+// List lines without their newlines and leading zeros; where `plain` says so, they have none.
+fn write_lines(part: &mut [u8], lines: &[u8], plain: bool)
     requires { ⌜ (now part ≡ blanks linesWidth) × ((length (now lines) % lineLength ≡ 0)
-        × ((length (now lines) ≤ bucketLinesMost * lineLength) × (misprintFrom 0 (cutLines (now lines)) ≡ none))) ⌝ }
+        × ((length (now lines) ≤ bucketLinesMost * lineLength) × ((misprintFrom 0 (cutLines (now lines)) ≡ none)
+        × (plain ≡ true → PlainList (now lines))))) ⌝ }
     ensures { λ _. ⌜ now (part .exit) ≡ padded linesWidth (joined lineColumns (listLines (now (lines .entry)))) ⌝ }
 {
     let mut from = 0;
     let mut at = 0;
     while from < lines.len() {
-        columns::copy_columns(
+        put_columns(
             &mut part[at..at + Line::COLUMNS],
             &lines[from..from + Line::COLUMNS],
+            plain,
         );
         from += Line::LENGTH;
         at += Line::COLUMNS;
     }
 }
 
-// A data bucket with the lines of a part of a list.
-pub fn write_data(part: &mut [u8], head: Head, follow_on: u64, lines: &[u8])
+// A data bucket with the lines of a part of a list; where `plain` says so, no number of them has a leading zero.
+pub fn write_data(part: &mut [u8], head: Head, follow_on: u64, lines: &[u8], plain: bool)
     requires { ⌜ (length (now part) ≡ bucketLength) × ((length (now lines) % lineLength ≡ 0)
-        × ((length (now lines) ≤ bucketLinesMost * lineLength) × (misprintFrom 0 (cutLines (now lines)) ≡ none))) ⌝ }
+        × ((length (now lines) ≤ bucketLinesMost * lineLength) × ((misprintFrom 0 (cutLines (now lines)) ≡ none)
+        × (plain ≡ true → PlainList (now lines))))) ⌝ }
     ensures { λ _. ⌜ now (part .exit) ≡ printBucket (bucketWith head (dataBody «follow_on» (listLines (now (lines .entry))))) ⌝ }
 {
     columns::print_blanks(part);
@@ -154,6 +180,6 @@ pub fn write_data(part: &mut [u8], head: Head, follow_on: u64, lines: &[u8])
         0,
         (lines.len() / Line::LENGTH) as u64,
     );
-    write_lines(&mut part[Bucket::LINES..Bucket::END], lines);
+    write_lines(&mut part[Bucket::LINES..Bucket::END], lines, plain);
     part[Bucket::END] = NEWLINE;
 }

@@ -11,5 +11,6 @@ pub mod FromTheRight
 pub mod Padded
 pub mod Table
 pub mod Places
+pub mod Lenient
 pub mod Rows
 pub mod Blank

@@ -1,7 +1,7 @@
--- Document 01, "Printed numbers".
+-- Document 01, "Printed numbers", with document 02, C-13: the numbers of buckets are read strictly, those of list lines leniently.
 -- Assumes nothing.
 use Prim.Native.Nat.{ℕ, zero, suc, _+_, _-_, _*_, _/_, _%_, _^_}
-use mathlib.Core.Bool.{Bool, true, false, _&&_}
+use mathlib.Core.Bool.{Bool, true, false, _&&_, _||_}
 use mathlib.Core.Option.{Option, none, some}
 use mathlib.Core.List.{List, [], _∷_}
 use lib.Dec.{leb, ltb, eqb}
@@ -50,3 +50,20 @@ asNumber (some x) = Value x
 abbrev pub orMisprint : Option ℕ → ℕ
 orMisprint none = 18446744073709551615
 orMisprint (some x) = x
+
+-- ---- document 02, C-13, "Leading zeros from two old bridges"
+
+-- blanks, none or more, then digits, one or more, to the last column
+abbrev pub blanksDigits : List ℕ → Bool
+blanksDigits [] = false
+blanksDigits (c ∷ s) = pick (eqb c 32) (blanksDigits s) (every digit (c ∷ s))
+
+-- "The reading of a number in a list line accepts leading zeros, blanks before them or none."
+unfoldable pub readLenient : List ℕ → Option ℕ
+readLenient s = pick (blanksDigits s) (some (value 0 s)) none
+
+-- "leading zeros made blank (zero stays one 0)": those that nothing but blanks and zeros stands before, the last column aside
+abbrev pub blankZeros : List ℕ → List ℕ
+blankZeros [] = []
+blankZeros (c ∷ []) = c ∷ []
+blankZeros (c ∷ d ∷ s) = pick (eqb c 32 || eqb c 48) (32 ∷ blankZeros (d ∷ s)) (c ∷ d ∷ s)

@@ -1,13 +1,13 @@
 // Decimal columns: document 01, "Printed numbers".
 ghost use mathlib.Core.Path.{_≡_};
-ghost use mathlib.Core.Bool.{true, _&&_};
+ghost use mathlib.Core.Bool.{true, _&&_, _||_};
 ghost use mathlib.Core.List.{[], _∷_};
 ghost use Prim.Native.Nat.{_-_, _^_, _≤_, _<_};
 ghost use lib.Dec.{eqb};
 ghost use lib.ListN.{length, take, drop};
-ghost use Rattle.columns.specs.Lists.{put, every};
-ghost use Rattle.columns.specs.Inner.Places.{columnPrinted};
-ghost use Rattle.columns.specs.PrintedNumbers.{print, blanks, allBlank, value, digit, readNumber, orMisprint};
+ghost use Rattle.columns.specs.Lists.{pick, put, every};
+ghost use Rattle.columns.specs.Inner.Places.{columnPrinted, columnDigits};
+ghost use Rattle.columns.specs.PrintedNumbers.{print, blanks, allBlank, value, digit, readNumber, orMisprint, blanksDigits, blankZeros};
 ghost use Rattle.columns.specs.Inner.Starts.{Starts};
 
 // What a strict reading of columns finds.
@@ -135,6 +135,55 @@ pub fn copy_columns(part: &mut [u8], from: &[u8])
     }
 }
 
+// Whether c may stand before a number: a blank or a leading zero.
+fn is_leading(c: u8) -> bool
+    ensures { λ r. ⌜ r ≡ (eqb c 32 || eqb c 48) ⌝ }
+{
+    (c == BLANK) | (c == ZERO)
+}
+
+// Leading zeros made blank. The last column stays.
+pub fn blank_zeros(part: &mut [u8])
+    requires { ⌜ 1 ≤ length (now part) ⌝ }
+    ensures { λ _. ⌜ now (part .exit) ≡ blankZeros (now (part .entry)) ⌝ }
+{
+    let last = part.len() - 1;
+    let mut i = 0;
+    while i < last {
+        if !is_leading(part[i]) {
+            return;
+        }
+        part[i] = BLANK;
+        i += 1;
+    }
+}
+
+fn blank_if(leading: bool, c: u8) -> u8
+    ensures { λ r. ⌜ r ≡ pick leading 32 c ⌝ }
+{
+    if leading {
+        return BLANK;
+    }
+    c
+}
+
+// The columns of `from` with leading zeros made blank. It is for a few columns: a copy that is then blanked in place would be made
+// byte by byte, also where nothing is to be blanked.
+pub fn copy_blanked(part: &mut [u8], from: &[u8])
+    requires { ⌜ length (now from) ≡ length (now part) ⌝ }
+    ensures { λ _. ⌜ now (part .exit) ≡ blankZeros (now (from .entry)) ⌝ }
+{
+    let n = part.len();
+    let mut leading = true;
+    let mut i = 0;
+    while i < n {
+        let c = from[i];
+        leading = leading & is_leading(c) & (i + 1 < n);
+        part[i] = blank_if(leading, c);
+        i += 1;
+    }
+}
+
 // Whether c is blank and the columns before it are.
 fn still_blank(before: bool, c: u8) -> bool
     ensures { λ r. ⌜ r ≡ (before && eqb c 32) ⌝ }
@@ -181,6 +230,20 @@ fn spelled(part: &[u8]) -> u64
     let mut i = 0;
     while i < part.len() {
         x = x * ten_to(1) + part[i] as u64 - 48;
+        i += 1;
+    }
+    x
+}
+
+// The number in columns that hold one, leading zeros or none. A digit is worth its last four bits; those of a blank are 0.
+pub fn lenient_number(part: &[u8]) -> u64
+    requires { ⌜ (length (now part) ≤ 10) × (blanksDigits (now part) ≡ true) ⌝ }
+    ensures { λ r. ⌜ r ≡ value 0 (now (part .entry)) ⌝ }
+{
+    let mut x = 0;
+    let mut i = 0;
+    while i < part.len() {
+        x = x * 10 + (part[i] % 16) as u64;
         i += 1;
     }
     x
@@ -295,4 +358,15 @@ pub fn still_printed(still: bool, place: u8, before: u8, c: u8) -> bool
     let nought = (c == ZERO) & unused & (place != LAST);
     let blank = (c == BLANK) & unused & (place != LAST);
     still & ((digit & !nought) | blank)
+}
+
+// Whether c may stand in a list line and the columns before it may. Behind unused columns of its field, and in the first one, c
+// is blank or a digit; in the last column, and behind a used one, it is a digit.
+pub fn still_digits(still: bool, place: u8, before: u8, c: u8) -> bool
+    ensures { λ r. ⌜ r ≡ (still && columnDigits place before c) ⌝ }
+{
+    let digit = std::num::wrapping_sub_u8(c, ZERO) < 10;
+    let unused = (before == BLANK) | (place == FIRST);
+    let blank = (c == BLANK) & unused & (place != LAST);
+    still & (digit | blank)
 }

@@ -12,3 +12,4 @@ pub mod Written
 pub mod Writings
 pub mod Sizing
 pub mod SizeAgrees
+pub mod BlankedBuilt

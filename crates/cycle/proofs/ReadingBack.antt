@@ -13,4 +13,5 @@ pub mod MatchingBuilt
 pub mod ReadBackAnswers
 pub mod BuildsUnique
 pub mod Demand2
+pub mod LeadingZeros
 pub mod TwoSizes

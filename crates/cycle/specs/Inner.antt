@@ -2,3 +2,4 @@
 pub mod Held
 pub mod Comparing
 pub mod Settings
+pub mod ListLines

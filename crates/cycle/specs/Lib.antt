@@ -5,6 +5,7 @@ pub mod Cycle
 pub mod Refusals
 pub mod Building
 pub mod ReadingBack
+pub mod LeadingZeros
 pub mod Judging
 pub mod Size
 pub mod Inner

@@ -1,4 +1,5 @@
--- Document 01, "Refused inputs": reading back, with the conditions 1, 11, 13 and 7 in that order; and demand 2 of it.
+-- Document 01, "Refused inputs", with document 02, C-13: reading back, with the conditions 1, 11, 13 and 7 in that order; and
+-- demand 2 of it.
 -- Assumes nothing.
 use Prim.Native.Nat.{ℕ, _/_, _%_, _≤_, _<_}
 use mathlib.Core.Path.{_≡_}
@@ -10,7 +11,7 @@ use lib.ListN.{length}
 use Rattle.columns.specs.Lists.{joined, parts, same}
 use Rattle.buckets.specs.declared.Line.{Line}
 use Rattle.buckets.specs.Lengths.{lineLength, bucketLength, bucketsMost}
-use Rattle.buckets.specs.ListLine.{printLine}
+use Rattle.buckets.specs.ListLine.{printLine, blankedList}
 use Rattle.buckets.specs.Bucket.{readBucket}
 use Rattle.buckets.specs.BucketLines.{linesRead}
 use Rattle.cycle.specs.Refusals.{Refusal, Condition, row, firstRefusal}
@@ -50,7 +51,7 @@ wholeBuckets c = leb 1 c && (eqb (c % bucketLength) 0 && leb (c / bucketLength) 
 abbrev pub imageLengthOut : List ℕ → Condition
 imageLengthOut image = row 11 (not (wholeBuckets (length image)))
 
--- 13: "no list builds this image under these settings": a list that does is the one that the image holds
+-- 13: "no list builds this image under these settings": a list that does is, but for leading zeros, the one that the image holds
 abbrev pub noneBuilds : Settings → List ℕ → Condition
 noneBuilds s image = row 13 (not (builds s (sentList image) image))
 
@@ -107,10 +108,11 @@ pub record BuildsOver (s : Settings) (image : List ℕ) (room : ℕ) : Type 0 wh
   pub over : room < length list
 
 -- "Read back, a cycle is accepted exactly if some list and the given settings build it and the lent buffer has room for that
--- list, and that list is handed out."
+-- list, and that list is handed out." Document 02, C-13: "A list read back from an image is the list with its leading zeros made
+-- blank".
 pub record AcceptedExactly (s : Settings) (image : List ℕ) (room : ℕ) (o : Outcome) : Type 0 where
-  -- if some list and the settings build it and there is room for that list, it is handed out
-  pub accepts : (list : List ℕ) → Builds s list image → length list ≤ room → o ≡ handed list
+  -- if some list and the settings build it and there is room for that list, it is handed out with its leading zeros made blank
+  pub accepts : (list : List ℕ) → Builds s list image → length list ≤ room → o ≡ handed (blankedList list)
   -- only then, and what is handed out is that list
   pub accepted-built : (c : ℕ) → o .answer ≡ Lines c → Builds s (o .output) image
   pub accepted-fits : (c : ℕ) → o .answer ≡ Lines c → length (o .output) ≤ room

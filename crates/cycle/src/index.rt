@@ -20,7 +20,7 @@ ghost use Prim.Native.Nat.{suc, _+_, _-_, _*_, _%_, _≤_, _<_, max};
 ghost use lib.ListN.{length, take, drop};
 ghost use lib.Dec.{eqb};
 ghost use Rattle.columns.specs.Lists.{pick, joined, padded, put};
-ghost use Rattle.buckets.specs.Lengths.{newline, pairsMost, entriesStart, bucketsMost, bucketEnd, bucketLength};
+ghost use Rattle.buckets.specs.Lengths.{newline, pairsMost, entriesStart, bucketEnd, bucketLength};
 ghost use Rattle.buckets.specs.Bucket.{printEntry, printBucket};
 ghost use Rattle.buckets.specs.Inner.Held.{filled, tagOr0, headOf, entriesOf, pairsOf, indexFront, EntriesBlank};
 ghost use Rattle.cycle.specs.Tree.{width, children};
@@ -211,6 +211,7 @@ pub fn head_at(f: Figures, s: Segment, x: u64) -> Head
 fn put_entries(
     part: &mut [u8],
     text: &[u8],
+    plain: bool,
     f: Figures,
     source: Source,
     s: Segment,
@@ -221,7 +222,7 @@ fn put_entries(
 )
     requires { ⌜ length (now part) ≡ bucketLength ⌝ }
     requires { ⌜ EntriesBlank (now part) ⌝ }
-    requires { ⌜ Printing f source (now text) s ⌝ }
+    requires { ⌜ Printing f source (now text) plain s ⌝ }
     requires { ⌜ IndexPlace f s e j x ⌝ }
     requires { ⌜ count ≡ length (children (planOf f []) (f .k + 1 - e) j) ⌝ }
     ensures { λ _.
@@ -236,7 +237,7 @@ fn put_entries(
     while i < count {
         let from = tag_place(f, source, s, span, first + i as u64);
         let distance = child_distance(f, s, e, j, x, full, i as u64);
-        put_entry(part, i, text, from, distance);
+        put_entry(part, i, text, from, plain, distance);
         i += 1;
     }
 }
@@ -245,6 +246,7 @@ fn put_entries(
 fn print_index_bucket<'a>(
     part: &mut [u8],
     text: &[u8],
+    plain: bool,
     f: Figures,
     source: Source,
     s: Segment,
@@ -257,7 +259,7 @@ fn print_index_bucket<'a>(
     distances: &'a [u64],
 )
     requires { ⌜ length (now part) ≡ bucketLength ⌝ }
-    requires { ⌜ Printing f source (now text) s ⌝ }
+    requires { ⌜ Printing f source (now text) plain s ⌝ }
     requires { ⌜ IndexPlace f s e j x ⌝ }
     requires { ⌜ count ≡ length (children (planOf f []) (f .k + 1 - e) j) ⌝ }
     requires { ⌜ (s .start ≤ x) × (x < s .end) ⌝ }
@@ -280,13 +282,14 @@ fn print_index_bucket<'a>(
         distances,
         count,
     );
-    put_entries(part, text, f, source, s, e, j, x, count);
+    put_entries(part, text, plain, f, source, s, e, j, x, count);
 }
 
 // Bucket j of height e of a segment's tree, at x, with `count` entries.
 pub fn print_tree_bucket(
     part: &mut [u8],
     text: &[u8],
+    plain: bool,
     f: Figures,
     source: Source,
     s: Segment,
@@ -296,7 +299,7 @@ pub fn print_tree_bucket(
     count: usize,
 )
     requires { ⌜ length (now part) ≡ bucketLength ⌝ }
-    requires { ⌜ Printing f source (now text) s ⌝ }
+    requires { ⌜ Printing f source (now text) plain s ⌝ }
     requires { ⌜ TreePlace f s e j x ⌝ }
     requires { ⌜ count ≡ length (children (planOf f []) (f .k + 1 - e) j) ⌝ }
     ensures { λ _. ⌜ now (part .exit) ≡ printBucket (cycleBucket (planIn f source (now (text .entry))) x) ⌝ }
@@ -307,6 +310,7 @@ pub fn print_tree_bucket(
     print_index_bucket(
         part,
         text,
+        plain,
         f,
         source,
         s,
@@ -324,6 +328,7 @@ pub fn print_tree_bucket(
 pub fn print_path_bucket(
     part: &mut [u8],
     text: &[u8],
+    plain: bool,
     f: Figures,
     source: Source,
     s: Segment,
@@ -331,7 +336,7 @@ pub fn print_path_bucket(
     x: u64,
 )
     requires { ⌜ length (now part) ≡ bucketLength ⌝ }
-    requires { ⌜ Printing f source (now text) s ⌝ }
+    requires { ⌜ Printing f source (now text) plain s ⌝ }
     requires { ⌜ PathPlace f s i x ⌝ }
     ensures { λ _. ⌜ now (part .exit) ≡ printBucket (cycleBucket (planIn f source (now (text .entry))) x) ⌝ }
 {
@@ -346,6 +351,7 @@ pub fn print_path_bucket(
     print_index_bucket(
         part,
         text,
+        plain,
         f,
         source,
         s,

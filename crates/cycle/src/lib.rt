@@ -1,10 +1,13 @@
-// Tree, layouts and cycle: document 01, "The tree", with document 02, C-11 and C-12; judging, sizing, building and reading back.
+// Tree, layouts and cycle: document 01, "The tree", with document 02, C-11 to C-13; judging, sizing, building and reading
+// back.
 //
 // A list goes through these files in this order; each answers to the definition named, under specs/, and its laws are in the
 // folder named, under proofs/.
 //
-//   judge      a list and settings held against conditions 1 to 7, in order: Judging.judge, Building.conditions. Laws: Building.
-//              For each condition its function, its row and its law, as 4, falling tags: first_fall, Building.tagFalls, refused-4
+//   judge      a list and settings judged, and the figures of their cycle: Judging.judge
+//   conditions conditions 1 to 7, in order, and whether the list is known to have no leading zeros: Building.conditions. Laws:
+//              Building. For each condition its function, its row and its law, as 4, falling tags: first_fall, Building.tagFalls,
+//              refused-4
 //   measures   data buckets, levels, subtrees, paths and N by arithmetic: Tree.plan, Cycle.cycleSize. Laws: Trees, Sequences
 //   size       a cycle's dimensions from a number of lines, before there is a list: Size.size. Laws: Building
 //   segments   the segments of a cycle and where each stands: Layouts.slots. Laws: Segmenting
@@ -18,6 +21,7 @@
 //
 // Figures, Segment and Source are what these files hand on; specs/Inner says what each stands for.
 pub mod build;
+mod conditions;
 mod index;
 pub mod judge;
 mod measures;

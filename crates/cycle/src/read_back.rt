@@ -110,7 +110,18 @@ fn is_tree_bucket(
     ensures { λ r. ⌜ Decides (MatchesAt (planIn f Source.Image (now (image .entry))) (now (image .entry)) x) r ⌝ }
 {
     let mut wanted = [0u8; Bucket::LENGTH];
-    print_tree_bucket(&mut wanted, image, f, Source::Image, s, e, j, x, count);
+    print_tree_bucket(
+        &mut wanted,
+        image,
+        true,
+        f,
+        Source::Image,
+        s,
+        e,
+        j,
+        x,
+        count,
+    );
     is_at(image, x, &wanted)
 }
 
@@ -149,7 +160,7 @@ fn is_path_bucket(image: &[u8], f: Figures, s: Segment, i: u64, x: u64) -> bool
     ensures { λ r. ⌜ Decides (MatchesAt (planIn f Source.Image (now (image .entry))) (now (image .entry)) x) r ⌝ }
 {
     let mut wanted = [0u8; Bucket::LENGTH];
-    print_path_bucket(&mut wanted, image, f, Source::Image, s, i, x);
+    print_path_bucket(&mut wanted, image, true, f, Source::Image, s, i, x);
     is_at(image, x, &wanted)
 }
 

@@ -2,8 +2,8 @@
 
 use std::hint::black_box;
 
-use reference::generate::{list, yard_list, Random};
-use reference::line;
+use reference::generate::{full_of_zeros, list, yard_list, Random};
+use reference::{blanked, line};
 
 use crate::calls::{Calls, Reference, Settings, BUCKET, LINE};
 
@@ -25,12 +25,13 @@ pub struct Yard {
 }
 
 impl Yard {
-    /// `figures`: `yard` for a list as a yard has it, `any` for one with figures
-    /// of any length.
+    /// `figures`: `yard` for a list as a yard has it, `zeros` for that list with
+    /// its columns full of zeros, `any` for one with figures of any length.
     pub fn new(figures: &str, settings: Settings, lines: u64) -> Yard {
         let random = &mut Random::new(1);
         let list = match figures {
             "yard" => yard_list(random, lines),
+            "zeros" => full_of_zeros(&yard_list(random, lines)),
             "any" => list(random, lines, SPREAD),
             _ => panic!("no such figures: {figures}"),
         };
@@ -40,10 +41,11 @@ impl Yard {
         // Other bytes than 0, so that each page of the buffers is there.
         let list_out = vec![1; list.len()];
         let image_out = vec![1; image.len()];
+        let printed = blanked(&list);
         let hearings = (0..HEARINGS)
             .map(|i| {
                 let line = (i * 7_919 % lines) as usize;
-                let tag = line::tag(&list[LINE * line..][..10]).unwrap();
+                let tag = line::tag(&printed[LINE * line..][..10]).unwrap();
                 (tag + i % 2, i * 104_729 % buckets)
             })
             .collect();

@@ -74,7 +74,8 @@ pub struct Line {
     pub weighing: u64,
 }
 
-/// Builds the cycle of a list into `out` and returns N, its buckets.
+/// Builds the cycle of a list, whose numbers may have leading zeros, into `out`
+/// and returns N, its buckets.
 pub fn build(list: &[u8], settings: Settings, out: &mut [u8]) -> Result<u64, Refusal> {
     let Settings { n, p, layout, copies } = settings;
     counted(calls::build(list, n, p, layout, copies, out))
@@ -90,7 +91,8 @@ pub fn size(lines: u64, settings: Settings, c: u64) -> Result<Size, Refusal> {
     Ok(Size { k, d, n, bytes, heard })
 }
 
-/// Writes the list that builds this image into `out` and returns its lines.
+/// Writes the list that builds this image, without leading zeros, into `out` and
+/// returns its lines.
 pub fn read_back(image: &[u8], settings: Settings, out: &mut [u8]) -> Result<u64, Refusal> {
     let Settings { n, p, layout, copies } = settings;
     counted(calls::read_back(image, n, p, layout, copies, out))

@@ -1,5 +1,7 @@
 //! Building: a list into a cycle.
 
+use std::borrow::Cow;
+
 use crate::bucket::BUCKET;
 use crate::columns::{at, at_mut};
 use crate::cycle::Cycle;
@@ -18,7 +20,8 @@ pub fn build(
     out: &mut [u8],
 ) -> Result<u64, Refusal> {
     check_settings(n, p, layout)?;
-    let lines = check_list(list)?;
+    let list = &accepted(list)?[..];
+    let lines = (list.len() / LINE) as u64;
     let cycle = Cycle::new(lines, n, p, layout, copies).map_err(Refusal::of)?;
     let image = out.get_mut(..BUCKET * cycle.buckets() as usize).ok_or(Refusal::of(7))?;
     let lines = List { list, p };
@@ -36,11 +39,28 @@ pub(crate) fn check_settings(n: u64, p: u64, layout: u64) -> Result<(), Refusal>
     in_range.then_some(()).ok_or(Refusal::of(1))
 }
 
-/// 2, then 3 over the whole list, then 4 over the whole list. Returns the
-/// number of lines.
-fn check_list(list: &[u8]) -> Result<u64, Refusal> {
-    let lines = (list.len() / LINE) as u64;
-    if !list.len().is_multiple_of(LINE) || lines > MAX_LINES {
+/// The list as it is sent: itself if it has no leading zero, else a copy with
+/// them made blank (C-13). Or its refusal by 2 to 4.
+fn accepted(list: &[u8]) -> Result<Cow<'_, [u8]>, Refusal> {
+    match check_list(list) {
+        // Misprinted for a bucket: it may be for its leading zeros alone.
+        Err(Refusal { number: 3, .. }) => accepted_blanked(list).map(Cow::from),
+        checked => checked.map(|()| list.into()),
+    }
+}
+
+/// The copy, if it is accepted.
+#[cold]
+fn accepted_blanked(list: &[u8]) -> Result<Vec<u8>, Refusal> {
+    let blanked = line::blanked(list);
+    check_list(&blanked).map(|()| blanked)
+}
+
+/// 2, then 3 over the whole list, then 4 over the whole list, for a list without
+/// leading zeros.
+#[inline(always)]
+fn check_list(list: &[u8]) -> Result<(), Refusal> {
+    if !list.len().is_multiple_of(LINE) || (list.len() / LINE) as u64 > MAX_LINES {
         return Err(Refusal::of(2));
     }
     let mut last = 0;
@@ -55,7 +75,7 @@ fn check_list(list: &[u8]) -> Result<u64, Refusal> {
         }
         last = tag;
     }
-    falls.map_or(Ok(lines), Err)
+    falls.map_or(Ok(()), Err)
 }
 
 /// The lines of a list.

@@ -1,4 +1,5 @@
-//! "Printed numbers": right-justified, blanks, then digits, no leading zero.
+//! "Printed numbers": right-justified, blanks, then digits, no leading zero. In
+//! a list line leading zeros may stand in the place of blanks (C-13).
 //!
 //! Up to eight columns are taken as one word, the first column in its lowest
 //! byte, the last one in its highest.
@@ -59,13 +60,33 @@ pub fn is_number<const W: usize>(bytes: &[u8], start: usize) -> bool {
 #[inline(always)]
 fn parse<const W: usize>(bytes: &[u8], start: usize) -> (u64, u64) {
     let word = word::<W>(bytes, start);
-    let filled = word | each(ZERO_BIT);
+    let (filled, blanks) = filled(word);
     let digits = filled ^ each(b'0');
-    // Blank are exactly the zeros before the first other digit; the last
-    // column always shows its digit.
-    let shown = digits | 1 << 56;
-    let blanks = (shown ^ (shown - 1)) & each(ZERO_BIT);
     (digits, not_digits(digits) | (word ^ filled ^ blanks))
+}
+
+/// Makes the leading zeros in the W columns from `start` on blank, if these are
+/// blanks and then digits up to the last one; any others stay as they are.
+#[inline(always)]
+pub fn blank_zeros<const W: usize>(bytes: &mut [u8], start: usize) {
+    let word = word::<W>(bytes, start);
+    let (filled, blanks) = filled(word);
+    // Each blank stands in the place of a leading zero, behind blanks alone.
+    let blank = word ^ filled;
+    let misplaced = blank & !blanks | blank & !(blank << 8 | ZERO_BIT as u64);
+    if not_digits(filled ^ each(b'0')) | misplaced == 0 {
+        *at_mut(bytes, start) = *at::<W>(&(filled ^ blanks).to_le_bytes(), 8 - W);
+    }
+}
+
+/// A word with a 0 for each of its blanks, and the bits that the blanks of a
+/// printed number lack: blank are exactly the zeros before the first other
+/// digit, and the last column always shows its digit.
+#[inline(always)]
+fn filled(word: u64) -> (u64, u64) {
+    let filled = word | each(ZERO_BIT);
+    let shown = (filled ^ each(b'0')) | 1 << 56;
+    (filled, (shown ^ (shown - 1)) & each(ZERO_BIT))
 }
 
 /// Reads eight columns that all hold digits, leading zeros allowed.

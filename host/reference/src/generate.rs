@@ -84,6 +84,38 @@ pub fn yard_list(random: &mut Random, lines: u64) -> Vec<u8> {
     list
 }
 
+/// Where the fields of a line start, and where they end.
+pub const FIELDS: [(usize, usize); 4] = [(0, 10), (10, 16), (16, 20), (20, 26)];
+
+/// A list with leading zeros: "all columns full of zeros", or in some fields of
+/// some lines, "blanks before them or none", or nowhere.
+pub fn with_zeros(random: &mut Random, list: &[u8]) -> Vec<u8> {
+    match random.below(4) {
+        0 => list.to_vec(),
+        1 => full_of_zeros(list),
+        _ => some_zeros(random, list),
+    }
+}
+
+/// A zero in the place of each blank.
+pub fn full_of_zeros(list: &[u8]) -> Vec<u8> {
+    list.iter().map(|&byte| if byte == b' ' { b'0' } else { byte }).collect()
+}
+
+/// Zeros in the place of some blanks before the numbers of half of the lines.
+pub fn some_zeros(random: &mut Random, list: &[u8]) -> Vec<u8> {
+    let mut list = list.to_vec();
+    for line in list.chunks_exact_mut(LINE) {
+        let padded = random.below(2) == 0;
+        for (from, to) in FIELDS.into_iter().filter(|_| padded) {
+            let blanks = line[from..to].iter().take_while(|&&byte| byte == b' ').count();
+            let kept = random.below(blanks as u64 + 1) as usize;
+            line[from + kept..from + blanks].fill(b'0');
+        }
+    }
+    list
+}
+
 /// Alters one byte; the new one is mostly a byte that some column allows.
 pub fn alter(random: &mut Random, bytes: &mut [u8]) {
     let at = random.below(bytes.len() as u64) as usize;
@@ -95,6 +127,25 @@ pub fn alter(random: &mut Random, bytes: &mut [u8]) {
             3 => b' ',
             _ => b'0' + random.below(10) as u8,
         };
+    }
+}
+
+/// A field that is blank, full of zeros, has a blank behind or among its digits,
+/// or has a sign.
+fn damage_field(random: &mut Random, line: &mut [u8]) {
+    let (from, to) = random.pick(&FIELDS);
+    let field = &mut line[from..to];
+    let at = random.below(field.len() as u64) as usize;
+    match random.below(6) {
+        0 => field.fill(b' '),
+        1 => field.fill(b'0'),
+        2 => field.rotate_left(1),
+        3 => field[at] = b' ',
+        4 => field[at] = random.pick(b"+-"),
+        _ => {
+            field.fill(b'0');
+            field[at] = b' ';
+        }
     }
 }
 
@@ -113,19 +164,15 @@ pub fn damaged_list(random: &mut Random, list: &[u8]) -> Vec<u8> {
         1 => list.push(random.pick(b" 0\n")),
         // Two lines change places.
         2 | 3 => (0..LINE).for_each(|i| list.swap(at + i, other + i)),
-        // A field that is too large, blank, or not right-justified.
+        // A tag or tare that is too large, or another field that is none.
         4 => {
-            let large = line(MAX_TAG + 1 + random.below(10), 0, 0, 0);
-            list[at..at + LINE].copy_from_slice(large.as_bytes());
+            let tag = line(MAX_TAG + 1 + random.below(10), 0, 0, 0);
+            let tare = line(0, 100_000 + random.below(10), 0, 0);
+            let large = if random.below(2) == 0 { tag } else { tare };
+            let large = with_zeros(random, large.as_bytes());
+            list[at..at + LINE].copy_from_slice(&large);
         }
-        5 => {
-            let (from, to) = random.pick(&[(0, 10), (10, 16), (16, 20), (20, 26)]);
-            match random.below(3) {
-                0 => list[at + from..at + to].fill(b' '),
-                1 => list[at + from..at + to].fill(b'0'),
-                _ => list[at + from..at + to].rotate_left(1),
-            }
-        }
+        5 => damage_field(random, &mut list[at..at + LINE]),
         _ => alter(random, &mut list),
     }
     list

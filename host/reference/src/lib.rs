@@ -1,8 +1,8 @@
 //! Tare lists on air, written straight from document 01: a list is built into
 //! a cycle of buckets, a cycle is read back into its list, a listener picks
 //! out the lines of one tag, and a lookup runs it over an image. From document
-//! 02: a cycle's figures are told before there is a list (C-11), and the list
-//! may change between cycles (C-12).
+//! 02: a cycle's figures are told before there is a list (C-11), the list may
+//! change between cycles (C-12), and its numbers may have leading zeros (C-13).
 #![forbid(unsafe_code)]
 
 pub mod air;
@@ -19,10 +19,11 @@ mod print;
 mod read_back;
 mod size;
 pub mod yards;
+pub mod zeros;
 
 pub use bucket::{line, BUCKET};
 pub use build::build;
-pub use line::LINE;
+pub use line::{blanked, LINE};
 pub use listener::{Answer, Listener};
 pub use lookup::{lookup, Looked};
 pub use read_back::read_back;

@@ -1,6 +1,6 @@
 //! "A list line": tag, tare, material code, weighing number, newline.
 
-use crate::columns::{is_number, read, read_digits, BLANK};
+use crate::columns::{at_mut, blank_zeros, is_number, read, read_digits, BLANK};
 
 /// Bytes of a list line, the newline included.
 pub const LINE: usize = 27;
@@ -35,4 +35,39 @@ pub fn tag(bytes: &[u8]) -> Option<u64> {
     let high = read::<2>(bytes, 0)?;
     let tag = high * 100_000_000 + read_digits(bytes, 2)?;
     (high > 0 && tag <= MAX_TAG).then_some(tag)
+}
+
+/// "The list with its leading zeros made blank" (C-13): field by field, where a
+/// field is one that a list line may have. Other bytes stay, and so does a list
+/// whose length is no multiple of 27.
+pub fn blanked(list: &[u8]) -> Vec<u8> {
+    let mut blanked = list.to_vec();
+    if list.len().is_multiple_of(LINE) {
+        blanked.chunks_exact_mut(LINE).for_each(|line| blank_line(at_mut(line, 0)));
+    }
+    blanked
+}
+
+/// Makes the leading zeros of a line blank.
+#[inline(always)]
+fn blank_line(figures: &mut [u8; FIGURES]) {
+    blank_tag(figures);
+    blank_zeros::<6>(figures, 10);
+    blank_zeros::<4>(figures, 16);
+    blank_zeros::<6>(figures, 20);
+}
+
+/// Makes the leading zeros of a tag blank: its first two columns, then the
+/// other eight if nothing is left before them.
+#[inline(always)]
+fn blank_tag(figures: &mut [u8; FIGURES]) {
+    if read_digits(figures, 2).is_some() {
+        match figures[..2] {
+            [BLANK | b'0', b'0'] => figures[..2].fill(BLANK),
+            _ => blank_zeros::<2>(figures, 0),
+        }
+    }
+    if figures[..2] == [BLANK; 2] {
+        blank_zeros::<8>(figures, 2);
+    }
 }

@@ -10,24 +10,62 @@ pub type Line = [u64; 4];
 
 /// The number that these columns print, if they print one.
 pub fn number(columns: &[u8]) -> Option<u64> {
-    let text = std::str::from_utf8(columns).ok()?;
-    let number: u64 = text.trim_start_matches(' ').parse().ok()?;
-    (text == format!("{number:>0$}", columns.len())).then_some(number)
+    let number = list_number(columns)?;
+    (columns == format!("{number:>0$}", columns.len()).as_bytes()).then_some(number)
 }
 
-/// The four numbers of a line without its newline, if each is in its range.
+/// The number in these columns of a list line: "accepts leading zeros, blanks
+/// before them or none" (C-13).
+pub fn list_number(columns: &[u8]) -> Option<u64> {
+    let digits = std::str::from_utf8(columns).ok()?.trim_start_matches(' ');
+    if !digits.chars().all(|digit| digit.is_ascii_digit()) {
+        return None;
+    }
+    digits.parse().ok()
+}
+
+/// Where the four numbers of a line stand, and their ranges.
+const FIGURES: [(std::ops::Range<usize>, std::ops::RangeInclusive<u64>); 4] =
+    [(0..10, TAG_RANGE), (10..16, 0..=99_999), (16..20, 0..=9_999), (20..26, 0..=999_999)];
+
+/// The four numbers of a bucket's line, if each is in its range.
 pub fn figures(columns: &[u8]) -> Option<Line> {
-    let line = [
-        number(&columns[0..10])?,
-        number(&columns[10..16])?,
-        number(&columns[16..20])?,
-        number(&columns[20..26])?,
-    ];
-    let in_range = TAG_RANGE.contains(&line[0])
-        && (0..=99_999).contains(&line[1])
-        && (0..=9_999).contains(&line[2])
-        && (0..=999_999).contains(&line[3]);
-    in_range.then_some(line)
+    line(columns, number)
+}
+
+/// The four numbers of a list line without its newline, likewise.
+pub fn list_figures(columns: &[u8]) -> Option<Line> {
+    line(columns, list_number)
+}
+
+fn line(columns: &[u8], number: fn(&[u8]) -> Option<u64>) -> Option<Line> {
+    let mut line = [0; 4];
+    for (figure, (place, range)) in line.iter_mut().zip(FIGURES) {
+        *figure = number(&columns[place]).filter(|number| range.contains(number))?;
+    }
+    Some(line)
+}
+
+/// "The list with its leading zeros made blank (zero stays one 0)": each number
+/// of a list line is printed anew, and what is none stays.
+pub fn blanked(list: &[u8]) -> Vec<u8> {
+    let mut blanked = list.to_vec();
+    if list.len().is_multiple_of(27) {
+        for line in blanked.chunks_mut(27) {
+            for (place, _) in FIGURES {
+                blank_zeros(&mut line[place]);
+            }
+        }
+    }
+    blanked
+}
+
+/// One field of that. A number over its range has no leading zero.
+pub fn blank_zeros(columns: &mut [u8]) {
+    if let Some(number) = list_number(columns) {
+        let printed = format!("{number:>0$}", columns.len());
+        columns.copy_from_slice(printed.as_bytes());
+    }
 }
 
 fn print_figures(line: &Line) -> String {
@@ -41,7 +79,7 @@ pub fn parse_list(list: &[u8]) -> Result<Vec<Line>, Refusal> {
     }
     let mut lines = Vec::new();
     for (place, line) in (0..).zip(list.chunks(27)) {
-        match figures(&line[..26]) {
+        match list_figures(&line[..26]) {
             Some(figures) if line[26] == b'\n' => lines.push(figures),
             _ => return Err(Refusal { number: 3, place }),
         }
@@ -327,8 +365,9 @@ pub fn size(lines: u64, n: u64, p: u64, layout: u64, copies: u64, c: u64) -> Res
     Ok(Size { k, d, n, bytes: 240 * n, heard: 2 + k + 1.max(c) })
 }
 
-/// Reading back into a buffer of `room` bytes. A list that builds the image
-/// can only be the one in its data buckets, so that one is tried.
+/// Reading back into a buffer of `room` bytes. A list that builds the image can
+/// only be the one in its data buckets, leading zeros aside, so that one is
+/// tried; no leading zero is ever printed in a bucket.
 pub fn read_back(
     image: &[u8],
     n: u64,

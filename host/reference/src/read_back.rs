@@ -8,8 +8,8 @@ use crate::line::{self, FIGURES, LINE, MAX_LINES};
 use crate::print::Lines;
 use crate::Refusal;
 
-/// Writes the list that builds this image under these settings and returns
-/// its number of lines. "Reading back: 1, 11, 13, 7."
+/// Writes the list that builds this image under these settings, the one without
+/// leading zeros, and returns its number of lines. "Reading back: 1, 11, 13, 7."
 pub fn read_back(
     image: &[u8],
     n: u64,

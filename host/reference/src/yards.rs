@@ -1,7 +1,7 @@
 //! Legal settings of a list, its image and its tags, for tests.
 
 use crate::cycle::Cycle;
-use crate::generate::{damaged_image, damaged_list, list, list_from, Random};
+use crate::generate::{damaged_image, damaged_list, list, list_from, with_zeros, Random};
 
 /// Settings: n, p, layout, copies.
 pub type Settings = [u64; 4];
@@ -52,13 +52,14 @@ pub fn image_of(list: &[u8], [n, p, layout, copies]: Settings) -> Vec<u8> {
     image
 }
 
-/// A short list, damaged, with settings and room that may be out of range or
-/// too little.
+/// A short list, with leading zeros or without, damaged, with settings and room
+/// that may be out of range or too little.
 pub fn damaged_building(random: &mut Random) -> (Vec<u8>, Settings, usize) {
     let lines = random.below(12);
     let start = random.pick(&[0, 0, 4_294_967_290]);
     let spread = random.below(3);
     let good = list_from(random, lines, start, spread);
+    let good = with_zeros(random, &good);
     let list = damaged_list(random, &good);
     let settings = [2 + random.below(8), 1 + random.below(9), random.below(4), random.below(4)];
     (list, settings, 240 * random.below(20) as usize)

@@ -1,6 +1,6 @@
 //! Columns, lines and buckets against the slow readings.
 
-use reference::columns::{print, read};
+use reference::columns::{blank_zeros, print, read};
 use reference::generate::{alter, line, Random};
 use reference::{line as lines, literal};
 
@@ -15,6 +15,10 @@ fn check<const W: usize>(columns: &[u8; W]) {
         let mut bytes = *b"98 1 0 76532 4 1 8";
         bytes[start..start + W].copy_from_slice(columns);
         assert_eq!(read::<W>(&bytes, start), literal::number(columns), "{columns:?}");
+        let mut expected = bytes;
+        literal::blank_zeros(&mut expected[start..start + W]);
+        blank_zeros::<W>(&mut bytes, start);
+        assert_eq!(bytes, expected, "{columns:?}");
     }
 }
 

@@ -88,6 +88,16 @@ fn table() {
     assert_eq!(table, include_str!("../../sample/table"));
 }
 
+/// Document 01's example of 3, which C-13 takes out of it: a tag printed 007.
+#[test]
+fn leading_zeros() {
+    let mut list = list_of(&S);
+    list[27 * 3 + 7..27 * 3 + 10].copy_from_slice(b"007");
+    let plain = [3, 5, 5, 7, 9];
+    assert!(build_into(&list, [2, 1, 1, 1], ROOM) == Ok(image(&plain, 1)));
+    assert!(read_back_into(&image(&plain, 1), [2, 1, 1, 1], ROOM) == Ok(list_of(&plain)));
+}
+
 #[test]
 fn refused_inputs() {
     let list = list_of(&S);
@@ -95,9 +105,9 @@ fn refused_inputs() {
     assert_eq!(s.len(), 240 * 12);
     assert_eq!(build_into(&list, [9, 1, 1, 1], ROOM), refused(1));
     assert_eq!(build_into(&[b' '; 28], [2, 1, 1, 1], ROOM), refused(2));
-    let mut leading = list.clone();
-    leading[7..10].copy_from_slice(b"007");
-    assert_eq!(build_into(&leading, [2, 1, 1, 1], ROOM), refused(3));
+    let mut blank = list.clone();
+    blank[9] = b' ';
+    assert_eq!(build_into(&blank, [2, 1, 1, 1], ROOM), refused(3));
     let falling = list_of(&[5, 3]);
     let place_1 = Err(Refusal { number: 4, place: 1 });
     assert_eq!(build_into(&falling, [2, 1, 1, 0], ROOM), place_1);

@@ -17,15 +17,22 @@ pub const FIGURES: [Figure; 4] = [
     Figure { name: "weighing number", columns: 20..26, most: 999_999 },
 ];
 
-/// The number that the columns print, if it is well printed.
+/// The number that the columns of a bucket print, if it is well printed.
 pub fn number(columns: &[u8]) -> Option<u64> {
+    let leading_zero = |digits: &&str| digits.len() > 1 && digits.starts_with('0');
+    digits(columns).filter(|digits| !leading_zero(digits))?.parse().ok()
+}
+
+/// The number in the columns of a list line, which may have leading zeros.
+pub fn list_number(columns: &[u8]) -> Option<u64> {
+    digits(columns)?.parse().ok()
+}
+
+/// The digits behind the blanks, if there is nothing else.
+fn digits(columns: &[u8]) -> Option<&str> {
     let blanks = columns.iter().take_while(|&&byte| byte == b' ').count();
     let digits = &columns[blanks..];
-    let leading_zero = digits.len() > 1 && digits[0] == b'0';
-    if leading_zero || !digits.iter().all(u8::is_ascii_digit) {
-        return None;
-    }
-    std::str::from_utf8(digits).ok()?.parse().ok()
+    std::str::from_utf8(digits).ok().filter(|_| digits.iter().all(u8::is_ascii_digit))
 }
 
 /// The columns as they are, with the bytes that do not print escaped.
@@ -47,7 +54,7 @@ pub fn shown(columns: &[u8]) -> String {
     }
 }
 
-/// A printed list line in words.
+/// A bucket's line in words.
 pub fn line_text(line: &[u8]) -> String {
     let figure =
         |figure: &Figure| format!("{} {}", figure.name, shown(&line[figure.columns.clone()]));

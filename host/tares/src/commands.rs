@@ -78,7 +78,10 @@ fn keep_if_different(out: &File, list: &[u8]) -> Result<(), Failure> {
         return Ok(());
     }
     let differing = match refused_list(&kept) {
-        Ok(()) => format!("lines that differ: {}", differing_lines(&kept, list).len()),
+        Ok(()) => match differing_lines(&kept, list).len() {
+            0 => "lines that differ: 0, leading zeros aside".to_string(),
+            count => format!("lines that differ: {count}"),
+        },
         Err(_) => "it is no list".to_string(),
     };
     let name = path.display();

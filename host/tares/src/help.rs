@@ -59,7 +59,7 @@ right cycle of another list, the lines that differ.
 
 Usage: tares check LIST IMAGE [--n N] [--p P] [--layout L] [--copies C] [--all]
 
-  LIST        the list that should be on air
+  LIST        the list that should be on air, with leading zeros or without
   IMAGE       what is on air
   --n, --p, --layout, --copies
               the settings, as in tares build; those left out are sought, and
@@ -75,7 +75,8 @@ Builds a list into a cycle and prints the number of lines and of buckets.
 Usage: tares build LIST IMAGE --n N --p P --layout L --copies C
 
   LIST        lines of 27 bytes, at most 40,000: tag (10 columns), tare in kg (6),
-              material code (4), weighing number (6), newline; tags never fall
+              material code (4), weighing number (6), newline; tags never fall;
+              blanks or zeros before a number, which make no difference on air
   IMAGE       where the cycle goes: buckets of 240 bytes, at most 99,999
   --n N       entries for an index bucket, 2 to 8
   --p P       lines for a data bucket, 1 to 8
@@ -93,7 +94,8 @@ cycle is accepted exactly if some list and these settings build it.
 Usage: tares read IMAGE OUT --n N --p P --layout L --copies C [--force]
 
   IMAGE       the cycle
-  OUT         where its list goes; a file that is there and differs is kept
+  OUT         where its list goes, without leading zeros; a file that is there
+              and differs is kept
   --n, --p, --layout, --copies
               the settings that built it, as in tares build
   --force     replace OUT even if it differs

@@ -1,8 +1,12 @@
-//! The lines in which two lists differ, by tag.
+//! The lines in which two lists differ, by tag. Lines compare by their numbers:
+//! leading zeros make no difference.
 
 use pansdaoh::LINE;
 
-use crate::columns::{line_text, number, shown, FIGURES};
+use crate::columns::{list_number, FIGURES};
+
+/// A line's four numbers.
+type Line = [u64; 4];
 
 /// A text for each line that differs. Both lists are well printed and sorted by tag.
 pub fn differing_lines(list: &[u8], other: &[u8]) -> Vec<String> {
@@ -10,10 +14,8 @@ pub fn differing_lines(list: &[u8], other: &[u8]) -> Vec<String> {
     let mut texts = Vec::new();
     let (mut at, mut other_at) = (0, 0);
     while at < list.len() || other_at < other.len() {
-        let tag =
-            list.get(at).into_iter().chain(other.get(other_at)).map(|line| tag_of(line)).min();
-        let run =
-            |lines: &[&[u8]]| lines.iter().take_while(|line| Some(tag_of(line)) == tag).count();
+        let tag = list.get(at).into_iter().chain(other.get(other_at)).map(|line| line[0]).min();
+        let run = |lines: &[Line]| lines.iter().take_while(|line| Some(line[0]) == tag).count();
         let (mine, theirs) = (run(&list[at..]), run(&other[other_at..]));
         add_run(&mut texts, at, &list[at..at + mine], &other[other_at..other_at + theirs]);
         at += mine;
@@ -22,16 +24,16 @@ pub fn differing_lines(list: &[u8], other: &[u8]) -> Vec<String> {
     texts
 }
 
-fn lines(list: &[u8]) -> Vec<&[u8]> {
-    list.chunks_exact(LINE).collect()
-}
-
-fn tag_of(line: &[u8]) -> Option<u64> {
-    number(&line[FIGURES[0].columns.clone()])
+fn lines(list: &[u8]) -> Vec<Line> {
+    let numbers = |line: &[u8]| {
+        let number = |columns: &[u8]| list_number(columns).unwrap_or_default();
+        FIGURES.each_ref().map(|figure| number(&line[figure.columns.clone()]))
+    };
+    list.chunks_exact(LINE).map(numbers).collect()
 }
 
 /// The lines of one tag in both lists; those of the list stand from `at` on.
-fn add_run(texts: &mut Vec<String>, at: usize, mine: &[&[u8]], theirs: &[&[u8]]) {
+fn add_run(texts: &mut Vec<String>, at: usize, mine: &[Line], theirs: &[Line]) {
     let alike = mine.iter().zip(theirs).take_while(|(a, b)| a == b).count();
     let (mine, theirs) = (&mine[alike..], &theirs[alike..]);
     let behind = mine.iter().rev().zip(theirs.iter().rev()).take_while(|(a, b)| a == b).count();
@@ -41,22 +43,26 @@ fn add_run(texts: &mut Vec<String>, at: usize, mine: &[&[u8]], theirs: &[&[u8]])
         let number = at + alike + i + 1;
         texts.push(match theirs.get(i) {
             Some(other) => altered(number, line, other),
-            None => format!("line {number} ({}) is not in the image", line_text(line)),
+            None => format!("line {number} ({}) is not in the image", text(line)),
         });
     }
     for line in &theirs[both..] {
-        texts.push(format!("not in the list: {}", line_text(line)));
+        texts.push(format!("not in the list: {}", text(line)));
     }
 }
 
-fn altered(number: usize, line: &[u8], other: &[u8]) -> String {
-    let mut text = format!("line {number} (tag {})", shown(&line[FIGURES[0].columns.clone()]));
-    for figure in &FIGURES {
-        let (expected, found) = (&line[figure.columns.clone()], &other[figure.columns.clone()]);
+fn altered(number: usize, line: &Line, other: &Line) -> String {
+    let mut text = format!("line {number} (tag {})", line[0]);
+    for ((figure, expected), found) in FIGURES.iter().zip(line).zip(other) {
         if expected != found {
-            let (expected, found) = (shown(expected), shown(found));
             text += &format!(", {}: expected {expected}, found {found}", figure.name);
         }
     }
     text
+}
+
+fn text(line: &Line) -> String {
+    let figures =
+        FIGURES.iter().zip(line).map(|(figure, number)| format!("{} {number}", figure.name));
+    figures.collect::<Vec<String>>().join(", ")
 }

@@ -4,10 +4,18 @@
 use pansdaoh::{LINE, MAX_BUCKETS};
 
 use crate::bucket::{Bucket, Field, Kind, FOLLOW_ON, MAX_COUNT, MAX_PAIRS, TO_CYCLE};
-use crate::columns::{is_blank, number, quoted, FIGURES};
+use crate::columns::{is_blank, list_number, number, quoted, FIGURES};
 
 /// "Printed numbers", and at most `most`.
-pub fn figure(name: &str, columns: &[u8], most: u64) -> Option<String> {
+fn figure(name: &str, columns: &[u8], most: u64) -> Option<String> {
+    if number(columns) != list_number(columns) {
+        return Some(format!("{name} {} has a leading zero", quoted(columns)));
+    }
+    list_figure(name, columns, most)
+}
+
+/// The same in a list line, which may have leading zeros.
+fn list_figure(name: &str, columns: &[u8], most: u64) -> Option<String> {
     let text = columns.trim_ascii();
     let shown = quoted(columns);
     if is_blank(columns) {
@@ -22,11 +30,8 @@ pub fn figure(name: &str, columns: &[u8], most: u64) -> Option<String> {
     if columns.ends_with(b" ") {
         return Some(format!("{name} {shown} is not right-justified"));
     }
-    match number(columns) {
-        None => Some(format!("{name} {shown} has a leading zero")),
-        Some(number) if number > most => Some(format!("{name} {number} is over {most}")),
-        Some(_) => None,
-    }
+    let over = list_number(columns).filter(|&number| number > most)?;
+    Some(format!("{name} {over} is over {most}"))
 }
 
 /// A list line.
@@ -35,7 +40,7 @@ pub fn line(line: &[u8]) -> Option<String> {
         return Some(format!("{} bytes where {LINE} are due", line.len()));
     }
     let figures = FIGURES.iter();
-    let mut reasons = figures.filter_map(|f| figure(f.name, &line[f.columns.clone()], f.most));
+    let mut reasons = figures.filter_map(|f| list_figure(f.name, &line[f.columns.clone()], f.most));
     let newline = || (line[LINE - 1] != b'\n').then(|| "no newline behind it".to_string());
     reasons.next().or_else(newline)
 }

@@ -3,7 +3,7 @@
 use pansdaoh::{Answer, Refusal, Settings, BUCKET, LINE, MAX_BUCKETS, MAX_LINES};
 
 use crate::bucket::Bucket;
-use crate::columns::{number, quoted, FIGURES};
+use crate::columns::{list_number, quoted, FIGURES};
 use crate::hearing::{Heard, Hearing};
 use crate::misprint;
 use crate::pointers::{awaited, came};
@@ -41,7 +41,8 @@ pub fn misprinted_line(list: &[u8], place: usize) -> Vec<String> {
 
 /// 4
 pub fn falling_tag(list: &[u8], place: usize) -> Vec<String> {
-    let tag = |place: usize| number(list.get(LINE * place..)?.get(FIGURES[0].columns.clone())?);
+    let tag =
+        |place: usize| list_number(list.get(LINE * place..)?.get(FIGURES[0].columns.clone())?);
     let before = place.saturating_sub(1);
     let mut details = Vec::new();
     if let (Some(earlier), Some(tag)) = (tag(before), tag(place)) {

@@ -4,7 +4,7 @@
 use pansdaoh::{BUCKET, LINE};
 
 const IMPORT: &str =
-    "figures stand in columns with blanks before them; tares import makes a list of a CSV file";
+    "figures stand in columns with blanks or zeros before them; tares import makes a list of a CSV file";
 
 /// What keeps a file from being a list.
 pub fn list_faults(list: &[u8]) -> Vec<String> {

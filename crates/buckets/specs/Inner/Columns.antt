@@ -2,16 +2,18 @@
 -- reading of `ListLine` and `Bucket` is a law.
 -- Assumes nothing.
 use Prim.Native.Nat.{ℕ, zero, suc, _+_, _-_, _*_}
+use mathlib.Core.Path.{_≡_}
 use mathlib.Core.Bool.{_&&_}
 use mathlib.Core.Option.{Option, none, some}
 use mathlib.Core.List.{List, [], _∷_, _++_}
 use lib.Dec.{leb, eqb}
 use lib.ListN.{length, take, drop, getD}
-use Rattle.columns.specs.Lists.{pick}
-use Rattle.columns.specs.PrintedNumbers.{allBlank, readNumber}
+use Rattle.columns.specs.Lists.{pick, joined, strict}
+use Rattle.columns.specs.PrintedNumbers.{allBlank, readNumber, blankZeros}
 use Rattle.columns.specs.Inner.Places.{places}
 use Rattle.buckets.specs.declared.Line.{Line}
 use Rattle.buckets.specs.declared.Head.{Head}
+use Rattle.buckets.specs.ListLine.{fits, printLine, spelled, lineFields, listLines}
 use Rattle.buckets.specs.Bucket.{Pair, Entry, indexBody, dataBody, Bucket, columns}
 use Rattle.buckets.specs.Inner.Held.{printedPair, bucketWith}
 use Rattle.buckets.specs.Lengths.{newline, letterIndex, letterData, tagWidth, tareWidth, codeWidth, weighingWidth}
@@ -42,9 +44,25 @@ readLineColumns m s =
     andThen (numberWithin 0 weighingMost (columns weighingStart weighingWidth s))
     (λ w. some (record { tag = t; tare = k; code = c; weighing = w })))))
 
+-- a list line without leading zeros, read as a bucket's are
+unfoldable pub readPlain : List ℕ → Option Line
+readPlain s = strict spelled fits printLine s
+
+-- a list whose lines all are so: it is the print of its numbers
+abbrev pub PlainList : List ℕ → Type 0
+PlainList s = s ≡ joined printLine (listLines s)
+
+-- a line's columns with the leading zeros of its four fields made blank
+abbrev pub blankedColumns : List ℕ → List ℕ
+blankedColumns s = joined blankZeros (lineFields s)
+
 -- the places of the columns behind a line's tag in their fields: tare, material code and weighing number
 abbrev pub restPlaces : List ℕ
 restPlaces = places (tareWidth - 2) ++ (places (codeWidth - 2) ++ places (weighingWidth - 2))
+
+-- those of all its columns
+abbrev pub linePlaces : List ℕ
+linePlaces = places (tagWidth - 2) ++ restPlaces
 
 -- an entry's columns, its tag at least m, its distance at most n
 unfoldable pub readEntry : ℕ → ℕ → List ℕ → Option Entry

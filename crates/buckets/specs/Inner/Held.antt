@@ -19,7 +19,7 @@ use Rattle.buckets.specs.Bucket.{Pair, Entry, Body, indexBody, dataBody,
 use Rattle.buckets.specs.Lengths.{letterIndex, placeWidth, distanceStart, entryWidth, pairsWidth, entriesStart}
 use Rattle.buckets.specs.Lengths.{pairsMost, entriesMost, bucketLinesMost}
 
--- a strict reading of a list line as the code answers it
+-- a reading of a line as the code answers it
 abbrev pub asLineRead : Option Line → LineRead
 asLineRead none = LineMisprinted
 asLineRead (some l) = Read l

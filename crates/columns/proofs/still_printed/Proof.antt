@@ -1,30 +1,15 @@
 -- `columns::still_printed` meets its contract: its tests, put together, are the definition's.
 -- Assumes nothing.
-use Prim.Native.Nat.{ℕ, _+_, _%_, _^_, _<_}
-use mathlib.Core.Path.{_≡_, refl, sym}
+use mathlib.Core.Path.{_≡_, refl}
 use mathlib.Core.Bool.{Bool, true, false, _&&_, _||_, not}
-use native.Mathlib.Omega.{arith}
-use lib.Dec.{ltb, eqb}
-use borrow.Author.Tests.{ltb-true, ltb-false}
+use lib.Dec.{eqb}
 use Rattle.columns.specs.Lists.{pick}
 use Rattle.columns.specs.PrintedNumbers.{digit}
 use Rattle.columns.specs.Inner.Places.{leading, columnPrinted}
-use Rattle.columns.proofs.Strict.{and-false, and-true}
-use Rattle.columns.proofs.Digits.{digit-near, digit-far}
+use Rattle.columns.proofs.Strict.{and-false, and-true, or-false}
+use Rattle.columns.proofs.Digits.{digit-test}
 use Rattle.columns.proofs.still_printed.Statement.{statement}
 use Rattle.columns.proofs.still_printed.Tie as tie
-
--- a digit, told by what it is less 48
-digit-test : (c d : ℕ) → (d + 48) % 2 ^ 8 ≡ c → d < 256 → ltb d 10 ≡ digit c
-digit-test c d e small = go (ltb d 10) refl
-  where
-    go : (t : Bool) → ltb d 10 ≡ t → t ≡ digit c
-    go true k = sym (digit-near c d e (omega (arith, ltb-true d 10 k)))
-    go false k = sym (digit-far c d e small (omega (arith, ltb-false d 10 k)))
-
-or-false : (a : Bool) → (a || false) ≡ a
-or-false true = refl
-or-false false = refl
 
 or-swapped : (a b : Bool) → (a || b) ≡ (b || a)
 or-swapped true true = refl

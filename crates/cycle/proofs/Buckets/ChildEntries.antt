@@ -8,10 +8,11 @@ use mathlib.Core.Logic.{⊎-elim}
 use Prim.Native.Nat.{ℕ, _+_, _-_, _*_, _^_, _≤_, _<_}
 use native.Mathlib.Nat.{pow-le-pow-right}
 use native.Mathlib.Omega.{arith}
+use mathlib.Core.Bool.{Bool, true}
 use mathlib.Core.List.{List, [], _++_, map, map-append}
 use lib.ListN.{length, take, drop, length-map}
 use Rattle.columns.specs.Lists.{joined, span, put}
-use Rattle.columns.specs.PrintedNumbers.{print}
+use Rattle.columns.specs.PrintedNumbers.{print, blankZeros}
 use Rattle.buckets.specs.Lengths.{tagWidth, placeWidth, entriesStart, entriesMost, bucketLength}
 use Rattle.buckets.specs.Bucket.{printEntry}
 use Rattle.buckets.specs.Inner.Held.{entryStart, EntryBlank, EntriesBlank}
@@ -32,7 +33,7 @@ columnsTo f source text e j x d c = put d entriesStart (joined printEntry (child
 pub entries-count : (f : Figures) (source : Source) (text : List ℕ) (e j x c : ℕ) → length (childEntries f source text e j x c) ≡ c
 entries-count f source text e j x c = length-map (span (j * f .n) c) (childEntry f source text e j x) ∙ length-span (j * f .n) c
 
-module _ {f : Figures} {source : Source} {text : List ℕ} {s : Segment} (w : Printing f source text s) {e j x : ℕ} (p : IndexPlace f s e j x) where
+module _ {f : Figures} {source : Source} {text : List ℕ} {plain : Bool} {s : Segment} (w : Printing f source text plain s) {e j x : ℕ} (p : IndexPlace f s e j x) where
   abbrev childCount : ℕ
   childCount = length (children (planOf f []) (f .k + 1 - e) j)
 
@@ -77,11 +78,14 @@ module _ {f : Figures} {source : Source} {text : List ℕ} {s : Segment} (w : Pr
         pub tag-within : from + tagWidth ≤ length text
         tag-within = omega (arith, there, w .tags .within (e - 1) c any-data inside)
 
+        pub tag-stays : plain ≡ true → blankZeros (take tagWidth (drop from text)) ≡ take tagWidth (drop from text)
+        tag-stays no-zero = rw there (w .tags .no-zeros no-zero (e - 1) c any-data inside)
+
         entry-printed : {d : ℕ} → d ≡ childDistance (planOf f []) (f .size) x e j c →
-            take tagWidth (drop from text) ++ print placeWidth d ≡ printEntry (childEntry f source text e j x c)
+            blankZeros (take tagWidth (drop from text)) ++ print placeWidth d ≡ printEntry (childEntry f source text e j x c)
         unfolding printEntry childEntry
         entry-printed d-is =
-            ap₂ (λ a b. take tagWidth (drop a text) ++ print placeWidth b) there d-is
+            ap₂ (λ a b. blankZeros (take tagWidth (drop a text)) ++ print placeWidth b) there d-is
             ∙ ap (λ a. a ++ print placeWidth (childDistance (planOf f []) (f .size) x e j c)) (w .tags .printed (e - 1) c any-data inside)
 
   -- ---- its entries, one after the other
@@ -103,7 +107,7 @@ module _ {f : Figures} {source : Source} {text : List ℕ} {s : Segment} (w : Pr
       pub one-entry :
           {wide from d : ℕ} {last : List ℕ} → wide ≡ f .n ^ (e - 1) → from ≡ tagPlace f source wide (j * f .n + c) →
           d ≡ childDistance (planOf f []) (f .size) x e j (j * f .n + c) →
-          last ≡ put part (entryStart c) (take tagWidth (drop from text) ++ print placeWidth d) → last ≡ columnsTo f source text e j x start (c + 1)
+          last ≡ put part (entryStart c) (blankZeros (take tagWidth (drop from text)) ++ print placeWidth d) → last ≡ columnsTo f source text e j x start (c + 1)
       one-entry wide-is from-is d-is last-is =
           last-is
           ∙ ap₂ (λ a b. put a (entryStart c) b) part-is (entry-printed h wide-is from-is d-is)

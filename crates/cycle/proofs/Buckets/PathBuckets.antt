@@ -10,6 +10,7 @@ use native.Mathlib.Nat.{eq-zero-or-pos}
 use native.Mathlib.Numerals.{add-one}
 use native.Mathlib.Omega.{arith}
 use mathlib.Core.Option.{some}
+use mathlib.Core.Bool.{Bool}
 use mathlib.Core.List.{List, [], _∷_}
 use lib.Dec.{eqb}
 use lib.ListN.{length}
@@ -88,7 +89,7 @@ module _ (t : Plan) (sound : Sound t) (one : t .layout ≡ 1) (b i m : ℕ) (low
 
 -- ---- the bucket
 
-module _ {f : Figures} {source : Source} {text : List ℕ} {s : Segment} (w : Printing f source text s) {i x : ℕ} (p : PathPlace f s i x) where
+module _ {f : Figures} {source : Source} {text : List ℕ} {plain : Bool} {s : Segment} (w : Printing f source text plain s) {i x : ℕ} (p : PathPlace f s i x) where
   abbrev ls : List Line
   ls = linesHeld f source text
 

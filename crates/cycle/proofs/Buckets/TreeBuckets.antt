@@ -97,7 +97,7 @@ near-below t {x} {i} {j} (suc h) a p low high c u v =
 
 -- ---- the bucket
 
-module _ {f : Figures} {source : Source} {text : List ℕ} {s : Segment} (w : Printing f source text s) {e j x : ℕ} (p : TreePlace f s e j x) where
+module _ {f : Figures} {source : Source} {text : List ℕ} {plain : Bool} {s : Segment} (w : Printing f source text plain s) {e j x : ℕ} (p : TreePlace f s e j x) where
   abbrev ls : List Line
   ls = linesHeld f source text
 

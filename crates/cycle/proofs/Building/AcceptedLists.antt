@@ -1,24 +1,27 @@
 -- A list that can be sent: its plan, the size of its image, each of its buckets, and the text of some of its lines.
 -- Assumes nothing.
-use mathlib.Core.Path.{_≡_, sym, ap, _∙_, subst}
+use mathlib.Core.Path.{_≡_, sym, ap, ap₂, _∙_, subst}
 use Prim.Native.Nat.{ℕ, suc, _+_, _-_, _*_, _/_, _%_, _≤_, _<_}
 use native.Mathlib.Nat.{mul-comm, mul-mod-left, mul-div-cancel}
 use native.Mathlib.Omega.{arith}
 use mathlib.Core.Bool.{true}
+use mathlib.Core.Option.{none}
 use mathlib.Core.List.{List, [], map}
 use lib.Dec.{lit<}
-use lib.ListN.{length, take, drop, length-drop, length-map}
+use lib.ListN.{length, take, drop, getD, length-drop, length-map}
 use lib.Seq.{ext-getD}
 use Rattle.columns.specs.Lists.{joined, every, range}
-use Rattle.columns.proofs.Joined.{map-at, drop-joined, take-joined}
+use Rattle.columns.proofs.Joined.{every-at, map-at, drop-joined, take-joined}
 use Rattle.buckets.specs.declared.Line.{Line}
-use Rattle.buckets.specs.ListLine.{fits, printLine, spelled, listLines}
+use Rattle.buckets.specs.ListLine.{fits, printLine, spelled, taken, readLine, cutLines, listLines, misprintFrom}
+use Rattle.buckets.specs.Inner.Columns.{PlainList}
 use Rattle.buckets.specs.Bucket.{printBucket}
 use Rattle.buckets.specs.declared.Head.{Head}
 use Rattle.buckets.specs.Inner.Held.{headOf}
 use Rattle.buckets.specs.Lengths.{lineLength, bucketLength, bucketsMost}
 use Rattle.buckets.proofs.ListLines.{length-printLine}
-use Rattle.buckets.proofs.Lists.{line-at, print-of-list}
+use Rattle.buckets.proofs.LenientLines.{LineReads, line-reads}
+use Rattle.buckets.proofs.Lists.{length-cutLines, cut-at, line-at, none-misprinted, print-of-list, part-whole, part-reads, lines-part}
 use Rattle.cycle.specs.Layouts.{Slot, slots}
 use Rattle.cycle.specs.Cycle.{cycleSize, image, toNextSegment}
 use Rattle.cycle.specs.declared.Figures.{Figures}
@@ -102,18 +105,46 @@ module _ (f : Figures) (list : List ℕ) (s : AcceptedList f list) where
     unfolding planIn
     head-in = head-shape f [] (linesHeld f InList list) x (omega (arith, s .ready .size-is))
 
-  -- the text of c lines from line a on
   pub lines-fit : every fits (listLines list) ≡ true
   lines-fit = print-of-list list whole-lines (s .printed) .1
 
-  pub lines-text : (a c : ℕ) → a + c ≤ f .lines → take (lineLength * c) (drop (lineLength * a) list) ≡ joined printLine (take c (drop a (listLines list)))
-  lines-text a c h =
-      let ls : List Line = listLines list in
-      let long : length ls ≡ f .lines = sending-lines f list s in
-      let wide : (l : Line) → length (printLine l) ≡ lineLength = length-printLine in
-      let behind : length (drop a ls) ≡ length ls - a = length-drop a ls in
-      ap (λ t. take (lineLength * c) (drop (lineLength * a) t)) (print-of-list list whole-lines (s .printed) .0)
-      ∙ ap (λ k. take (lineLength * c) (drop k (joined printLine ls))) (mul-comm lineLength a)
-      ∙ ap (take (lineLength * c)) (drop-joined printLine lineLength wide ls a (omega arith))
-      ∙ ap (λ k. take k (joined printLine (drop a ls))) (mul-comm lineLength c)
-      ∙ take-joined printLine lineLength wide (drop a ls) c (omega arith)
+  -- line l reads
+  pub line-in : (l : ℕ) → l < f .lines → LineReads (take lineLength (drop (l * lineLength) list))
+  line-in l h =
+      let there : l < length list / lineLength = omega (arith, count) in
+      subst LineReads (cut-at list [] l there)
+      (line-reads (getD (cutLines list) l [])
+      (every-at (λ t. taken (readLine t)) [] (cutLines list) l (none-misprinted 0 (cutLines list) (s .printed)) (omega (arith, there, length-cutLines list))))
+
+  -- c lines from line a on: their text, their numbers, and that they are printed as the list is
+  module _ (a c : ℕ) (h : a + c ≤ f .lines) where
+    abbrev text : List ℕ
+    text = take (lineLength * c) (drop (lineLength * a) list)
+
+    text-is : text ≡ take (c * lineLength) (drop (a * lineLength) list)
+    text-is = ap₂ (λ w k. take w (drop k list)) (mul-comm lineLength c) (mul-comm lineLength a)
+
+    within : a + c ≤ length list / lineLength
+    within = omega (arith, count)
+
+    pub text-whole : length text % lineLength ≡ 0
+    text-whole = rw text-is (part-whole list a c within)
+
+    pub text-reads : misprintFrom 0 (cutLines text) ≡ none
+    text-reads = rw text-is (part-reads list a c within (s .printed))
+
+    pub text-lines : listLines text ≡ take c (drop a (listLines list))
+    text-lines = ap listLines text-is ∙ lines-part list a c within
+
+    pub text-plain : PlainList list → PlainList text
+    text-plain plain =
+        let ls : List Line = listLines list in
+        let long : length ls ≡ f .lines = sending-lines f list s in
+        let wide : (l : Line) → length (printLine l) ≡ lineLength = length-printLine in
+        let behind : length (drop a ls) ≡ length ls - a = length-drop a ls in
+        ap (λ t. take (lineLength * c) (drop (lineLength * a) t)) plain
+        ∙ ap (λ k. take (lineLength * c) (drop k (joined printLine ls))) (mul-comm lineLength a)
+        ∙ ap (take (lineLength * c)) (drop-joined printLine lineLength wide ls a (omega arith))
+        ∙ ap (λ k. take k (joined printLine (drop a ls))) (mul-comm lineLength c)
+        ∙ take-joined printLine lineLength wide (drop a ls) c (omega arith)
+        ∙ ap (joined printLine) (sym text-lines)

@@ -3,23 +3,22 @@
 use mathlib.Core.Path.{_≡_, refl, sym, ap, ap₂, _∙_}
 use mathlib.Core.Logic.{⊎-elim}
 use Prim.Native.Nat.{ℕ, _+_, _-_, _*_, _%_, _≤_, _<_, min}
-use native.Mathlib.Nat.{suc-mul, mul-mod-left}
+use native.Mathlib.Nat.{suc-mul}
 use native.Mathlib.Numerals.{add-one}
 use native.Mathlib.Omega.{arith}
-use mathlib.Core.Bool.{true}
 use mathlib.Core.Option.{none}
 use mathlib.Core.List.{List, [], _∷_, _++_}
-use lib.ListN.{length, take, drop, length-take, length-drop}
+use lib.ListN.{length, take, drop, length-drop}
 use lib.Seq.{take-all}
-use Rattle.columns.specs.Lists.{put, joined, every, up}
+use Rattle.columns.specs.Lists.{put, up}
+use Rattle.columns.proofs.Put.{length-part}
 use Rattle.buckets.specs.declared.Line.{Line}
 use Rattle.buckets.specs.declared.Head.{Head}
-use Rattle.buckets.specs.ListLine.{fits, printLine, cutLines, listLines, misprintFrom}
+use Rattle.buckets.specs.ListLine.{cutLines, listLines, misprintFrom}
+use Rattle.buckets.specs.Inner.Columns.{PlainList}
 use Rattle.buckets.specs.Bucket.{dataBody, printBucket, followOn}
 use Rattle.buckets.specs.Inner.Held.{bucketWith, headOf}
 use Rattle.buckets.specs.Lengths.{lineLength, linesMost, bucketLinesMost, bucketLength}
-use Rattle.buckets.proofs.Lists.{length-printed, lines-of-printed, none-misprinted-of-printed}
-use Rattle.buckets.proofs.ListParts.{every-take, every-drop}
 use Rattle.buckets.proofs.Holding.{bucket-whole}
 use Rattle.cycle.specs.Tree.{Plan, linesOf, lastTag}
 use Rattle.cycle.specs.Layouts.{Slot, slot}
@@ -32,7 +31,7 @@ use Rattle.cycle.proofs.Trees.TreeLaws.{up-lt}
 use Rattle.cycle.proofs.Trees.Shapes.{stand-shape}
 use Rattle.cycle.proofs.Segmenting.Positions.{stand-at, data-at}
 use Rattle.cycle.proofs.Building.AcceptedPlans.{sending-lines}
-use Rattle.cycle.proofs.Building.AcceptedLists.{plan-in, long-in, bucket-in, head-in, lines-fit, lines-text}
+use Rattle.cycle.proofs.Building.AcceptedLists.{plan-in, long-in, bucket-in, head-in, text-whole, text-reads, text-lines, text-plain}
 use Rattle.cycle.proofs.Building.Written.{written-one}
 
 plan-lines : (f : Figures) (list : List ℕ) (s : AcceptedList f list) (q : ℕ) → take (f .p) (drop (q * f .p) (listLines list)) ≡ linesOf (planIn f InList list) q
@@ -72,6 +71,7 @@ module _ (f : Figures) (list : List ℕ) (s : AcceptedList f list) where
     pub few : length (take (end - from) (drop from list)) ≤ bucketLinesMost * lineLength
     pub whole-lines : length (take (end - from) (drop from list)) % lineLength ≡ 0
     pub printed : misprintFrom 0 (cutLines (take (end - from) (drop from list))) ≡ none
+    pub no-zeros : PlainList list → PlainList (take (end - from) (drop from list))
     pub lines-are : listLines (take (end - from) (drop from list)) ≡ linesOf (planIn f InList list) q
 
   pub data-text :
@@ -90,12 +90,10 @@ module _ (f : Figures) (list : List ℕ) (s : AcceptedList f list) where
       let long : length ls ≡ f .lines = sending-lines f list s in
       let few-lines : c ≤ bucketLinesMost = omega arith in
       let ms : List Line = take c (drop a ls) in
-      let text : take (end - from) (drop from list) ≡ joined printLine ms =
-      ap₂ (λ w k. take w (drop k list)) span-is from-is ∙ lines-text f list s a c (omega arith) in
-      let fit : every fits ms ≡ true = every-take fits c (drop a ls) (every-drop fits a ls (lines-fit f list s)) in
-      let size : length (joined printLine ms) ≡ length ms * lineLength = length-printed ms in
+      let text : take (end - from) (drop from list) ≡ take (lineLength * c) (drop (lineLength * a) list) =
+      ap₂ (λ w k. take w (drop k list)) span-is from-is in
+      let size : length (take (end - from) (drop from list)) ≡ end - from = length-part list from (end - from) (omega (arith, s .whole)) in
       let rest : length (drop a ls) ≡ length ls - a = length-drop a ls in
-      let count : length ms ≡ min c (length (drop a ls)) = length-take c (drop a ls) in
       let same : ms ≡ take (f .p) (drop a ls) = taken-most c (f .p) (drop a ls) (omega arith) in
       record {
         low = low;
@@ -103,10 +101,11 @@ module _ (f : Figures) (list : List ℕ) (s : AcceptedList f list) where
         few-all = shaped .lines-high;
         ordered = omega arith;
         within = omega (arith, s .whole);
-        few = rw text (omega arith);
-        whole-lines = rw (text, size) (mul-mod-left (length ms) lineLength);
-        printed = rw text (none-misprinted-of-printed ms fit);
-        lines-are = ap listLines text ∙ lines-of-printed ms fit ∙ same ∙ lines-there;
+        few = rw size (omega arith);
+        whole-lines = rw text (text-whole f list s a c (omega arith));
+        printed = rw text (text-reads f list s a c (omega arith));
+        no-zeros = λ plain. rw text (text-plain f list s a c (omega arith) plain);
+        lines-are = ap listLines text ∙ text-lines f list s a c (omega arith) ∙ same ∙ lines-there;
       }
     where
       taken-most : (c p : ℕ) (xs : List Line) → c ≡ min p (length xs) → take c xs ≡ take p xs

@@ -10,7 +10,7 @@ use lib.Dec.{ltb}
 use lib.ListN.{length}
 use borrow.Author.Tests.{ltb-false, le-ltb, not-false}
 use Rattle.columns.specs.Lists.{joined}
-use Rattle.buckets.specs.ListLine.{printLine, cutLines, listLines, wholeLines, misprintFrom, fallFrom}
+use Rattle.buckets.specs.ListLine.{printLine, cutLines, listLines, wholeLines, misprintFrom, fallFrom, blankedList}
 use Rattle.buckets.proofs.Lists.{print-of-list}
 use Rattle.cycle.specs.Tree.{Settings, Plan, plan}
 use Rattle.cycle.specs.Cycle.{cycleSize, image}
@@ -81,8 +81,8 @@ pub accepted : (s : Settings) (list : List ℕ) (room n : ℕ) → build s list 
 accepted s list room n h =
     let a = answered s list room n h in accepted-plan s list (a .settings) (a .whole) (a .read) (a .order) (a .copies)
 
--- such a list is the print of its lines
-pub accepted-list : (s : Settings) (list : List ℕ) (room n : ℕ) → build s list room .answer ≡ Cycle n → list ≡ joined printLine (listLines list)
+-- such a list, with its leading zeros made blank, is the print of its lines
+pub accepted-list : (s : Settings) (list : List ℕ) (room n : ℕ) → build s list room .answer ≡ Cycle n → blankedList list ≡ joined printLine (listLines list)
 accepted-list s list room n h =
     let a = answered s list room n h in print-of-list list (whole-lines (length list) (a .whole) .0) (a .read) .0
 

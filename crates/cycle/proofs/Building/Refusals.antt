@@ -1,4 +1,5 @@
--- The conditions 3 and 4 of building, line by line: the first misprinted line, and the first line whose tag falls.
+-- The conditions 3 and 4 of building, line by line: the first misprinted line, and the first line whose tag falls; and lines without
+-- leading zeros.
 -- Assumes nothing.
 use mathlib.Core.Path.{_≡_, refl, sym, ap, _∙_}
 use Prim.Native.Nat.{ℕ, suc, _+_, _*_, _/_, _≤_, _<_}
@@ -7,24 +8,50 @@ use native.Mathlib.Numerals.{add-one}
 use native.Mathlib.Omega.{arith}
 use mathlib.Core.Bool.{Bool, true, false}
 use mathlib.Core.Option.{Option, none, some}
-use mathlib.Core.List.{List, [], _∷_}
+use mathlib.Core.List.{List, [], _∷_, _++_}
 use lib.Dec.{lit<, leb}
 use lib.ListN.{length, take, drop, drop-of-length-le}
-use lib.Seq.{drop-cons}
+use lib.Seq.{drop-cons, take-suc, take-all}
 use borrow.Author.Tests.{le-leb, lt-leb}
-use Rattle.columns.specs.Lists.{pick}
+use Rattle.columns.specs.Lists.{pick, every}
 use Rattle.columns.specs.PrintedNumbers.{value}
+use Rattle.columns.proofs.Joined.{every-append}
 use Rattle.buckets.specs.declared.Line.{Line}
 use Rattle.buckets.specs.ListLine.{readLine, spelled, cutLines, listLines, taken, misprintFrom, fallFrom}
+use Rattle.buckets.specs.Inner.Columns.{readPlain, PlainList}
 use Rattle.buckets.specs.Lengths.{tagWidth, lineLength}
-use Rattle.buckets.proofs.Lists.{length-cutLines, length-listLines, cut-at, line-at}
+use Rattle.buckets.proofs.Lists.{length-cutLines, length-listLines, cut-at, line-at, plain-list}
 use Rattle.cycle.specs.Inner.Held.{placeOr}
 use Rattle.cycle.proofs.ReadingBack.ImageLines.{spelled-front}
 
 pub count-lines : (list : List ℕ) (lines : ℕ) → length list ≡ lineLength * lines → length list / lineLength ≡ lines
 count-lines list lines e = rw (e, mul-comm lineLength lines) (mul-div-cancel lines (lit< tt))
 
+-- the lines read without leading zeros
+abbrev pub allPlain : List (List ℕ) → Bool
+allPlain ss = every (λ s. taken (readPlain s)) ss
+
 module _ (list : List ℕ) (lines : ℕ) (whole : length list ≡ lineLength * lines) (i : ℕ) where
+  -- ---- lines without leading zeros
+
+  module _ (so : allPlain (take i (cutLines list)) ≡ true) where
+    -- one line more
+    pub plain-read :
+        i < lines → taken (readPlain (take lineLength (drop (lineLength * i) list))) ≡ true →
+        allPlain (take (i + 1) (cutLines list)) ≡ true
+    plain-read h e =
+        let line : List ℕ = take lineLength (drop (lineLength * i) list) in
+        let there : i < length list / lineLength = omega (arith, count-lines list lines whole) in
+        let more : take (suc i) (cutLines list) ≡ take i (cutLines list) ++ line ∷ [] =
+        take-suc (cutLines list) i [] (omega (arith, length-cutLines list)) ∙ rw (cut-at list [] i there, mul-comm i lineLength) in
+        rw (add-one i, more, every-append (λ s. taken (readPlain s)) (take i (cutLines list)) (line ∷ []), so, e)
+
+    -- all of them
+    pub plains-read : lines ≤ i → PlainList list
+    plains-read h =
+        plain-list list (omega (arith, whole))
+        (rw (take-all i (cutLines list) (omega (arith, length-cutLines list, count-lines list lines whole))) at so)
+
   -- ---- 3
 
   module _ (so : misprintFrom 0 (cutLines list) ≡ misprintFrom i (drop i (cutLines list))) where

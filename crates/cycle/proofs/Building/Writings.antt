@@ -3,6 +3,7 @@
 use mathlib.Core.Path.{_≡_, sym, ap, _∙_}
 use Prim.Native.Nat.{ℕ, _+_, _-_, _*_, _≤_, _<_}
 use native.Mathlib.Omega.{arith}
+use mathlib.Core.Bool.{Bool}
 use mathlib.Core.List.{List, [], _++_}
 use lib.ListN.{length, take, drop}
 use Rattle.columns.proofs.Put.{length-part}
@@ -40,15 +41,16 @@ module _ (f : Figures) (list : List ℕ) (sending : AcceptedList f list) (d : Li
   grown-length image y h b here =
       ap length here ∙ length-written (planIn f InList list) (f .size) (long-in f list sending) d room a y h b
 
-module _ (f : Figures) (list : List ℕ) (s : Segment) (r : ℕ) (w : Writing f list s r) where
+module _ {plain : Bool} (f : Figures) (list : List ℕ) (s : Segment) (r : ℕ) (w : Writing f list plain s r) where
   pub seats : Seated f s
   seats = seated f s (w .sending .ready) (w .placed)
 
-  pub writing-kept : (r′ : ℕ) → r′ ≡ r → Writing f list s r′
-  writing-kept r′ e = record { sending = w .sending; roomy = omega (arith, w .roomy); placed = w .placed }
+  pub writing-kept : (r′ : ℕ) → r′ ≡ r → Writing f list plain s r′
+  writing-kept r′ e = record { sending = w .sending; no-zeros = w .no-zeros; roomy = omega (arith, w .roomy); placed = w .placed }
 
-  pub printing : Printing f InList list s
-  printing = record { ready = w .sending .ready; fits = w .sending .whole; placed = w .placed; tags = list-tags f list (w .sending) }
+  pub printing : Printing f InList list plain s
+  printing =
+      record { ready = w .sending .ready; fits = w .sending .whole; placed = w .placed; tags = list-tags f list (w .sending) plain (w .no-zeros) }
 
   -- ---- bucket x, lent to be printed
 
@@ -87,7 +89,7 @@ module _ (f : Figures) (list : List ℕ) (s : Segment) (r : ℕ) (w : Writing f 
 
 -- ---- a subtree, whose children's are written behind its bucket over d
 
-module _ {f : Figures} {list : List ℕ} {s : Segment} {r : ℕ} (w : Writing f list s r) {e j x : ℕ} (p : TreePlace f s e j x) where
+module _ {f : Figures} {list : List ℕ} {plain : Bool} {s : Segment} {r : ℕ} (w : Writing f list plain s r) {e j x : ℕ} (p : TreePlace f s e j x) where
   pub begins : (d : List ℕ) → length d ≡ r → d ≡ written (planIn f InList list) d (x + 1) (x + 1)
   begins d room = begun f list (w .sending) d (omega (arith, w .roomy)) (x + 1)
 

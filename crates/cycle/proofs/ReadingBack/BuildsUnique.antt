@@ -1,4 +1,5 @@
--- The list that builds an image is the one that the image's data buckets hold: so two lists that build one image are equal.
+-- A list that builds an image is, with its leading zeros made blank, the one that the image's data buckets hold: so two lists that
+-- build one image differ in leading zeros alone.
 -- Assumes nothing.
 use mathlib.Core.Path.{_≡_, refl, sym, ap, ap₂, _∙_}
 use Prim.Native.Nat.{ℕ, _*_, _/_, _≤_}
@@ -12,7 +13,7 @@ use Rattle.columns.proofs.Strict.{both}
 use Rattle.columns.proofs.Joined.{parts-joined-if}
 use Rattle.buckets.specs.declared.Line.{Line}
 use Rattle.buckets.specs.Bucket.{Bucket, printBucket, good, readBucket}
-use Rattle.buckets.specs.ListLine.{listLines, printLine}
+use Rattle.buckets.specs.ListLine.{listLines, printLine, blankedList}
 use Rattle.buckets.proofs.Buckets.{length-printBucket, read-of-print-bucket}
 use Rattle.buckets.specs.BucketLines.{linesRead}
 use Rattle.cycle.specs.Tree.{Settings, Plan, plan}
@@ -54,8 +55,8 @@ sent-lines t a short =
     ∙ parts-joined-if printBucket good 240 length-printBucket bs [] fine in
     rw (count, cut) (read-carried bs fine ∙ accepted-sent t a)
 
--- a list that builds an image is the one that it holds
-pub sent-list : (s : Settings) (list bytes : List ℕ) → Builds s list bytes → sentList bytes ≡ list
+-- a list that builds an image is, with its leading zeros made blank, the one that it holds
+pub sent-list : (s : Settings) (list bytes : List ℕ) → Builds s list bytes → sentList bytes ≡ blankedList list
 unfolding sentList plan
 sent-list s list bytes g =
     let n : ℕ = length bytes / 240 in
@@ -65,5 +66,5 @@ sent-list s list bytes g =
     ∙ sent-lines (plan s (listLines list)) (accepted s list (length bytes) n (g .answers)) (o .short) in
     ap (joined printLine) lines ∙ sym (accepted-list s list (length bytes) n (g .answers))
 
-pub builds-unique : (s : Settings) (list other bytes : List ℕ) → Builds s list bytes → Builds s other bytes → list ≡ other
+pub builds-unique : (s : Settings) (list other bytes : List ℕ) → Builds s list bytes → Builds s other bytes → blankedList list ≡ blankedList other
 builds-unique s list other bytes g h = sym (sent-list s list bytes g) ∙ sent-list s other bytes h

@@ -161,10 +161,10 @@ module _ (f : Figures) (bytes : List ℕ) (s : Segment) (k : Checking f bytes s)
   abbrev plan-read : Plan
   plan-read = planIn f InImage bytes
 
-  pub printing : Printing f InImage bytes s
+  pub printing : Printing f InImage bytes true s
   printing =
       let w = k .comparing in
-      record { ready = w .holding .ready; fits = w .holding .long; placed = w .placed; tags = image-tags f bytes (w .holding) (k .datas) }
+      record { ready = w .holding .ready; fits = w .holding .long; placed = w .placed; tags = image-tags f bytes (w .holding) (k .datas) true }
 
   -- every bucket of the cycle is good
   pub good-at : (x : ℕ) → x < f .size → good (cycleBucket plan-read x) ≡ true

@@ -1,5 +1,5 @@
 -- Demand 2 of reading back: an image is accepted exactly if some list and the settings build it and there is room for that list,
--- and that list is handed out.
+-- and that list is handed out, with its leading zeros made blank.
 -- Assumes nothing.
 use mathlib.Core.Path.{_≡_, refl, sym, ap, _∙_, subst}
 use Prim.Native.Nat.{ℕ, _*_, _/_, _%_, _≤_, _<_}
@@ -12,7 +12,8 @@ use lib.ListN.{length}
 use borrow.Author.Tests.{lt-ltb, le-ltb, ltb-true, ltb-false, le-leb, eq-eqb}
 use Rattle.columns.specs.Lists.{same}
 use Rattle.columns.proofs.Strict.{both, same-refl, same-eq}
-use Rattle.buckets.specs.ListLine.{listLines}
+use Rattle.buckets.specs.ListLine.{listLines, blankedList}
+use Rattle.buckets.proofs.BlankedLists.{length-blanked-list}
 use Rattle.cycle.specs.Refusals.{row, firstRefusal}
 use Rattle.cycle.specs.Tree.{Settings, Plan, plan}
 use Rattle.cycle.specs.Layouts.{slots}
@@ -25,6 +26,7 @@ use Rattle.cycle.specs.declared.ReadBack.the-variants.{Lines, Refused}
 use Rattle.cycle.proofs.Building.Accepted.{Accepted, laid}
 use Rattle.cycle.proofs.Building.Outcomes.{answered, accepted}
 use Rattle.cycle.proofs.Building.BuiltImage.{length-image}
+use Rattle.cycle.proofs.Building.BlankedBuilt.{blanked-builds}
 use Rattle.cycle.proofs.ReadingBack.BuildsUnique.{sent-list}
 
 -- ---- the test is the relation
@@ -159,19 +161,22 @@ module _ (s : Settings) (bytes : List ℕ) (room : ℕ) where
   -- ---- where a list builds the image
 
   module _ (list : List ℕ) (g : Builds s list bytes) where
-    held : sentList bytes ≡ list
+    held : sentList bytes ≡ blankedList list
     held = sent-list s list bytes g
+
+    long-held : length (sentList bytes) ≡ length list
+    long-held = ap length held ∙ length-blanked-list list
 
     by-room : readBack s bytes room ≡ told true true true (ltb room (length (sentList bytes)))
     by-room =
-        let built : builds s (sentList bytes) bytes ≡ true = ap (λ l. builds s l bytes) held ∙ builds-true s list bytes g in
+        let built : builds s (sentList bytes) bytes ≡ true = ap (λ l. builds s l bytes) held ∙ builds-true s (blankedList list) bytes (blanked-builds s list bytes g) in
         read-told ∙ rw (built-settings s list bytes g, built-whole s list bytes g, built)
 
-    hands-out : length list ≤ room → readBack s bytes room ≡ handed list
-    hands-out h = by-room ∙ (rw (le-ltb room (length (sentList bytes)) (rw held h)) (ap handed held))
+    hands-out : length list ≤ room → readBack s bytes room ≡ handed (blankedList list)
+    hands-out h = by-room ∙ (rw (le-ltb room (length (sentList bytes)) (rw long-held h)) (ap handed held))
 
     too-short : room < length list → readBack s bytes room ≡ refused 7 0
-    too-short h = by-room ∙ rw (lt-ltb room (length (sentList bytes)) (rw held h))
+    too-short h = by-room ∙ rw (lt-ltb room (length (sentList bytes)) (rw long-held h))
 
   -- ---- where none does
 
@@ -199,7 +204,7 @@ module _ (s : Settings) (bytes : List ℕ) (room : ℕ) where
     held-fits = ltb-false room (length (sentList bytes)) (lines-shown .is-over refl)
 
     held-out : readBack s bytes room ≡ handed (sentList bytes)
-    held-out = hands-out (sentList bytes) held-builds held-fits
+    held-out = hands-out (sentList bytes) held-builds held-fits ∙ ap handed (sym (sent-list s (sentList bytes) bytes held-builds))
 
     pub accepted-built : Builds s (readBack s bytes room .output) bytes
     accepted-built = subst (λ o. Builds s (o .output) bytes) (sym held-out) held-builds
@@ -222,7 +227,8 @@ module _ (s : Settings) (bytes : List ℕ) (room : ℕ) where
         w .is-whole,
         λ list g.
             true≢false
-            (sym (builds-true s list bytes g) ∙ (sym (ap (λ l. builds s l bytes) (sent-list s list bytes g)) ∙ w .is-built)),
+            (sym (builds-true s (blankedList list) bytes (blanked-builds s list bytes g))
+            ∙ (sym (ap (λ l. builds s l bytes) (sent-list s list bytes g)) ∙ w .is-built)),
       )
 
   over-list : (place : ℕ) → readBack s bytes room .answer ≡ Refused 7 place → BuildsOver s bytes room

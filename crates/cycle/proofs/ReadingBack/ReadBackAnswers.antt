@@ -11,8 +11,8 @@ use lib.ListN.{length, drop}
 use borrow.Author.Tests.{eq-eqb, ne-eqb, le-leb, lt-leb}
 use Rattle.columns.specs.Lists.{joined, put, onto}
 use Rattle.columns.proofs.Strict.{and-false}
-use Rattle.buckets.specs.ListLine.{printLine, listLines}
-use Rattle.buckets.proofs.Lists.{length-printed}
+use Rattle.buckets.specs.ListLine.{printLine, listLines, blankedList}
+use Rattle.buckets.proofs.Lists.{length-printed, printed-stays}
 use Rattle.cycle.specs.Tree.{Settings, settings}
 use Rattle.cycle.specs.Cycle.{cycleSize}
 use Rattle.cycle.specs.Building.{copiesFit, settingsFit}
@@ -29,7 +29,7 @@ use Rattle.cycle.proofs.ReadingBack.ImageLines.{length-held}
 use Rattle.cycle.proofs.ReadingBack.ImageText.{text-list}
 use Rattle.cycle.specs.Inner.Settings.{Figured}
 use Rattle.cycle.proofs.ReadingBack.HeldImage.{BuiltFrom, built-lines, few-lines, built-from}
-use Rattle.cycle.proofs.ReadingBack.MatchingBuilt.{held-datas, restored-builds}
+use Rattle.cycle.proofs.ReadingBack.MatchingBuilt.{held-datas, restored-builds, held-accepted}
 use Rattle.cycle.proofs.ReadingBack.Demand2.{every-read-back}
 
 -- ---- conditions 1 and 11
@@ -111,17 +111,19 @@ module _ (s : Settings) (f : Figures) (bytes : List ℕ) (fit : settingsFit s �
   pub list-written :
       (d out : List ℕ) → 27 * f .lines ≤ length d → out ≡ put d 0 (listText f bytes 0 (f .lines)) →
       (Lines (f .lines) ≡ readBack s bytes (length d) .answer) × (out ≡ onto (readBack s bytes (length d) .output) d)
-  unfolding put onto
+  unfolding put onto planIn planOf
   list-written d out h e =
       let list : List ℕ = joined printLine (linesHeld f InImage bytes) in
       let held = length-held f bytes in
       let count : length list / 27 ≡ f .lines =
       ap (λ c. c / 27) (length-printed (linesHeld f InImage bytes)) ∙ (mul-div-cancel (length (linesHeld f InImage bytes)) {n = 27} (lit< tt) ∙ held) in
+      let datas = held-datas f bytes (w .ready) same in
+      let stays : blankedList list ≡ list = printed-stays (linesHeld f InImage bytes) (held-accepted f bytes (w .ready) datas .lines-fit) in
       let all : readBack s bytes (length d) ≡ handed list =
-      every-read-back s bytes (length d) .accepts list built (omega (arith, length-list)) in (
+      every-read-back s bytes (length d) .accepts list built (omega (arith, length-list)) ∙ ap handed stays in (
         ap Lines (sym count) ∙ sym (ap (λ o. o .answer) all),
         e
-            ∙ (ap (put d 0) (text-list f bytes w (held-datas f bytes (w .ready) same))
+            ∙ (ap (put d 0) (text-list f bytes w datas)
             ∙ (ap (λ k. list ++ drop k d) (zero-add (length list)) ∙ sym (ap (λ o. onto (o .output) d) all))),
       )
 

@@ -24,7 +24,7 @@ use Rattle.cycle.specs.declared.ReadBack.the-variants.{Lines}
 
 -- every definition that these computations open
 unfoldable pub opened : Unit {0}
-unfolding Lists.up Lists.strict Lists.padded Lists.put PrintedNumbers.blanks PrintedNumbers.readNumber ListLine.tagFits ListLine.fits ListLine.lineColumns ListLine.printLine ListLine.spelled ListLine.readLine ListLine.cutLines ListLine.listLines ListLine.wholeLines Bucket.cycleLength Bucket.printHead Bucket.printPair Bucket.printEntry Bucket.printBucket Bucket.reaches Bucket.pairFits Bucket.entryFits Bucket.good Bucket.columns Bucket.field Bucket.spelledPair Bucket.spelledEntry Bucket.spelledBody Bucket.spelledBucket Bucket.readBucket Tree.dataBuckets Tree.levels Tree.plan Tree.width Tree.children Tree.dataUnder Tree.linesOf Tree.tagsOf Tree.firstTag Tree.lastTag Tree.largestTag Layouts.slot Layouts.treeBelow Layouts.sent Layouts.path Layouts.distributedSegment Layouts.distributed Layouts.wholeSegment Layouts.oneM Layouts.slots Cycle.occurs Cycle.toNext Cycle.toNextSegment Cycle.isData Cycle.hasPairs Cycle.firstPair Cycle.laterPair Cycle.pairs Cycle.entry Cycle.entries Cycle.bodyOf Cycle.bucketOf Cycle.lastSent Cycle.buckets Cycle.cycleSize Cycle.image Building.settingsFit Building.copiesFit Building.conditions Building.build ReadingBack.sentLines ReadingBack.sentList ReadingBack.builds ReadingBack.wholeBuckets ReadingBack.conditions ReadingBack.readBack
+unfolding Lists.up Lists.strict Lists.padded Lists.put PrintedNumbers.blanks PrintedNumbers.readNumber PrintedNumbers.readLenient ListLine.tagFits ListLine.fits ListLine.lineColumns ListLine.printLine ListLine.spelled ListLine.hasNumbers ListLine.readLine ListLine.cutLines ListLine.listLines ListLine.wholeLines Bucket.cycleLength Bucket.printHead Bucket.printPair Bucket.printEntry Bucket.printBucket Bucket.reaches Bucket.pairFits Bucket.entryFits Bucket.good Bucket.columns Bucket.field Bucket.spelledPair Bucket.spelledEntry Bucket.spelledBody Bucket.spelledBucket Bucket.readBucket Tree.dataBuckets Tree.levels Tree.plan Tree.width Tree.children Tree.dataUnder Tree.linesOf Tree.tagsOf Tree.firstTag Tree.lastTag Tree.largestTag Layouts.slot Layouts.treeBelow Layouts.sent Layouts.path Layouts.distributedSegment Layouts.distributed Layouts.wholeSegment Layouts.oneM Layouts.slots Cycle.occurs Cycle.toNext Cycle.toNextSegment Cycle.isData Cycle.hasPairs Cycle.firstPair Cycle.laterPair Cycle.pairs Cycle.entry Cycle.entries Cycle.bodyOf Cycle.bucketOf Cycle.lastSent Cycle.buckets Cycle.cycleSize Cycle.image Building.settingsFit Building.copiesFit Building.conditions Building.build ReadingBack.sentLines ReadingBack.sentList ReadingBack.builds ReadingBack.wholeBuckets ReadingBack.conditions ReadingBack.readBack
 opened = tt
 
 -- a plan of d data buckets; N does not look at their lines

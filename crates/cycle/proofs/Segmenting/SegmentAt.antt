@@ -17,7 +17,8 @@ use Rattle.cycle.proofs.Sequences.Sequence.{dataCount, Keeps}
 use Rattle.cycle.proofs.Basics.Ranges.{length-range}
 use Rattle.cycle.proofs.Sequences.Pieces.{count-append}
 use Rattle.cycle.proofs.Segmenting.SegmentSizes.{length-segment, length-sent}
-use Rattle.cycle.proofs.Segmenting.SegmentBuckets.{map-take, bare-append, bare-sent, bare-segment, part-stands, toStart, next-start}
+use Rattle.buckets.proofs.ListParts.{map-take}
+use Rattle.cycle.proofs.Segmenting.SegmentBuckets.{bare-append, bare-sent, bare-segment, part-stands, toStart, next-start}
 use Rattle.cycle.proofs.Sequences.LastSent.{count-bare, quiet-take, last-sent}
 
 pub record SegmentAt (t : Plan) (start : ℕ) (p q : List Slot) (first last : ℕ) : Type 0 where

@@ -12,23 +12,11 @@ use lib.ListN.{length, take, drop, length-append, length-take, length-drop, leng
 use lib.Seq.{take-at, drop-at, drop-append-le, drop-append-add}
 use Rattle.columns.specs.Lists.{joined, span, range}
 use Rattle.cycle.specs.Tree.{Plan, children, above}
+use Rattle.buckets.proofs.ListParts.{map-take, map-drop}
 use Rattle.cycle.specs.Layouts.{Slot, slot, segment, subtree, sent, path, pathTop, slots}
 use Rattle.cycle.specs.Cycle.{distanceTo, toNextSegment}
 use Rattle.cycle.specs.Judging.{treeAt}
 use Rattle.cycle.specs.Inner.Held.{bare, StandsAt}
-
--- ---- lists
-
-module _ {A B : Type 0} (f : A → B) where
-  pub map-take : (n : ℕ) (xs : List A) → map f (take n xs) ≡ take n (map f xs)
-  map-take zero xs = refl
-  map-take (suc n) [] = refl
-  map-take (suc n) (x ∷ xs) = ap (λ ys. f x ∷ ys) (map-take n xs)
-
-  pub map-drop : (n : ℕ) (xs : List A) → map f (drop n xs) ≡ drop n (map f xs)
-  map-drop zero xs = refl
-  map-drop (suc n) [] = refl
-  map-drop (suc n) (x ∷ xs) = map-drop n xs
 
 -- ---- buckets that start no segment
 

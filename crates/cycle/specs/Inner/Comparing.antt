@@ -5,7 +5,7 @@ use mathlib.Core.Path.{_≡_}
 use Prim.Native.Nat.{ℕ, _+_, _-_, _*_, _/_, _≤_, _<_}
 use mathlib.Core.Bool.{Bool, true, false}
 use mathlib.Core.Option.{some}
-use mathlib.Core.List.{List, [], _∷_}
+use mathlib.Core.List.{List, [], _∷_, map}
 use lib.Dec.{eqb, ltb}
 use lib.ListN.{length, drop, getD}
 use Rattle.columns.specs.Lists.{pick, parts, joined, range}
@@ -30,6 +30,10 @@ pub record Decides (P : Type 0) (answer : Bool) : Type 0 where
 pub record Finds (P : Type 0) (y answer : ℕ) : Type 0 where
   pub found : (answer ≡ 0 → ⊥) → P × (answer ≡ y)
   pub none : answer ≡ 0 → P → ⊥
+
+-- two tags' columns, each by the digit that it adds: a blank as a 0
+abbrev pub SameDigits : List ℕ → List ℕ → Type 0
+SameDigits a b = map (λ c. c - 48) a ≡ map (λ c. c - 48) b
 
 -- ---- how many lines
 

@@ -4,16 +4,17 @@
 -- Assumes nothing.
 use mathlib.Core.Path.{_≡_}
 use Prim.Native.Nat.{ℕ, zero, suc, _+_, _-_, _*_, _/_, _%_, _^_, _≤_, _<_, min, max}
-use mathlib.Core.Bool.{true}
+use mathlib.Core.Bool.{Bool, true}
 use mathlib.Core.Option.{Option, none, some}
 use mathlib.Core.List.{List, [], _∷_, _++_, map}
 use lib.Dec.{eqb, ltb}
 use lib.ListN.{length, take, drop, getD}
 use Rattle.columns.specs.Lists.{pick, joined, span, range, up, put}
-use Rattle.columns.specs.PrintedNumbers.{value, print}
+use Rattle.columns.specs.PrintedNumbers.{value, print, blankZeros}
 use Rattle.buckets.specs.declared.Line.{Line}
 use Rattle.buckets.specs.ListLine.{spelled, cutLines, listLines, misprintFrom, fallFrom}
 use Rattle.buckets.specs.Bucket.{Entry, indexBody, Bucket}
+use Rattle.buckets.specs.Inner.Columns.{PlainList}
 use Rattle.buckets.specs.Lengths.{tagWidth, lineColumnsWidth, lineLength, linesMost, entriesMost, bucketLinesMost, bucketLength}
 use Rattle.buckets.specs.Lengths.{linesStart, bucketsMost}
 use Rattle.cycle.specs.Tree.{Plan, levels, width, above, lastTag, largestTag}
@@ -277,9 +278,11 @@ written t d x y = put d (bucketLength * x) (imagePart t x (y - x))
 
 -- ---- what the functions that write a segment are given
 
--- a list that can be sent, a buffer of `room` bytes that holds its image, and one of its segments
-pub record Writing (f : Figures) (list : List ℕ) (s : Segment) (room : ℕ) : Type 0 where
+-- a list that can be sent, without leading zeros where `plain` says so, a buffer of `room` bytes that holds its image, and one of
+-- its segments
+pub record Writing (f : Figures) (list : List ℕ) (plain : Bool) (s : Segment) (room : ℕ) : Type 0 where
   pub sending : AcceptedList f list
+  pub no-zeros : plain ≡ true → PlainList list
   pub roomy : bucketLength * f .size ≤ room
   pub placed : (ls : List Line) → HoldsSegment (planOf f ls) s
 
@@ -329,16 +332,22 @@ pub record SpansIn (f : Figures) (s : Segment) (span j : ℕ) : Type 0 where
   pub spans : Spans f span j
   pub under : Under f s (spans .height) j
 
--- the largest tag under each bucket stands printed at the place of its line
-pub record TagsStand (f : Figures) (source : Source) (text : List ℕ) : Type 0 where
+-- The largest tag under each bucket stands at the place of its line: printed, but for leading zeros, of which there are none
+-- where `plain` says so.
+pub record TagsStand (f : Figures) (source : Source) (text : List ℕ) (plain : Bool) : Type 0 where
   pub within : (e j : ℕ) → 1 ≤ f .d → InTree f e j → tagPlace f source (f .n ^ e) j + tagWidth ≤ length text
   pub printed :
       (e j : ℕ) → 1 ≤ f .d → InTree f e j →
-      take tagWidth (drop (tagPlace f source (f .n ^ e) j) text) ≡ print tagWidth (largestTag (planIn f source text) (f .k + 1 - e) j)
+      blankZeros (take tagWidth (drop (tagPlace f source (f .n ^ e) j) text))
+      ≡ print tagWidth (largestTag (planIn f source text) (f .k + 1 - e) j)
+  pub no-zeros :
+      plain ≡ true → (e j : ℕ) → 1 ≤ f .d → InTree f e j →
+      blankZeros (take tagWidth (drop (tagPlace f source (f .n ^ e) j) text))
+      ≡ take tagWidth (drop (tagPlace f source (f .n ^ e) j) text)
 
 -- what the index buckets of a segment are printed from
-pub record Printing (f : Figures) (source : Source) (text : List ℕ) (s : Segment) : Type 0 where
+pub record Printing (f : Figures) (source : Source) (text : List ℕ) (plain : Bool) (s : Segment) : Type 0 where
   pub ready : Ready f
   pub fits : TextFits f source (length text)
   pub placed : (ls : List Line) → HoldsSegment (planOf f ls) s
-  pub tags : TagsStand f source text
+  pub tags : TagsStand f source text plain

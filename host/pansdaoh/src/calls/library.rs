@@ -49,7 +49,8 @@ extern "C" {
     fn pansdaoh_line(bucket: *const u8, bucket_length: usize, i: u64) -> Line;
 }
 
-/// Builds the cycle of a list into `out`; refuses by 1 to 7.
+/// Builds the cycle of a list, leading zeros made blank, into `out`; refuses by 1
+/// to 7.
 #[inline]
 pub fn build(list: &[u8], n: u64, p: u64, layout: u64, copies: u64, out: &mut [u8]) -> Answer {
     let (room, length) = (out.as_mut_ptr(), out.len());
@@ -65,7 +66,8 @@ pub fn size(lines: u64, n: u64, p: u64, layout: u64, copies: u64, c: u64) -> Siz
     unsafe { pansdaoh_size(lines, n, p, layout, copies, c) }
 }
 
-/// Writes the list of an image into `out`; refuses by 1, 11, 13 and 7.
+/// Writes the list of an image, without leading zeros, into `out`; refuses by 1,
+/// 11, 13 and 7.
 #[inline]
 pub fn read_back(image: &[u8], n: u64, p: u64, layout: u64, copies: u64, out: &mut [u8]) -> Answer {
     let (room, length) = (out.as_mut_ptr(), out.len());

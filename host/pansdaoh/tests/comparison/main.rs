@@ -4,6 +4,7 @@
 mod building;
 mod compare;
 mod full_size;
+mod leading_zeros;
 mod lines;
 mod listening;
 mod looking_up;

@@ -8,7 +8,7 @@ mod refusals;
 use drawing::{cycle, drawn_bucket, drawn_line, tree};
 use hearing::{changed, hearing, sample_yard};
 use pansdaoh::{build, Settings, BUCKET};
-use reference::generate::{line, list_of};
+use reference::generate::{full_of_zeros, line, list_of};
 
 const DOCUMENT: &str = include_str!("../../../../docs/ON-AIR.md");
 const LIST_S: &str = include_str!("../../../sample/list");
@@ -37,14 +37,16 @@ fn bucket(image: &[u8], position: u64) -> &[u8] {
 }
 
 /// The document's drawings, in its order.
-fn drawings() -> [String; 19] {
+fn drawings() -> [String; 20] {
     let line = line(1_004_711, 8_450, 12, 31);
-    image(line.as_bytes(), sample(1, 0));
+    let zeros = full_of_zeros(line.as_bytes());
+    assert!(image(line.as_bytes(), sample(1, 0)) == image(&zeros, sample(1, 0)));
     let one_copy = sample_image(1, 1);
     let two_copies = sample_image(1, 2);
     let eight = image(&list_of(&EIGHT), sample(1, 2));
     [
         drawn_line(line.as_bytes()),
+        drawn_line(&zeros),
         LIST_S.to_string(),
         drawn_bucket(bucket(&two_copies, 5)),
         drawn_bucket(bucket(&two_copies, 4)),

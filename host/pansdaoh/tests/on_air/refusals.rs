@@ -10,7 +10,7 @@ type Examples = Vec<(&'static str, Refusal)>;
 
 fn building() -> Examples {
     let s = LIST_S.as_bytes();
-    let misprinted = LIST_S.replace("  8 ", "007 ");
+    let misprinted = LIST_S.replace("  8 ", "    ");
     let many = list_of(&vec![7; 40_000]);
     let nine = Settings { n: 9, ..sample(1, 1) };
     let refused =
@@ -20,7 +20,7 @@ fn building() -> Examples {
         ("building, n 9", roomy(s, nine)),
         ("building, a list of 28 bytes", roomy(&[b' '; 28], sample(1, 1))),
         (
-            "building, list S with line 3's tag printed 007",
+            "building, list S with line 3's tag left blank",
             roomy(misprinted.as_bytes(), sample(1, 1)),
         ),
         ("building, tags 5, 3", roomy(&list_of(&[5, 3]), sample(1, 1))),

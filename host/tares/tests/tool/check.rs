@@ -2,7 +2,7 @@
 
 use std::collections::BTreeSet;
 
-use reference::generate::{damaged_image, line, list, list_of, Random};
+use reference::generate::{damaged_image, full_of_zeros, line, list, list_of, Random};
 use reference::yards::{image_of, legal_settings};
 
 use crate::run::{Folder, R1};
@@ -333,6 +333,33 @@ fn another_list() {
     assert!(text.contains("lines that differ: 3\n  not in the list: tag 5, tare 8100, "), "{text}");
     let text = folder.tares(&format!("check list image {settings}")).refused();
     assert!(text.starts_with("tares: refused by 5, place 0: "), "{text}");
+}
+
+/// Leading zeros in the list are no difference: the image is right, and of a
+/// wrong one only what differs by its number is told.
+#[test]
+fn leading_zeros() {
+    let folder = Folder::sample_yard("check_leading_zeros");
+    folder.write("zeros", &full_of_zeros(&folder.read("list")));
+    for settings in ["", R1] {
+        let right = folder.tares(&format!("check list image {settings}")).done();
+        assert_eq!(folder.tares(&format!("check zeros image {settings}")).done(), right);
+    }
+    let mut image = folder.read("image");
+    image[240 * 6 + 44] = b'7';
+    folder.write("image", &image);
+    for settings in ["", R1] {
+        let wrong = folder.tares(&format!("check zeros image {settings}")).wrong_image();
+        assert_eq!(wrong, folder.tares(&format!("check list image {settings}")).wrong_image());
+        let told = "lines that differ: 1\n  line 3 (tag 5), tare: expected 0, found 7\n";
+        assert!(wrong.contains(told), "{wrong}");
+    }
+    // A line that the image lacks is told by its numbers.
+    folder.write("zeros", line(4, 8_300, 1, 1).replace(' ', "0").as_bytes());
+    let wrong = folder.tares("check zeros image").wrong_image();
+    let told =
+        "  line 1 (tag 4, tare 8300, material code 1, weighing number 1) is not in the image\n";
+    assert!(wrong.contains(told), "{wrong}");
 }
 
 /// A list or image that is refused is told as elsewhere.

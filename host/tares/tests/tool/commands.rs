@@ -1,4 +1,4 @@
-use reference::generate::{list, list_of, Random};
+use reference::generate::{full_of_zeros, list, list_of, some_zeros, Random};
 
 use crate::run::{Folder, R1};
 
@@ -18,6 +18,24 @@ fn builds() {
         assert_eq!(report, format!("100 lines, {buckets} buckets\n"));
         assert!(folder.read("image") == image[..240 * buckets as usize]);
         assert_eq!(folder.names(), ["image", "list"]);
+    }
+}
+
+/// Leading zeros in a list make no difference to its cycle, and reading back
+/// leaves them out.
+#[test]
+fn builds_with_leading_zeros() {
+    let folder = Folder::new("builds_with_leading_zeros");
+    let random = &mut Random::new(2);
+    let plain = list(random, 100, 2);
+    folder.write("list", &plain);
+    folder.tares(&format!("build list image {R1}")).done();
+    for zeros in [full_of_zeros(&plain), some_zeros(random, &plain)] {
+        folder.write("zeros", &zeros);
+        let report = folder.tares(&format!("build zeros out {R1}")).done();
+        assert_eq!(report, folder.tares(&format!("read out back {R1}")).done());
+        assert!(folder.read("out") == folder.read("image"));
+        assert!(folder.read("back") == plain);
     }
 }
 
@@ -80,6 +98,20 @@ fn keeps_a_list_that_differs() {
     assert!(folder.read("mine") == folder.read("list"));
     // One that agrees may stand there.
     assert_eq!(folder.tares(&words).done(), "5 lines, 12 buckets\n");
+}
+
+/// A list that differs in leading zeros alone is kept too: it may be a bridge's own.
+#[test]
+fn keeps_leading_zeros() {
+    let folder = Folder::sample_yard("keeps_leading_zeros");
+    let zeros = full_of_zeros(&folder.read("list"));
+    folder.write("zeros", &zeros);
+    let text = folder.tares(&format!("read image zeros {R1}")).wrong();
+    let kept = "tares: zeros is there and differs, and is kept: lines that differ: 0, leading zeros aside\n";
+    assert!(text.starts_with(kept), "{text}");
+    assert!(folder.read("zeros") == zeros);
+    folder.tares(&format!("read image zeros {R1} --force")).done();
+    assert!(folder.read("zeros") == folder.read("list"));
 }
 
 #[test]

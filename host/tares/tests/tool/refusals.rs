@@ -76,9 +76,11 @@ fn misprinted_lines() {
     refused_line(&line(5, 108_300, 12, 345), "tare 108300 is over 99999");
     refused_line(&line(4_294_967_296, 0, 0, 0), "tag 4294967296 is over 4294967295");
     let altered = |columns: &str, with: &str| good.replacen(columns, with, 1);
-    refused_line(&altered("  8300", "008300"), "tare \"008300\" has a leading zero");
     refused_line(&altered("  8300", "8300  "), "tare \"8300  \" is not right-justified");
+    refused_line(&altered("  8300", "00830 "), "tare \"00830 \" is not right-justified");
     refused_line(&altered("  8300", " 8 300"), "tare \" 8 300\" has a blank among its digits");
+    refused_line(&altered("  8300", "08 300"), "tare \"08 300\" has a blank among its digits");
+    refused_line(&altered("  8300", "-08300"), "tare \"-08300\" has \"-\", which is no digit");
     refused_line(&altered("  8300", " 83.00"), "tare \" 83.00\" has \".\", which is no digit");
     refused_line(&altered("  8300", "      "), "tare is blank");
     refused_line(&altered("  12", "  1x"), "material code \"  1x\" has \"x\", which is no digit");
@@ -87,7 +89,20 @@ fn misprinted_lines() {
         "weighing number \"     -\" has \"-\", which is no digit",
     );
     refused_line(&altered("345\n", "345."), "no newline behind it");
-    refused_line(&altered("         5", "0000000005"), "tag \"0000000005\" has a leading zero");
+}
+
+/// A leading zero is no misprint in a list, so another one is told.
+#[test]
+fn leading_zeros() {
+    let folder = Folder::new("refusals_leading_zeros");
+    let refused = |list: &[&str]| refused(&folder, list.concat().as_bytes(), R1);
+    let (nine, eight) = (line(9, 0, 0, 0).replace(' ', "0"), line(8, 0, 0, 0).replace(" 8", "08"));
+    let (first, details) = refused(&[&nine, &eight]);
+    assert_eq!(first, "tares: refused by 4, place 1: tag falls");
+    assert_eq!(details[0], "line 2 (place 1): tag 8 is below tag 9 of line 1");
+    let (first, details) = refused(&[&nine, &eight, &line(9, 100_000, 0, 0).replace(' ', "0")]);
+    assert_eq!(first, "tares: refused by 3, place 2: line misprinted");
+    assert_eq!(details[0], "line 3 (place 2): tare 100000 is over 99999");
 }
 
 #[test]
@@ -149,7 +164,7 @@ fn other_lines() {
     assert_eq!(faults(short.as_bytes()), [format!("line 4 has 25 {due}")]);
     assert_eq!(faults(format!("{s}\n").as_bytes()), [format!("line 6 has 0 {due}")]);
     let import =
-        "figures stand in columns with blanks before them; tares import makes a list of a CSV file";
+        "figures stand in columns with blanks or zeros before them; tares import makes a list of a CSV file";
     let has = |line: u64, what: &str| [format!("line {line} has a {what}: {import}")];
     assert_eq!(faults(b"5\t8300\t1\t2\n6\t8300\t1\t3\n"), has(1, "tab"));
     assert_eq!(faults(s.replacen("5     0", "5\t    0", 1).as_bytes()), has(2, "tab"));

@@ -2,12 +2,14 @@
 -- Assumes nothing.
 use Prim.Native.Nat.{ℕ, _+_, _-_, _≤_, _<_}
 use mathlib.Core.Path.{_≡_, _∙_, ap}
+use mathlib.Core.Bool.{Bool, true}
 use mathlib.Core.List.{List, _++_}
 use native.Mathlib.Omega.{arith}
 use lib.ListN.{length, take, drop}
 use borrow.Author.Needs.{needs}
 use Rattle.columns.specs.Lists.{put}
-use Rattle.columns.specs.PrintedNumbers.{print, blanks}
+use Rattle.columns.specs.PrintedNumbers.{print, blanks, blankZeros}
+use Rattle.columns.proofs.Lenient.{length-blanked}
 use Rattle.columns.proofs.Put.{length-part, length-put, put-part, put-put, part-behind}
 use Rattle.buckets.specs.Inner.Held.{entryStart, EntryBlank}
 use Rattle.buckets.specs.Lengths.{tagWidth, placeWidth, distanceStart, entryWidth, entriesMost, bucketLength}
@@ -17,15 +19,22 @@ use Rattle.buckets.proofs.writer.put_entry.Tie as tie
 lent-width : (k w : ℕ) → k + w - k ≡ w
 lent-width k w = omega arith
 
--- bucket d, and the tag's columns from a place of the text on
+-- bucket d, and the tag's columns from a place of the text on, with leading zeros made blank
 module _ (d text : List ℕ) (i from : ℕ) (long : length d ≡ bucketLength) (few : i < entriesMost) (within : from + tagWidth ≤ length text) where
   abbrev tag : List ℕ
-  tag = take tagWidth (drop from text)
+  tag = blankZeros (take tagWidth (drop from text))
 
   tag-wide : length tag ≡ tagWidth
-  tag-wide = length-part text from tagWidth within
+  tag-wide = length-blanked (take tagWidth (drop from text)) ∙ length-part text from tagWidth within
 
-  tag-put : {last : List ℕ} → last ≡ take (from + tagWidth - from) (drop from text) →
+  -- what `put_tag` asks
+  tag-ready : {plain : Bool} → (plain ≡ true → tag ≡ take tagWidth (drop from text)) →
+      (length (take (entryStart i + distanceStart - entryStart i) (drop (entryStart i) d)) ≡ tagWidth) × ((length (take (from + tagWidth - from) (drop from text)) ≡ tagWidth) × (plain ≡ true → blankZeros (take (from + tagWidth - from) (drop from text)) ≡ take (from + tagWidth - from) (drop from text)))
+  tag-ready none-leading =
+      rw (lent-width from tagWidth, lent-width (entryStart i) distanceStart)
+      (length-part d (entryStart i) distanceStart (omega arith), (length-part text from tagWidth within, none-leading))
+
+  tag-put : {last : List ℕ} → last ≡ blankZeros (take (from + tagWidth - from) (drop from text)) →
       take (entryStart i) d ++ (last ++ drop (entryStart i + distanceStart - entryStart i) (drop (entryStart i) d)) ≡ put d (entryStart i) tag
   tag-put e =
       rw (e, lent-width from tagWidth, lent-width (entryStart i) distanceStart) (put-part d (entryStart i) distanceStart tag tag-wide)
@@ -50,23 +59,28 @@ module _ (d text : List ℕ) (i from : ℕ) (long : length d ≡ bucketLength) (
       p
       ∙ rw (behind-width, e) (put-put d (entryStart i) tag (entryStart i + distanceStart) (print placeWidth x) (omega (arith, tag-wide)) (omega (arith, tag-wide)))
 
-abbrev start : tie.After-copy-columns → tie.Start
+abbrev start : tie.After-put-tag → tie.Start
 start c = c .before .before .before .before .before
 
-after-tag : (c : tie.After-copy-columns) →
+after-tag : (c : tie.After-put-tag) →
     let a = start c .args in
     take (entryStart (a .i)) (a .part .now)
-    ++ (c .copy-columns .last .0 ++ drop (entryStart (a .i) + distanceStart - entryStart (a .i)) (drop (entryStart (a .i)) (a .part .now)))
-    ≡ put (a .part .now) (entryStart (a .i)) (take tagWidth (drop (a .from) (a .text .now)))
+    ++ (c .put-tag .last .0 ++ drop (entryStart (a .i) + distanceStart - entryStart (a .i)) (drop (entryStart (a .i)) (a .part .now)))
+    ≡ put (a .part .now) (entryStart (a .i)) (blankZeros (take tagWidth (drop (a .from) (a .text .now))))
 after-tag c =
     let s = start c in
-    tag-put (s .args .part .now) (s .args .text .now) (s .args .i) (s .args .from) (s .pre .0) (s .pre .1 .0) (s .pre .1 .1 .0) (c .copy-columns .ensures)
+    tag-put (s .args .part .now) (s .args .text .now) (s .args .i) (s .args .from) (s .pre .0) (s .pre .1 .0) (s .pre .1 .1 .0) (c .put-tag .ensures)
+
+put-tag-requires : tie.Need-put-tag-requires
+put-tag-requires c κs =
+    let s = c .before .before .before .before in
+    tag-ready (s .args .part .now) (s .args .text .now) (s .args .i) (s .args .from) (s .pre .0) (s .pre .1 .0) (s .pre .1 .1 .0) (s .pre .1 .1 .1 .1)
 
 print-at-requires : tie.Need-print-at-requires
 print-at-requires c κs =
     let t = c .before .before .before in
     let s = start t in
-    distance-ready (s .args .part .now) (s .args .text .now) (s .args .i) (s .args .from) (s .pre .0) (s .pre .1 .0) (s .pre .1 .1 .0) (s .pre .1 .1 .1) (after-tag t)
+    distance-ready (s .args .part .now) (s .args .text .now) (s .args .i) (s .args .from) (s .pre .0) (s .pre .1 .0) (s .pre .1 .1 .0) (s .pre .1 .1 .1 .0) (after-tag t)
 
 returns : tie.Need-returns
 returns c =
@@ -90,7 +104,7 @@ put-entry-spec =
     (λ c. search needs)
     (λ c. search needs)
     (λ c. search needs)
-    (λ c κs. search needs)
+    put-tag-requires
     (λ c. search needs)
     print-at-requires
     (λ c. search needs)

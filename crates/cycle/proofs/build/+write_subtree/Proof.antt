@@ -18,7 +18,7 @@ use Rattle.cycle.proofs.build.+write_subtree.{statement}
 use Rattle.cycle.proofs.build.+write_subtree.Tie.{close}
 
 abbrev μ-write-subtree : Measures 2 write-subtree-kinds.ps ℕ
-μ-write-subtree κs a = a .1 .1 .1 .1 .0
+μ-write-subtree κs a = a .1 .1 .1 .1 .1 .0
 
 abbrev write-subtree-at : ℕ → In 2 write-subtree-kinds.ps
 write-subtree-at t =
@@ -33,11 +33,11 @@ write-subtree-below t =
     write-subtree.Pre
 
 abbrev write-subtree-Inv-loop : write-subtree-lts.InvT-loop
-write-subtree-Inv-loop image₀ list f s e j x count next₀ below first i₀ image next i =
+write-subtree-Inv-loop image₀ list plain f s e j x count next₀ below first i₀ image next i =
     Behind f e j x count i next × (image ≡ written (planIn f InList list) image₀ (x + 1) next)
 
 abbrev write-subtree-μ-loop : write-subtree-lts.MeasureT-loop
-write-subtree-μ-loop image₀ list f s e j x count next₀ below first i₀ image next i = count - i
+write-subtree-μ-loop image₀ list plain f s e j x count next₀ below first i₀ image next i = count - i
 
 pub +write-subtree-spec : {M : Type 1} → statement M
 +write-subtree-spec = close μ-write-subtree λ t. write-subtree-lts.spec (

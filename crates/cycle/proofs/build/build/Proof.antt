@@ -16,16 +16,16 @@ use Rattle.cycle.proofs.build.build.Tie as tie
 abbrev set : tie.Start → Settings
 set s = settings (s .args .n) (s .args .p) (s .args .layout) (s .args .copies)
 
-abbrev start : tie.After-judge → tie.Start
+abbrev start : tie.After-judge-list → tie.Start
 start c = c .before .before .before
 
 abbrev room : tie.Start → ℕ
 room s = length (s .args .out .now)
 
 -- what judging answered
-known : (c : tie.After-judge) → judge (set (start c)) (start c .args .list .now) (room (start c)) ≡ c .judge .result
+known : (c : tie.After-judge-list) → judge (set (start c)) (start c .args .list .now) (room (start c)) ≡ c .judge-list .result .judged
 known c =
-    sym (judged-told (c .judge .result) (judge (set (start c)) (start c .args .list .now) (room (start c))) (c .judge .ensures))
+    sym (judged-told (c .judge-list .result .judged) (judge (set (start c)) (start c .args .list .now) (room (start c))) (c .judge-list .ensures .0))
 
 -- it answered with figures
 abbrev made : tie.After-judged2 → Figures
@@ -40,7 +40,8 @@ write-cycle-requires : tie.Need-write-cycle-requires
 write-cycle-requires c κs =
     let told = c .before .before in
     let s = start (told .before .before) in
-    sending-judged (set s) (s .args .list .now) (room s) (made told) (figured told)
+    let all = sending-judged (set s) (s .args .list .now) (room s) (made told) (figured told) in
+    (all .0, all .1, told .before .before .judge-list .ensures .1)
 
 returns : tie.Need-returns
 returns c =

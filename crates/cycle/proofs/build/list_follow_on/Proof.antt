@@ -1,7 +1,7 @@
--- `cycle::build::list_follow_on` meets its contract: in a printed list two tags are the same exactly if their columns are.
+-- `cycle::build::list_follow_on` meets its contract: two tags are the same exactly if their columns add the same digits.
 -- Assumes nothing.
 use mathlib.Core.Path.{_≡_, sym, ap, _∙_}
-use mathlib.Core.List.{List, []}
+use mathlib.Core.List.{List, [], map}
 use lib.ListN.{length, take, drop}
 use Prim.Native.Nat.{ℕ, _+_, _-_, _*_, _≤_, _<_}
 use native.Mathlib.Nat.{mul-le-mul}
@@ -11,6 +11,7 @@ use Rattle.columns.specs.Lists.{pick}
 use Rattle.buckets.specs.Lengths.{tagWidth, lineLength, linesMost}
 use Rattle.cycle.specs.Cycle.{firstPlace}
 use Rattle.cycle.specs.Inner.Held.{planOf, tagAt}
+use Rattle.cycle.specs.Inner.Comparing.{SameDigits}
 use Rattle.cycle.specs.declared.Figures.{Figures}
 use Rattle.cycle.specs.declared.Source.the-variants.{List as InList}
 use Rattle.cycle.proofs.Trees.Readiness.{data-high}
@@ -65,6 +66,10 @@ sub-result c =
           (omega (arith, s .pre .1, c .before .before .before .before .if1 .left)),
     )
 
+-- the same tag, told from another place
+digits-there : (list other : List ℕ) {k m : ℕ} → k ≡ m → SameDigits (take tagWidth (drop m list)) other → SameDigits (take tagWidth (drop k list)) other
+digits-there list other e same = ap (λ z. map (λ c. c - 48) (take tagWidth (drop z list))) e ∙ same
+
 returns-2 : tie.Need-returns-2
 returns-2 c =
     let s = c .before .before .before .before .before .before .before in
@@ -73,9 +78,9 @@ returns-2 c =
     let list : List ℕ = s .args .list .now in
     let line : ℕ = (s .args .q + 1) * f .p in
     let tag : ℕ → ℕ = tagAt f InList list in
-    let told : take tagWidth (drop (lineLength * line - lineLength) list) ≡ take tagWidth (drop (lineLength * line) list) = c .before .before .same-tags .ensures .yes (c .before .if2 .taken) in
+    let told : SameDigits (take tagWidth (drop (lineLength * line - lineLength) list)) (take tagWidth (drop (lineLength * line) list)) = c .before .before .same-tags .ensures .yes (c .before .if2 .taken) in
     let same : tag line ≡ tag (line - 1) =
-    sym (same-columns f list (s .pre .0) (line - 1) line (omega (arith, l)) (l .within) (ap (λ k. take tagWidth (drop k list)) (sym (l .before)) ∙ told)) in
+    sym (same-columns f list (s .pre .0) (line - 1) line (omega (arith, l)) (l .within) (digits-there list (take tagWidth (drop (lineLength * line) list)) (sym (l .before)) told)) in
     ap (λ z. z - s .args .x) (c .data-place .ensures)
     ∙ sym
     (follow-next f (s .pre .0 .ready) InList list (s .args .q) (s .args .x) (s .pre .2)
@@ -90,8 +95,8 @@ returns-3 c =
     let list : List ℕ = s .args .list .now in
     let line : ℕ = (s .args .q + 1) * f .p in
     let tag : ℕ → ℕ = tagAt f InList list in
-    let differ : take tagWidth (drop (lineLength * (line - 1)) list) ≡ take tagWidth (drop (lineLength * line) list) → ⊥ =
-    λ e. c .before .same-tags .ensures .no (c .if2 .left) (ap (λ k. take tagWidth (drop k list)) (l .before) ∙ e) in
+    let differ : SameDigits (take tagWidth (drop (lineLength * (line - 1)) list)) (take tagWidth (drop (lineLength * line) list)) → ⊥ =
+    λ e. c .before .same-tags .ensures .no (c .if2 .left) (digits-there list (take tagWidth (drop (lineLength * line) list)) (l .before) e) in
     sym
     (follow-next f (s .pre .0 .ready) InList list (s .args .q) (s .args .x) (s .pre .2)
     (omega (arith, s .pre .1, c .before .before .before .if1 .left))

@@ -19,10 +19,10 @@ abbrev Holds : Figures → List ℕ → List ℕ → List ℕ → ℕ → Type 0
 Holds f list lent image x = image ≡ written (planIn f InList list) lent 0 x
 
 abbrev Inv-loop : tie.InvT-loop
-Inv-loop image₀ list f count i₀ image i = Through f (Holds f list image₀ image) count i
+Inv-loop image₀ list plain f count i₀ image i = Through f (Holds f list image₀ image) count i
 
 abbrev μ-loop : tie.MeasureT-loop
-μ-loop image₀ list f count i₀ image i = count - i
+μ-loop image₀ list plain f count i₀ image i = count - i
 
 abbrev start : tie.After-segment-count Inv-loop μ-loop → tie.Start Inv-loop μ-loop
 start c = c .before .before .before
@@ -41,11 +41,11 @@ loop-holds c =
 writing : (c : tie.After-segment-of Inv-loop μ-loop) →
     let turn = c .before .before in
     let s = start (turn .before .before) in
-    Writing (s .args .f) (s .args .list .now) (c .segment-of .result) (length (turn .before .loop .image))
+    Writing (s .args .f) (s .args .list .now) (s .args .plain) (c .segment-of .result) (length (turn .before .loop .image))
 writing c =
     let turn = c .before .before in
     let s = start (turn .before .before) in
-    record { sending = s .pre .0; roomy = omega (arith, long (turn .before), s .pre .1); placed = c .segment-of .ensures .0 }
+    record { sending = s .pre .0; no-zeros = s .pre .2; roomy = omega (arith, long (turn .before), s .pre .1); placed = c .segment-of .ensures .0 }
 
 loop-again : tie.Need-loop-again Inv-loop μ-loop
 loop-again c =

@@ -72,7 +72,7 @@ write-data-requires c κs =
     let t = text call in
     let room : bucketLength * s .args .x + bucketLength ≤ length (s .args .image .now) = omega (arith, seated s, below s, s .pre .0 .roomy) in
     let wide : bucketLength * s .args .x + bucketLength - bucketLength * s .args .x ≡ bucketLength = omega arith in
-    (length-part (s .args .image .now) (bucketLength * s .args .x) _ (omega (arith, room, wide)) ∙ wide, (t .whole-lines, (t .few, t .printed)))
+    (length-part (s .args .image .now) (bucketLength * s .args .x) _ (omega (arith, room, wide)) ∙ wide, (t .whole-lines, (t .few, (t .printed, λ told. t .no-zeros (s .pre .0 .no-zeros told)))))
 
 returns : tie.Need-returns
 returns c =

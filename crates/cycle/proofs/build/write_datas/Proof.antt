@@ -15,11 +15,11 @@ use Rattle.cycle.proofs.build.write_datas.Statement.{statement}
 use Rattle.cycle.proofs.build.write_datas.Tie as tie
 
 abbrev Inv-loop : tie.InvT-loop
-Inv-loop image₀ list f s x₀ q₀ image x q =
+Inv-loop image₀ list plain f s x₀ q₀ image x q =
     RowAt (s .first) (s .last) (s .«data_at») q x × (image ≡ written (planIn f InList list) image₀ (s .«data_at») x)
 
 abbrev μ-loop : tie.MeasureT-loop
-μ-loop image₀ list f s x₀ q₀ image x q = s .last - q
+μ-loop image₀ list plain f s x₀ q₀ image x q = s .last - q
 
 abbrev start : tie.At-loop Inv-loop μ-loop → tie.Start Inv-loop μ-loop
 start c = c .before .before .before

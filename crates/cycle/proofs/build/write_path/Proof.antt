@@ -13,11 +13,11 @@ use Rattle.cycle.proofs.build.write_path.Statement.{statement}
 use Rattle.cycle.proofs.build.write_path.Tie as tie
 
 abbrev Inv-loop : tie.InvT-loop
-Inv-loop image₀ list f s x₀ i₀ image x i =
+Inv-loop image₀ list plain f s x₀ i₀ image x i =
     (s .top ≤ i) × (i ≤ max (s .top) (f .copies + 1)) × (x ≡ s .start + (i - s .top)) × (image ≡ written (planIn f InList list) image₀ (s .start) x)
 
 abbrev μ-loop : tie.MeasureT-loop
-μ-loop image₀ list f s x₀ i₀ image x i = f .copies + 1 - i
+μ-loop image₀ list plain f s x₀ i₀ image x i = f .copies + 1 - i
 
 abbrev start : tie.At-loop Inv-loop μ-loop → tie.Start Inv-loop μ-loop
 start c = c .before .before .before

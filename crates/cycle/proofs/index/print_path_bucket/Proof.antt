@@ -15,7 +15,7 @@ use Rattle.cycle.proofs.Buckets.PathBuckets.{path-one, path-low, path-b
 use Rattle.cycle.proofs.index.print_path_bucket.Statement.{statement}
 use Rattle.cycle.proofs.index.print_path_bucket.Tie as tie
 
-abbrev printing : (c : tie.Start) → Printing (c .args .f) (c .args .source) (c .args .text .now) (c .args .s)
+abbrev printing : (c : tie.Start) → Printing (c .args .f) (c .args .source) (c .args .text .now) (c .args .plain) (c .args .s)
 printing c = c .pre .1 .0
 
 abbrev on-path : (c : tie.Start) → PathPlace (c .args .f) (c .args .s) (c .args .i) (c .args .x)

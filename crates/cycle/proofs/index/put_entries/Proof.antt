@@ -11,20 +11,20 @@ use Rattle.cycle.specs.Tree.{children}
 use Rattle.cycle.specs.Inner.Held.{planOf, IndexPlace, Printing, spanMost}
 use Rattle.cycle.proofs.Trees.Readiness.{reached}
 use Rattle.cycle.proofs.Trees.Children.{first-small}
-use Rattle.cycle.proofs.Buckets.ChildEntries.{columnsTo, few-left, place-asked, tag-within, columns-wide, blank-there, one-entry}
+use Rattle.cycle.proofs.Buckets.ChildEntries.{columnsTo, few-left, place-asked, tag-within, tag-stays, columns-wide, blank-there, one-entry}
 use Rattle.cycle.proofs.index.put_entries.Statement.{statement}
 use Rattle.cycle.proofs.index.put_entries.Tie as tie
 
 abbrev Inv-loop : tie.InvT-loop
-Inv-loop part₀ text f source s e j x count below span full first i₀ part i = (i ≤ count) × (part ≡ columnsTo f source text e j x part₀ i)
+Inv-loop part₀ text plain f source s e j x count below span full first i₀ part i = (i ≤ count) × (part ≡ columnsTo f source text e j x part₀ i)
 
 abbrev μ-loop : tie.MeasureT-loop
-μ-loop part₀ text f source s e j x count below span full first i₀ part i = count - i
+μ-loop part₀ text plain f source s e j x count below span full first i₀ part i = count - i
 
 abbrev Start : Type 0
 Start = tie.Start Inv-loop μ-loop
 
-abbrev printing : (c : Start) → Printing (c .args .f) (c .args .source) (c .args .text .now) (c .args .s)
+abbrev printing : (c : Start) → Printing (c .args .f) (c .args .source) (c .args .text .now) (c .args .plain) (c .args .s)
 printing c = c .pre .1 .1 .0
 
 abbrev place : (c : Start) → IndexPlace (c .args .f) (c .args .s) (c .args .e) (c .args .j) (c .args .x)
@@ -84,7 +84,10 @@ put-entry-requires c κs =
         few-left (printing s) (place s) (child t),
         (
           tag-within (printing s) (place s) (child t) power (g .tag-place .ensures),
-          blank-there (printing s) (place s) (s .args .part .now) (s .pre .0) (l .i) (l .inv .1) (child t) (s .pre .1 .0),
+          (
+            blank-there (printing s) (place s) (s .args .part .now) (s .pre .0) (l .i) (l .inv .1) (child t) (s .pre .1 .0),
+            tag-stays (printing s) (place s) (child t) power (g .tag-place .ensures),
+          ),
         ),
       ),
     )

@@ -1,4 +1,4 @@
--- `cycle::judge::judge_room` meets its contract: 7 behind 5 and 6.
+-- `cycle::conditions::judge_room` meets its contract: 7 behind 5 and 6.
 -- Assumes nothing.
 use mathlib.Core.Path.{_≡_, sym, ap, _∙_}
 use mathlib.Core.List.{[]}
@@ -13,8 +13,8 @@ use Rattle.cycle.specs.declared.Figures.{Figures}
 use Rattle.cycle.specs.Inner.Held.{planOf, sized}
 use Rattle.cycle.proofs.Building.Answering.{judged-refusal, judged-cycle, refusal-judged, cycle-judged, size-short, refused-before-7, refused-7, plan-passed}
 use Rattle.cycle.proofs.Building.PlanFigures.{size-held}
-use Rattle.cycle.proofs.judge.judge_room.Statement.{statement}
-use Rattle.cycle.proofs.judge.judge_room.Tie as tie
+use Rattle.cycle.proofs.conditions.judge_room.Statement.{statement}
+use Rattle.cycle.proofs.conditions.judge_room.Tie as tie
 
 abbrev planned : tie.Start → Plan
 planned s = planOf (s .args .f) []

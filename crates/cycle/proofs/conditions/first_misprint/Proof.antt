@@ -1,4 +1,4 @@
--- `cycle::judge::first_misprint` meets its contract. The loop's invariant: the lines before i read, so that those from i on
+-- `cycle::conditions::first_misprint` meets its contract. The loop's invariant: the lines before i read, so that those from i on
 -- tell the place.
 -- Assumes nothing.
 use mathlib.Core.Path.{_≡_, refl, ap}
@@ -8,10 +8,10 @@ use lib.ListN.{drop}
 use Rattle.buckets.specs.ListLine.{readLine, cutLines, taken, misprintFrom}
 use Rattle.buckets.specs.Lengths.{lineLength}
 use Rattle.buckets.proofs.Answers.{tag-found, tag-none}
-use Rattle.buckets.proofs.LineColumns.{line-tag-small}
+use Rattle.buckets.proofs.LenientLines.{line-tag-small}
 use Rattle.cycle.proofs.Building.Refusals.{line-read, line-misprinted, lines-read}
-use Rattle.cycle.proofs.judge.first_misprint.Statement.{statement}
-use Rattle.cycle.proofs.judge.first_misprint.Tie as tie
+use Rattle.cycle.proofs.conditions.first_misprint.Statement.{statement}
+use Rattle.cycle.proofs.conditions.first_misprint.Tie as tie
 
 abbrev Inv-loop : tie.InvT-loop
 Inv-loop list lines i₀ i = (i ≤ lines) × (misprintFrom 0 (cutLines list) ≡ misprintFrom i (drop i (cutLines list)))

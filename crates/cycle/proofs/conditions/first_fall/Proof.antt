@@ -1,4 +1,4 @@
--- `cycle::judge::first_fall` meets its contract. The loop's invariant: no tag falls before i, and `last` is the tag there, so
+-- `cycle::conditions::first_fall` meets its contract. The loop's invariant: no tag falls before i, and `last` is the tag there, so
 -- that the lines from i on tell the place.
 -- Assumes nothing.
 use mathlib.Core.Path.{_≡_, refl}
@@ -7,8 +7,8 @@ use native.Mathlib.Omega.{arith}
 use lib.ListN.{drop}
 use Rattle.buckets.specs.ListLine.{listLines, fallFrom}
 use Rattle.cycle.proofs.Building.Refusals.{tag-rises, tag-falls, tags-rise}
-use Rattle.cycle.proofs.judge.first_fall.Statement.{statement}
-use Rattle.cycle.proofs.judge.first_fall.Tie as tie
+use Rattle.cycle.proofs.conditions.first_fall.Statement.{statement}
+use Rattle.cycle.proofs.conditions.first_fall.Tie as tie
 
 abbrev Inv-loop : tie.InvT-loop
 Inv-loop list lines last₀ i₀ last i = (i ≤ lines) × (fallFrom 0 0 (listLines list) ≡ fallFrom i last (drop i (listLines list)))
