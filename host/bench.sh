@@ -1,7 +1,8 @@
 #!/bin/sh
-# The library's calls against those of the reference, at 1,000, 10,000 and 40,000 lines, a list full of zeros at 10,000:
-# instructions a bucket, counted by callgrind as the difference between one round and two, and nanoseconds a bucket, the best
-# of several rounds. The growth is that of a bucket's cost from the size before, for library and reference: 1.00 is linear.
+# The library's calls against those of the reference, at 1,000, 10,000 and 40,000 lines, and at 10,000 for a list full of zeros
+# and for changes of a list: instructions a bucket, counted by callgrind as the difference between one round and two, and
+# nanoseconds a bucket, the best of several rounds. The growth is that of a bucket's cost from the size before, for library and
+# reference: 1.00 is linear.
 # Usage: bench.sh, some three minutes
 set -e
 cd "$(dirname "$0")"
@@ -91,3 +92,9 @@ sizes=10000
 header "The yard's list with all columns full of zeros"
 rows zeros build - 8 8 1 1
 rows zeros build - 2 1 1 4
+
+header "The yard's list: a line arrives at its front, and its first line is taken out"
+rows yard arrive - 8 8 1 1
+rows yard take_out - 8 8 1 1
+rows yard arrive - 2 1 1 4
+rows yard take_out - 2 1 1 4

@@ -7,15 +7,15 @@
  * Buffers. Each buffer is a pointer and its length in bytes. A pointer is never
  * NULL: a buffer of length 0 has some other address, which is not followed (the
  * data() of an empty std::vector may be NULL). An input is only read. What a
- * call writes, an output buffer or a state, overlaps nothing else that the call
- * is given. Output is written once the call is known to succeed, from the
- * buffer's first byte on; bytes past the output keep their former content, and
- * after a refusal all bytes do. No call keeps a pointer, allocates memory or
- * uses a variable of its own, so calls on different buffers may run at the same
- * time.
+ * call writes, an output buffer, a list that it changes or a state, overlaps
+ * nothing else that the call is given. Output is written once the call is known
+ * to succeed, from the buffer's first byte on; bytes past the output keep their
+ * former content, and after a refusal all bytes do, those of a list to be changed
+ * too. No call keeps a pointer, allocates memory or uses a variable of its own,
+ * so calls on different buffers may run at the same time.
  *
- * Any content of a list, setting, image, bucket, tag or state is answered, and any
- * number of lines or data buckets.
+ * Any content of a list, line, setting, image, bucket, tag or state is answered,
+ * and any number of lines or data buckets.
  *
  * What a program needs. The library is machine code for x86-64 as every such
  * processor runs it, with the calling convention of Linux (System V), in one
@@ -44,11 +44,12 @@ extern "C" {
  * raises the first number, or, while that is 0, the second. Cycles built before
  * 0.2 are to be built anew: distances in them may lead past the next cycle's
  * start, and such buckets are refused (8). From 0.3 on a list's numbers may have
- * leading zeros, and a list read back need not be the bytes that were built.
+ * leading zeros, and a list read back need not be the bytes that were built. 0.3.1
+ * added the calls that change a list in its buffer, and the refusals 15 and 16.
  */
 #define PANSDAOH_VERSION_MAJOR 0
 #define PANSDAOH_VERSION_MINOR 3
-#define PANSDAOH_VERSION_PATCH 0
+#define PANSDAOH_VERSION_PATCH 1
 
 #define PANSDAOH_LINE 27           /* bytes of a list line, its newline included */
 #define PANSDAOH_BUCKET 240        /* bytes of a bucket */
@@ -62,7 +63,7 @@ extern "C" {
 enum pansdaoh_refusal {
     /* n, p or layout outside its range */
     PANSDAOH_REFUSED_SETTINGS = 1,
-    /* list length no multiple of 27, or over 40,000 lines */
+    /* list length no multiple of 27, or over 40,000 lines; of a change also as told there */
     PANSDAOH_REFUSED_LIST_LENGTH = 2,
     /* line misprinted; place: first such line; leading zeros are no misprint */
     PANSDAOH_REFUSED_LINE = 3,
@@ -87,7 +88,11 @@ enum pansdaoh_refusal {
     /* no list builds this image under these settings */
     PANSDAOH_REFUSED_NO_LIST = 13,
     /* bucket given to an ended listener */
-    PANSDAOH_REFUSED_ENDED = 14
+    PANSDAOH_REFUSED_ENDED = 14,
+    /* the line to take out is not in the list */
+    PANSDAOH_REFUSED_NOT_IN_LIST = 15,
+    /* the list has 40,000 lines or its buffer no place for one more */
+    PANSDAOH_REFUSED_NO_PLACE = 16
 };
 
 /* What building and reading back return. */
@@ -152,6 +157,62 @@ struct pansdaoh_size_answer pansdaoh_size(uint64_t lines, uint64_t n, uint64_t p
                                           uint64_t copies, uint64_t c);
 
 #define PANSDAOH_SIZE_STACK 768 /* bytes of stack, at most */
+
+/* What a change of a list returns. If refused, all behind the place is 0. */
+struct pansdaoh_change_answer {
+    uint64_t number; /* 0, or the number of the refusal */
+    uint64_t place;  /* of the refusal, else 0 */
+    uint64_t lines;  /* lines of the changed list */
+    uint64_t d;      /* D, its data buckets */
+    uint64_t k;      /* its index levels, at least 1 */
+    uint64_t n;      /* N, the buckets of its cycle */
+};
+
+/*
+ * A line arrives in a list. It goes, with its bytes as given, behind all lines of
+ * its tag: in front of the first line with a greater tag, or to the list's end if
+ * there is none. The lines behind it move one place on. The changed list's cycle
+ * is built into out: the 240 x N bytes that pansdaoh_build makes of the changed
+ * list with these settings.
+ *
+ *   list    a buffer with the list at its front. Behind the list it may hold any
+ *           bytes. The first 27 of them are the place for one more line and are
+ *           written; the others stay
+ *   lines   the list's number of lines, 0 to 40,000
+ *   line    the new line, 27 bytes with its newline
+ *   n, p, layout, copies
+ *           the settings, as for building
+ *
+ * Refused by 1, 2, 3, 4, 16, 5, 6, 7, in this order, before a byte of list or out
+ * is written. 2 is here: over 40,000 lines, more lines than the buffer holds, or a
+ * given line not 27 bytes long. 3 is of the list's lines, then of the given line,
+ * whose place is the list's number of lines. 4 is of the list. 5, 6 and 7 are of
+ * the changed list.
+ */
+struct pansdaoh_change_answer pansdaoh_arrive(uint8_t *list, size_t list_length, uint64_t lines,
+                                              const uint8_t *line, size_t line_length,
+                                              uint64_t n, uint64_t p, uint64_t layout,
+                                              uint64_t copies, uint8_t *out, size_t out_length);
+
+#define PANSDAOH_ARRIVE_STACK 12288 /* bytes of stack, at most */
+
+/*
+ * A line is taken out of a list: the first whose four numbers equal those of the
+ * line given, which may have them in other bytes, as with leading zeros. The lines
+ * behind it move one place back, and the 27 bytes where the last line was become
+ * blank (byte 32): this place serves the next arrival. The buffer's other bytes
+ * behind the list stay. The changed list's cycle is built into out, as for an
+ * arrival, and the parameters are the same.
+ *
+ * Refused by 1, 2, 3, 4, 15, 5, 6, 7, in this order, as an arrival is.
+ */
+struct pansdaoh_change_answer pansdaoh_take_out(uint8_t *list, size_t list_length, uint64_t lines,
+                                                const uint8_t *line, size_t line_length,
+                                                uint64_t n, uint64_t p, uint64_t layout,
+                                                uint64_t copies, uint8_t *out,
+                                                size_t out_length);
+
+#define PANSDAOH_TAKE_OUT_STACK 12288 /* bytes of stack, at most */
 
 /*
  * Writes the list that builds this image under these settings to out and

@@ -3,8 +3,8 @@ use libc::STDOUT_FILENO;
 ghost use Prim.Native.Nat.{_+_, _≤_, _<_};
 ghost use lib.ListN.{length};
 
-// The bytes of a line: seven numbers of 20 digits, each with the blank or newline behind it.
-const LINE: usize = 147;
+// The bytes of a line: eight numbers of 20 digits, each with the blank or newline behind it.
+const LINE: usize = 168;
 
 // Puts x in decimal into line from `at` on, with a blank behind it. Returns where the next number begins.
 fn put(line: &mut [u8], at: usize, x: u64) -> usize
@@ -21,7 +21,7 @@ fn put(line: &mut [u8], at: usize, x: u64) -> usize
 
 // Writes numbers in a line, one blank between them. Whether that was done.
 pub fn say(numbers: &[u64]) -> bool
-    requires { ⌜ (1 ≤ length (now numbers)) × (length (now numbers) ≤ 7) ⌝ }
+    requires { ⌜ (1 ≤ length (now numbers)) × (length (now numbers) ≤ 8) ⌝ }
 {
     let mut line = [0u8; LINE];
     let mut at = 0;

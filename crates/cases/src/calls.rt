@@ -1,6 +1,7 @@
 // The kinds of request, each with its call.
 use super::answers::say;
 use super::answers::stop;
+use super::changes::serve_change;
 use super::hearing::hear;
 use super::lent::fill;
 use super::lent::hash;
@@ -89,26 +90,27 @@ fn size(numbers: &Numbers, body: &[u8]) -> bool {
 // The length of the lent buffer.
 fn room(letter: u8, numbers: &Numbers) -> u64 {
     match letter {
-        b'B' | b'R' => numbers[4],
+        b'B' | b'R' | b'A' | b'T' => numbers[4],
         b'L' => numbers[2],
         _ => 0,
     }
 }
 
 // Makes the call that the letter stands for.
-fn call(letter: u8, numbers: &Numbers, body: &[u8], lent: &mut [u8]) -> bool {
+fn call(letter: u8, numbers: &Numbers, body: &mut [u8], lent: &mut [u8]) -> bool {
     match letter {
         b'B' => build(numbers, body, lent),
         b'R' => read_back(numbers, body, lent),
         b'L' => lookup(numbers, body, lent),
         b'H' => hearing(numbers, body),
         b'F' => size(numbers, body),
-        _ => stop(b"error: a letter is none of B, R, L, H, F\n"),
+        b'A' | b'T' => serve_change(letter, numbers, body, lent),
+        _ => stop(b"error: a letter is none of B, R, L, H, F, A, T\n"),
     }
 }
 
 // Makes a request's call, with a lent buffer of its length, and says the answer. Whether the stream goes on.
-pub fn answer(letter: u8, numbers: &Numbers, body: &[u8], lent: &mut [u8]) -> bool {
+pub fn answer(letter: u8, numbers: &Numbers, body: &mut [u8], lent: &mut [u8]) -> bool {
     let end = room(letter, numbers) as usize;
     if lent.len() < end {
         return stop(b"error: a lent buffer is over the limit\n");

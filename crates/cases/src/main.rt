@@ -2,6 +2,7 @@
 // What is wrong with a stream is said in one line that begins `error`, and the program stops there.
 mod answers;
 mod calls;
+mod changes;
 mod hearing;
 mod lent;
 mod numbers;

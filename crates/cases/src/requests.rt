@@ -42,7 +42,7 @@ fn serve_body(letter: u8, numbers: &Numbers, body: &mut [u8], lent: &mut [u8]) -
     if got < size {
         return stop(b"error: the stream ends inside a body\n");
     }
-    answer(letter, numbers, &body[..size], lent)
+    answer(letter, numbers, &mut body[..size], lent)
 }
 
 // Reads a request and answers it. Whether the stream goes on: not behind its last request, and not behind an error.

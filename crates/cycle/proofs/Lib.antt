@@ -8,3 +8,4 @@ pub mod Lines
 pub mod Buckets
 pub mod Building
 pub mod ReadingBack
+pub mod Changing

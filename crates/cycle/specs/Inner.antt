@@ -3,3 +3,4 @@ pub mod Held
 pub mod Comparing
 pub mod Settings
 pub mod ListLines
+pub mod Changing

@@ -8,4 +8,7 @@ pub mod ReadingBack
 pub mod LeadingZeros
 pub mod Judging
 pub mod Size
+pub mod Changes
+pub mod ComingAndGoing
+pub mod Skips
 pub mod Inner

@@ -206,7 +206,7 @@ fn write_segment(image: &mut [u8], list: &[u8], plain: bool, f: Figures, s: Segm
 }
 
 // The whole cycle, segment after segment. Where `plain` says so, no number of the list has a leading zero.
-fn write_cycle(image: &mut [u8], list: &[u8], plain: bool, f: Figures)
+pub(crate) fn write_cycle(image: &mut [u8], list: &[u8], plain: bool, f: Figures)
     requires { ⌜ AcceptedList f (now list) × (bucketLength * f .size ≤ length (now image)) × (plain ≡ true → PlainList (now list)) ⌝ }
     ensures { λ _. ⌜ now (image .exit) ≡ written (planIn f Source.List (now (list .entry))) (now (image .entry)) 0 (f .size) ⌝ }
 {

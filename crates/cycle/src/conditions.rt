@@ -128,7 +128,7 @@ fn all_rise(list: &[u8], lines: u64, plain: bool) -> bool
 }
 
 // Conditions 5, 6 and 7 of figures and a buffer's room; and the figures with N.
-fn judge_room(f: Figures, room: u64) -> Judged
+pub fn judge_room(f: Figures, room: u64) -> Judged
     requires { ⌜ Shaped f ⌝ }
     ensures { λ r. ⌜ r ≡ judged (firstRefusal (planConditions (planOf f []) room)) (sized f (cycleSize (planOf f []))) ⌝ }
 {
@@ -145,7 +145,7 @@ fn judge_room(f: Figures, room: u64) -> Judged
 }
 
 // A list's lines held against 3 and 4: the first that is refused, or whether they are known to have no leading zeros.
-fn judge_lines(list: &[u8], lines: u64) -> LinesJudged
+pub fn judge_lines(list: &[u8], lines: u64) -> LinesJudged
     requires { ⌜ (length (now list) ≡ lineLength * lines) × (lines ≤ linesMost) ⌝ }
     ensures { λ r. ⌜ LinesTold (now (list .entry)) r ⌝ }
 {

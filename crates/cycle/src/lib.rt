@@ -1,5 +1,5 @@
-// Tree, layouts and cycle: document 01, "The tree", with document 02, C-11 to C-13; judging, sizing, building and reading
-// back.
+// Tree, layouts and cycle: document 01, "The tree", with document 02, C-11 to C-14; judging, sizing, building, changing a list
+// and reading back.
 //
 // A list goes through these files in this order; each answers to the definition named, under specs/, and its laws are in the
 // folder named, under proofs/.
@@ -14,6 +14,8 @@
 //   places     where a bucket and a line stand: Layouts.slots, Cycle.firstPlace. Laws: Reach
 //   index      what stands in an index bucket: Cycle.pairs, Cycle.entries, as bytes. Laws: Buckets, Reach
 //   build      the image, segment by segment: Building.build, Cycle.image. Laws: Building
+//   changes    a line that arrives in a list or is taken out of it, and the changed list's image: Changes.arrive, Changes.takeOut.
+//              Laws: Changing
 //
 // and an image goes back by
 //
@@ -21,6 +23,7 @@
 //
 // Figures, Segment and Source are what these files hand on; specs/Inner says what each stands for.
 pub mod build;
+pub mod changes;
 mod conditions;
 mod index;
 pub mod judge;
@@ -62,6 +65,20 @@ pub enum Sized {
 // What building answers: the cycle's number of buckets, or a refusal's number and place.
 pub enum Built {
     Cycle(u64),
+    Refused(u64, u64),
+}
+
+// The number of lines of a changed list, its data buckets, index levels and N.
+pub struct Counts {
+    pub lines: u64,
+    pub d: u64,
+    pub k: u64,
+    pub n: u64,
+}
+
+// What a change of a list answers: its counts now, or a refusal's number and place.
+pub enum Changed {
+    Cycle(Counts),
     Refused(u64, u64),
 }
 

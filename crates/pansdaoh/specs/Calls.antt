@@ -7,9 +7,11 @@ use lib.Dec.{eqb}
 use lib.ListN.{getD}
 use Rattle.columns.specs.Lists.{pick}
 use Rattle.cycle.specs.declared.Built.{Built}
+use Rattle.cycle.specs.declared.Changed.{Changed}
 use Rattle.cycle.specs.declared.ReadBack.{ReadBack}
 use Rattle.cycle.specs.declared.Sized.{Sized}
 use Rattle.cycle.specs.Building as building
+use Rattle.cycle.specs.Changes as changing
 use Rattle.cycle.specs.ReadingBack as readingBack
 use Rattle.cycle.specs.Size as sizing
 use Rattle.listener.specs.declared.Looked.{Looked}
@@ -24,6 +26,7 @@ use Rattle.pansdaoh.specs.declared.LookupAnswer.{LookupAnswer}
 use Rattle.pansdaoh.specs.declared.StepAnswer.{StepAnswer}
 use Rattle.pansdaoh.specs.declared.LineAnswer.{LineAnswer}
 use Rattle.pansdaoh.specs.declared.SizeAnswer.{SizeAnswer}
+use Rattle.pansdaoh.specs.declared.ChangeAnswer.{ChangeAnswer}
 
 -- number, place and count, 0 where there is none: "every count in that result 0"
 unfoldable pub answerOf : List ℕ → CountAnswer
@@ -100,3 +103,19 @@ sizeOf a =
 -- sizing's answer
 unfoldable pub sizeAnswer : Sized → SizeAnswer
 sizeAnswer r = sizeOf (sizing.numbers r)
+
+-- a changed list and its cycle, by their numbers
+unfoldable pub changeOf : List ℕ → ChangeAnswer
+changeOf a =
+    record {
+      number = getD a 0 0;
+      place = getD a 1 0;
+      lines = getD a 2 0;
+      d = getD a 3 0;
+      k = getD a 4 0;
+      n = getD a 5 0;
+    }
+
+-- the answer of a change
+unfoldable pub changeAnswer : Changed → ChangeAnswer
+changeAnswer r = changeOf (changing.numbers r)

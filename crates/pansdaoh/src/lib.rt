@@ -1,11 +1,14 @@
-// The calls for C and Rust: building, reading back, a lookup, a listener whose state is eight numbers that the caller keeps, and
-// the lines of a bucket. Each takes any input. A lent buffer keeps every byte that the output does not cover, and all of them on a refusal.
+// The calls for C and Rust: building, sizing, a line that arrives in a list or is taken out of it, reading back, a lookup, a
+// listener whose state is eight numbers that the caller keeps, and the lines of a bucket. Each takes any input. A lent buffer
+// keeps every byte that the output does not cover, and all of them on a refusal.
 use buckets::BucketLine;
 use buckets::bucket_line;
 use cycle::Built;
+use cycle::Changed;
 use cycle::ReadBack;
 use cycle::Sized;
 use cycle::build;
+use cycle::changes;
 use cycle::read_back;
 use cycle::size;
 use listener::Listener;
@@ -22,12 +25,13 @@ ghost use Rattle.buckets.specs.BucketLines;
 ghost use Rattle.buckets.specs.BucketLines.{bucketLine};
 ghost use Rattle.cycle.specs.Tree.{settings};
 ghost use Rattle.cycle.specs.Building;
+ghost use Rattle.cycle.specs.Changes;
 ghost use Rattle.cycle.specs.ReadingBack.{readBack};
 ghost use Rattle.cycle.specs.Size;
 ghost use Rattle.listener.specs.Listener.{start};
 ghost use Rattle.listener.specs.Lookup;
 ghost use Rattle.listener.specs.State.{saved, restored};
-ghost use Rattle.pansdaoh.specs.Calls.{builtAnswer, readBackAnswer, lookedAnswer, stepAnswer, stepFrom, wasEnded, stateAfter, lineAnswer, sizeAnswer};
+ghost use Rattle.pansdaoh.specs.Calls.{builtAnswer, readBackAnswer, lookedAnswer, stepAnswer, stepFrom, wasEnded, stateAfter, lineAnswer, sizeAnswer, changeAnswer};
 
 // A refusal's number (0: not refused) and place, and the number of buckets built or of lines read back.
 #[repr(C)]
@@ -82,6 +86,17 @@ pub struct SizeAnswer {
     pub n: u64,
     pub bytes: u64,
     pub heard: u64,
+}
+
+// A refusal's number (0: not refused) and place; the changed list's number of lines, its data buckets, index levels and N.
+#[repr(C)]
+pub struct ChangeAnswer {
+    pub number: u64,
+    pub place: u64,
+    pub lines: u64,
+    pub d: u64,
+    pub k: u64,
+    pub n: u64,
 }
 
 // Building's answer as numbers.
@@ -261,6 +276,30 @@ fn size_answer(sized: Sized) -> SizeAnswer
     }
 }
 
+// The answer of a change as numbers.
+fn change_answer(changed: Changed) -> ChangeAnswer
+    ensures { λ r. ⌜ r ≡ changeAnswer changed ⌝ }
+{
+    match changed {
+        Changed::Cycle(c) => ChangeAnswer {
+            number: 0,
+            place: 0,
+            lines: c.lines,
+            d: c.d,
+            k: c.k,
+            n: c.n,
+        },
+        Changed::Refused(number, place) => ChangeAnswer {
+            number: number,
+            place: place,
+            lines: 0,
+            d: 0,
+            k: 0,
+            n: 0,
+        },
+    }
+}
+
 // The dimensions of the cycle of so many lines, for a tag in c data buckets.
 #[no_mangle]
 pub extern "C" fn pansdaoh_size(
@@ -295,6 +334,60 @@ pub extern "C" fn pansdaoh_build(
 {
     let built = build::build(list, n, p, layout, copies, out);
     built_answer(built)
+}
+
+// A line arrives in the list of so many lines at the front of a buffer, and the changed list's cycle is built into the front of
+// out.
+#[no_mangle]
+pub extern "C" fn pansdaoh_arrive(
+    list: &mut [u8],
+    lines: u64,
+    line: &[u8],
+    n: u64,
+    p: u64,
+    layout: u64,
+    copies: u64,
+    out: &mut [u8],
+) -> ChangeAnswer
+    ensures { λ r.
+        ⌜ (r ≡
+        changeAnswer (Changes.arrive (settings n p layout copies) (now (list .entry)) lines (now (line .entry)) (length (now (out .entry))) .answer)) ×
+        (now (list .exit) ≡
+        onto (Changes.arrive (settings n p layout copies) (now (list .entry)) lines (now (line .entry)) (length (now (out .entry))) .list)
+        (now (list .entry))) ×
+        (now (out .exit) ≡
+        onto (Changes.arrive (settings n p layout copies) (now (list .entry)) lines (now (line .entry)) (length (now (out .entry))) .cycle)
+        (now (out .entry))) ⌝ }
+{
+    let changed = changes::arrive(list, lines, line, n, p, layout, copies, out);
+    change_answer(changed)
+}
+
+// The first line with the numbers of the one given is taken out of the list of so many lines at the front of a buffer, and the
+// changed list's cycle is built into the front of out.
+#[no_mangle]
+pub extern "C" fn pansdaoh_take_out(
+    list: &mut [u8],
+    lines: u64,
+    line: &[u8],
+    n: u64,
+    p: u64,
+    layout: u64,
+    copies: u64,
+    out: &mut [u8],
+) -> ChangeAnswer
+    ensures { λ r.
+        ⌜ (r ≡
+        changeAnswer (Changes.takeOut (settings n p layout copies) (now (list .entry)) lines (now (line .entry)) (length (now (out .entry))) .answer)) ×
+        (now (list .exit) ≡
+        onto (Changes.takeOut (settings n p layout copies) (now (list .entry)) lines (now (line .entry)) (length (now (out .entry))) .list)
+        (now (list .entry))) ×
+        (now (out .exit) ≡
+        onto (Changes.takeOut (settings n p layout copies) (now (list .entry)) lines (now (line .entry)) (length (now (out .entry))) .cycle)
+        (now (out .entry))) ⌝ }
+{
+    let changed = changes::take_out(list, lines, line, n, p, layout, copies, out);
+    change_answer(changed)
 }
 
 // Reads the list that an image was built from back into the front of out.

@@ -12,6 +12,11 @@ pub type Settings = [u64; 4];
 pub trait Calls {
     /// Returns the buckets built.
     fn build(list: &[u8], settings: Settings, out: &mut [u8]) -> u64;
+    /// A line arrives in the list of so many lines at the front of a buffer; returns
+    /// the buckets built.
+    fn arrive(list: &mut [u8], lines: u64, line: &[u8], s: Settings, out: &mut [u8]) -> u64;
+    /// A line is taken out of it, likewise.
+    fn take_out(list: &mut [u8], lines: u64, line: &[u8], s: Settings, out: &mut [u8]) -> u64;
     /// Returns the lines read.
     fn read_back(image: &[u8], settings: Settings, out: &mut [u8]) -> u64;
     /// Returns the buckets heard.
@@ -27,6 +32,18 @@ impl Calls for Library {
         let answer = library::build(list, n, p, layout, copies, out);
         assert_eq!(answer.number, 0);
         answer.count
+    }
+
+    fn arrive(list: &mut [u8], lines: u64, line: &[u8], s: Settings, out: &mut [u8]) -> u64 {
+        let change = library::arrive(list, lines, line, s, out);
+        assert_eq!(change.number, 0);
+        change.n
+    }
+
+    fn take_out(list: &mut [u8], lines: u64, line: &[u8], s: Settings, out: &mut [u8]) -> u64 {
+        let change = library::take_out(list, lines, line, s, out);
+        assert_eq!(change.number, 0);
+        change.n
     }
 
     fn read_back(image: &[u8], [n, p, layout, copies]: Settings, out: &mut [u8]) -> u64 {
@@ -62,6 +79,14 @@ pub struct Reference;
 impl Calls for Reference {
     fn build(list: &[u8], [n, p, layout, copies]: Settings, out: &mut [u8]) -> u64 {
         reference::build(list, n, p, layout, copies, out).unwrap()
+    }
+
+    fn arrive(list: &mut [u8], lines: u64, line: &[u8], s: Settings, out: &mut [u8]) -> u64 {
+        reference::arrive(list, lines, line, s, out).unwrap().n
+    }
+
+    fn take_out(list: &mut [u8], lines: u64, line: &[u8], s: Settings, out: &mut [u8]) -> u64 {
+        reference::take_out(list, lines, line, s, out).unwrap().n
     }
 
     fn read_back(image: &[u8], [n, p, layout, copies]: Settings, out: &mut [u8]) -> u64 {

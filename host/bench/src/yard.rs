@@ -2,7 +2,7 @@
 
 use std::hint::black_box;
 
-use reference::generate::{full_of_zeros, list, yard_list, Random};
+use reference::generate::{full_of_zeros, line as printed_line, list, yard_list, Random};
 use reference::{blanked, line};
 
 use crate::calls::{Calls, Reference, Settings, BUCKET, LINE};
@@ -12,6 +12,9 @@ use crate::calls::{Calls, Reference, Settings, BUCKET, LINE};
 const SPREAD: u64 = 40;
 /// Hearings of one round.
 const HEARINGS: u64 = 2_000;
+
+/// A line arrives or is taken out.
+type Change = fn(&mut [u8], u64, &[u8], Settings, &mut [u8]) -> u64;
 
 /// A list, its cycle, and buffers to lend.
 pub struct Yard {
@@ -38,9 +41,10 @@ impl Yard {
         let mut image = vec![0; 99_999 * BUCKET];
         let buckets = Reference::build(&list, settings, &mut image);
         image.truncate(buckets as usize * BUCKET);
-        // Other bytes than 0, so that each page of the buffers is there.
-        let list_out = vec![1; list.len()];
-        let image_out = vec![1; image.len()];
+        // Other bytes than 0, so that each page of the buffers is there; and room for
+        // one more line, and for the buckets that it brings.
+        let list_out = vec![1; list.len() + LINE];
+        let image_out = vec![1; image.len() + 20 * BUCKET];
         let printed = blanked(&list);
         let hearings = (0..HEARINGS)
             .map(|i| {
@@ -53,7 +57,8 @@ impl Yard {
     }
 
     /// One round of a call; returns the buckets it built, read or heard. `step`
-    /// goes through whole hearings.
+    /// goes through whole hearings; a line arrives before all others, and the first
+    /// is taken out.
     pub fn round<C: Calls>(&mut self, call: &str) -> u64 {
         let buckets = (self.image.len() / BUCKET) as u64;
         let image = black_box(&self.image[..]);
@@ -62,6 +67,8 @@ impl Yard {
             "build" => {
                 C::build(black_box(&self.list), self.settings, black_box(&mut self.image_out))
             }
+            "arrive" => self.change(C::arrive, printed_line(0, 8_000, 100, 100_000).into()),
+            "take_out" => self.change(C::take_out, self.list[..LINE].into()),
             "read_back" => {
                 C::read_back(image, self.settings, black_box(&mut self.list_out));
                 buckets
@@ -73,5 +80,13 @@ impl Yard {
             }
             _ => panic!("no such call: {call}"),
         }
+    }
+
+    /// A change at the front of the list, which is copied to its buffer each time.
+    fn change(&mut self, call: Change, line: Vec<u8>) -> u64 {
+        let length = self.list.len();
+        self.list_out[..length].copy_from_slice(&self.list);
+        let (list, out) = (black_box(&mut self.list_out[..]), black_box(&mut self.image_out[..]));
+        call(list, (length / LINE) as u64, black_box(&line), self.settings, out)
     }
 }

@@ -39,6 +39,24 @@ pub struct Size {
     pub heard: u64,
 }
 
+/// What a change of a list returns. If refused, all behind the place is 0.
+#[repr(C)]
+#[derive(Clone, Copy, Debug, PartialEq, Eq)]
+pub struct Change {
+    /// 0, or the number of the refusal.
+    pub number: u64,
+    /// The refusal's place.
+    pub place: u64,
+    /// Lines of the changed list.
+    pub lines: u64,
+    /// D, the data buckets.
+    pub d: u64,
+    /// Index levels.
+    pub k: u64,
+    /// N, the buckets of the cycle.
+    pub n: u64,
+}
+
 /// What a lookup returns.
 #[repr(C)]
 #[derive(Clone, Copy, Debug, PartialEq, Eq)]

@@ -1,6 +1,7 @@
 //! Tare lists on air: building a list into a cycle of buckets, sizing a cycle
-//! before there is a list, reading a cycle back to its list, a listener that
-//! picks out the lines of one tag, and a lookup that runs it over an image.
+//! before there is a list, lines that arrive in a list or are taken out of it,
+//! reading a cycle back to its list, a listener that picks out the lines of one
+//! tag, and a lookup that runs it over an image.
 //!
 //! The work is done by the static library `pansdaoh`. [`calls`] has its calls
 //! as they are; the functions here turn a refusal into an error, a [`Refusal`].
@@ -51,6 +52,19 @@ pub struct Size {
     pub heard: u64,
 }
 
+/// A list after a change, and its cycle.
+#[derive(Clone, Copy, Debug, PartialEq, Eq)]
+pub struct Changed {
+    /// Lines of the list.
+    pub lines: u64,
+    /// D, the data buckets.
+    pub d: u64,
+    /// Index levels, at least 1.
+    pub k: u64,
+    /// N, the buckets of the cycle.
+    pub n: u64,
+}
+
 /// What a lookup returns.
 #[derive(Clone, Copy, Debug, PartialEq, Eq)]
 pub struct Looked {
@@ -91,6 +105,35 @@ pub fn size(lines: u64, settings: Settings, c: u64) -> Result<Size, Refusal> {
     Ok(Size { k, d, n, bytes, heard })
 }
 
+/// A line arrives, bytes as given, in the list of so many lines at the front of
+/// `list`, behind all lines of its tag. The list's lines behind it move one place
+/// on, and the changed list's cycle is built into `out`.
+pub fn arrive(
+    list: &mut [u8],
+    lines: u64,
+    line: &[u8],
+    settings: Settings,
+    out: &mut [u8],
+) -> Result<Changed, Refusal> {
+    let Settings { n, p, layout, copies } = settings;
+    changed(calls::arrive(list, lines, line, [n, p, layout, copies], out))
+}
+
+/// The first line with the four numbers of the one given is taken out of the list
+/// of so many lines at the front of `list`. The list's lines behind it move one
+/// place back, the last one's place becomes blank, and the changed list's cycle is
+/// built into `out`.
+pub fn take_out(
+    list: &mut [u8],
+    lines: u64,
+    line: &[u8],
+    settings: Settings,
+    out: &mut [u8],
+) -> Result<Changed, Refusal> {
+    let Settings { n, p, layout, copies } = settings;
+    changed(calls::take_out(list, lines, line, [n, p, layout, copies], out))
+}
+
 /// Writes the list that builds this image, without leading zeros, into `out` and
 /// returns its lines.
 pub fn read_back(image: &[u8], settings: Settings, out: &mut [u8]) -> Result<u64, Refusal> {
@@ -111,6 +154,12 @@ pub fn line(bucket: &[u8], i: u64) -> Result<Option<Line>, Refusal> {
     let calls::Line { number, place, present, tag, tare, code, weighing } = calls::line(bucket, i);
     accepted(number, place)?;
     Ok((present != 0).then_some(Line { tag, tare, code, weighing }))
+}
+
+fn changed(change: calls::Change) -> Result<Changed, Refusal> {
+    accepted(change.number, change.place)?;
+    let calls::Change { lines, d, k, n, .. } = change;
+    Ok(Changed { lines, d, k, n })
 }
 
 fn counted(answer: calls::Answer) -> Result<u64, Refusal> {

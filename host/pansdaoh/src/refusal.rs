@@ -29,6 +29,8 @@ impl Refusal {
             12 => "tune-in at or past the image's bucket count",
             13 => "no list builds this image under these settings",
             14 => "bucket given to an ended listener",
+            15 => "the line to take out is not in the list",
+            16 => "the list has 40,000 lines or its buffer no place for one more",
             _ => "no such number",
         }
     }

@@ -7,7 +7,7 @@ use crate::columns::{at, at_mut};
 use crate::cycle::Cycle;
 use crate::line::{self, FIGURES, LINE, MAX_LINES};
 use crate::print::Lines;
-use crate::Refusal;
+use crate::{Refusal, Settings};
 
 /// Builds the cycle of a list into `out` and returns N. "Building tests 1 to 7
 /// in that order, each over the whole list"; nothing is written before.
@@ -20,7 +20,17 @@ pub fn build(
     out: &mut [u8],
 ) -> Result<u64, Refusal> {
     check_settings(n, p, layout)?;
-    let list = &accepted(list)?[..];
+    let cycle = send(&accepted(list)?, [n, p, layout, copies], out)?;
+    Ok(cycle.buckets())
+}
+
+/// 5 to 7, then the cycle of a list as it is sent, with these settings.
+#[inline(always)]
+pub(crate) fn send(
+    list: &[u8],
+    [n, p, layout, copies]: Settings,
+    out: &mut [u8],
+) -> Result<Cycle, Refusal> {
     let lines = (list.len() / LINE) as u64;
     let cycle = Cycle::new(lines, n, p, layout, copies).map_err(Refusal::of)?;
     let image = out.get_mut(..BUCKET * cycle.buckets() as usize).ok_or(Refusal::of(7))?;
@@ -30,7 +40,7 @@ pub fn build(
         cycle.print(&slot, &lines, bucket);
         Some(())
     });
-    Ok(cycle.buckets())
+    Ok(cycle)
 }
 
 /// 1: "n, p or layout outside its range".
@@ -41,7 +51,8 @@ pub(crate) fn check_settings(n: u64, p: u64, layout: u64) -> Result<(), Refusal>
 
 /// The list as it is sent: itself if it has no leading zero, else a copy with
 /// them made blank (C-13). Or its refusal by 2 to 4.
-fn accepted(list: &[u8]) -> Result<Cow<'_, [u8]>, Refusal> {
+#[inline(always)]
+pub(crate) fn accepted(list: &[u8]) -> Result<Cow<'_, [u8]>, Refusal> {
     match check_list(list) {
         // Misprinted for a bucket: it may be for its leading zeros alone.
         Err(Refusal { number: 3, .. }) => accepted_blanked(list).map(Cow::from),

@@ -130,6 +130,18 @@ pub fn alter(random: &mut Random, bytes: &mut [u8]) {
     }
 }
 
+/// Every byte of some bytes, altered in turn to each of 256 and set back.
+pub fn each_alteration(bytes: &[u8], mut check: impl FnMut(&[u8])) {
+    let mut altered = bytes.to_vec();
+    for place in 0..bytes.len() {
+        for byte in 0..=255 {
+            altered[place] = byte;
+            check(&altered);
+        }
+        altered[place] = bytes[place];
+    }
+}
+
 /// A field that is blank, full of zeros, has a blank behind or among its digits,
 /// or has a sign.
 fn damage_field(random: &mut Random, line: &mut [u8]) {

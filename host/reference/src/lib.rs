@@ -2,12 +2,14 @@
 //! a cycle of buckets, a cycle is read back into its list, a listener picks
 //! out the lines of one tag, and a lookup runs it over an image. From document
 //! 02: a cycle's figures are told before there is a list (C-11), the list may
-//! change between cycles (C-12), and its numbers may have leading zeros (C-13).
+//! change between cycles (C-12), its numbers may have leading zeros (C-13), and
+//! lines arrive in it or are taken out of it (C-14).
 #![forbid(unsafe_code)]
 
 pub mod air;
 mod bucket;
 mod build;
+mod change;
 pub mod columns;
 mod cycle;
 pub mod generate;
@@ -18,16 +20,21 @@ mod lookup;
 mod print;
 mod read_back;
 mod size;
+pub mod skips;
 pub mod yards;
 pub mod zeros;
 
 pub use bucket::{line, BUCKET};
 pub use build::build;
+pub use change::{arrive, take_out, Changed};
 pub use line::{blanked, LINE};
 pub use listener::{Answer, Listener};
 pub use lookup::{lookup, Looked};
 pub use read_back::read_back;
 pub use size::{size, Size};
+
+/// Settings: n, p, layout, copies.
+pub type Settings = [u64; 4];
 
 /// Number and place of "Refused inputs".
 #[derive(Clone, Copy, Debug, PartialEq, Eq)]

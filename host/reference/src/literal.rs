@@ -1,7 +1,7 @@
 //! The paper once more, word for word and slow: only for tests, to hold the
 //! fast version against.
 
-use crate::{Answer, Refusal, Size};
+use crate::{Answer, Changed, Refusal, Settings, Size};
 
 const TAG_RANGE: std::ops::RangeInclusive<u64> = 0..=4_294_967_295;
 
@@ -363,6 +363,82 @@ pub fn size(lines: u64, n: u64, p: u64, layout: u64, copies: u64, c: u64) -> Res
     let (k, d, n) = (cycle.levels(), cycle.data.len() as u64, cycle.buckets());
     let c = if c > d { d } else { c };
     Ok(Size { k, d, n, bytes: 240 * n, heard: 2 + k + 1.max(c) })
+}
+
+/// What a change makes: its counts, the list's buffer and the image.
+pub type Change = (Changed, Vec<u8>, Vec<u8>);
+
+/// "A new line goes, bytes as given, behind all lines of its tag", in a buffer
+/// that holds so many lines.
+pub fn arrive(
+    buffer: &[u8],
+    lines: u64,
+    line: &[u8],
+    settings: Settings,
+    room: usize,
+) -> Result<Change, Refusal> {
+    let mut list = lent_list(buffer, lines, line, settings)?;
+    if lines == 40_000 || (buffer.len() as u64) < 27 * (lines + 1) {
+        return Err(Refusal { number: 16, place: 0 });
+    }
+    let tag = numbers(line)[0];
+    let behind = list.iter().rposition(|other| numbers(other)[0] <= tag);
+    list.insert(behind.map_or(0, |place| place + 1), line);
+    changed(buffer, list.concat(), settings, room)
+}
+
+/// "A line taken out is the first whose four numbers equal those of the one
+/// given", "the last line's 27 bytes become blank".
+pub fn take_out(
+    buffer: &[u8],
+    lines: u64,
+    line: &[u8],
+    settings: Settings,
+    room: usize,
+) -> Result<Change, Refusal> {
+    let mut list = lent_list(buffer, lines, line, settings)?;
+    let place = list.iter().position(|other| numbers(other) == numbers(line));
+    list.remove(place.ok_or(Refusal { number: 15, place: 0 })?);
+    let (counts, mut buffer, image) = changed(buffer, list.concat(), settings, room)?;
+    buffer[27 * list.len()..][..27].copy_from_slice(&[b' '; 27]);
+    Ok((counts, buffer, image))
+}
+
+/// The lines of the list in a buffer, or 1 to 4 of settings, list and given line.
+fn lent_list<'a>(
+    buffer: &'a [u8],
+    lines: u64,
+    line: &[u8],
+    [n, p, layout, _]: Settings,
+) -> Result<Vec<&'a [u8]>, Refusal> {
+    check_settings(n, p, layout)?;
+    if lines > 40_000 || (buffer.len() as u64) < 27 * lines || line.len() != 27 {
+        return Err(Refusal { number: 2, place: 0 });
+    }
+    let list = &buffer[..27 * lines as usize];
+    // A list of one line, which is refused by 3 alone.
+    let given = parse_list(line).map_err(|_| Refusal { number: 3, place: lines });
+    if let Err(refusal) = parse_list(list) {
+        return Err(if refusal.number == 3 { refusal } else { given.err().unwrap_or(refusal) });
+    }
+    given?;
+    Ok(list.chunks(27).collect())
+}
+
+/// The four numbers of a line that is not misprinted.
+fn numbers(line: &[u8]) -> Line {
+    list_figures(&line[..26]).unwrap()
+}
+
+/// A changed list at the front of its buffer, and "what building the changed list
+/// afresh gives".
+fn changed(buffer: &[u8], list: Vec<u8>, s: Settings, room: usize) -> Result<Change, Refusal> {
+    let image = build(&list, s[0], s[1], s[2], s[3], room)?;
+    let lines = (list.len() / 27) as u64;
+    let Size { k, d, n, .. } = size(lines, s[0], s[1], s[2], s[3], 0)?;
+    let mut buffer = buffer.to_vec();
+    buffer.splice(..list.len(), list);
+    Ok((Changed { lines, d, k, n }, buffer, image))
 }
 
 /// Reading back into a buffer of `room` bytes. A list that builds the image can

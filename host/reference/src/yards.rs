@@ -3,8 +3,7 @@
 use crate::cycle::Cycle;
 use crate::generate::{damaged_image, damaged_list, list, list_from, with_zeros, Random};
 
-/// Settings: n, p, layout, copies.
-pub type Settings = [u64; 4];
+pub use crate::Settings;
 
 /// Lines and settings of cycles small enough to alter each byte of them.
 pub const SMALL: [(u64, Settings); 8] = [
@@ -52,14 +51,19 @@ pub fn image_of(list: &[u8], [n, p, layout, copies]: Settings) -> Vec<u8> {
     image
 }
 
-/// A short list, with leading zeros or without, damaged, with settings and room
-/// that may be out of range or too little.
-pub fn damaged_building(random: &mut Random) -> (Vec<u8>, Settings, usize) {
+/// A short list, with leading zeros or without.
+pub fn short_list(random: &mut Random) -> Vec<u8> {
     let lines = random.below(12);
     let start = random.pick(&[0, 0, 4_294_967_290]);
     let spread = random.below(3);
-    let good = list_from(random, lines, start, spread);
-    let good = with_zeros(random, &good);
+    let list = list_from(random, lines, start, spread);
+    with_zeros(random, &list)
+}
+
+/// A short list, damaged, with settings and room that may be out of range or too
+/// little.
+pub fn damaged_building(random: &mut Random) -> (Vec<u8>, Settings, usize) {
+    let good = short_list(random);
     let list = damaged_list(random, &good);
     let settings = [2 + random.below(8), 1 + random.below(9), random.below(4), random.below(4)];
     (list, settings, 240 * random.below(20) as usize)

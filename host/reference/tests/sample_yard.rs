@@ -2,9 +2,10 @@
 
 mod common;
 
-use common::{build_into, lookup_into, read_back_into};
-use reference::generate::list_of;
-use reference::{size, Answer, Listener, Looked, Refusal, Size};
+use common::{build_into, change_into, lookup_into, read_back_into};
+use reference::generate::{line, list_of};
+use reference::skips::Given;
+use reference::{arrive, size, take_out, Answer, Changed, Listener, Looked, Refusal, Size};
 
 const S: [u64; 5] = [3, 5, 5, 8, 9];
 const ROOM: usize = 240 * 100;
@@ -98,6 +99,24 @@ fn leading_zeros() {
     assert!(read_back_into(&image(&plain, 1), [2, 1, 1, 1], ROOM) == Ok(list_of(&plain)));
 }
 
+/// A line arrives behind the two of its tag; the first of these is taken out by
+/// its numbers, printed with leading zeros.
+#[test]
+fn skips() {
+    let new = line(5, 7, 0, 0);
+    let zeros = b"00000000050000000000000000\n";
+    let given = |lines, line| Given { lines, line, settings: [2, 1, 1, 1], room: ROOM };
+    let list = &mut [&list_of(&S)[..], &[b'.'; 30]].concat();
+    let (changed, _) = change_into(arrive, list, given(5, new.as_bytes())).unwrap();
+    assert_eq!(changed, Changed { lines: 6, d: 6, k: 3, n: 13 });
+    let parts = [&list_of(&[3, 5, 5])[..], new.as_bytes(), &list_of(&[8, 9])];
+    assert!(*list == [&parts.concat()[..], b"..."].concat());
+    let (changed, _) = change_into(take_out, list, given(6, zeros)).unwrap();
+    assert_eq!(changed, Changed { lines: 5, d: 5, k: 3, n: 12 });
+    let parts = [&list_of(&[3, 5])[..], new.as_bytes(), &list_of(&[8, 9])];
+    assert!(*list == [&parts.concat()[..], &[b' '; 27], b"..."].concat());
+}
+
 #[test]
 fn refused_inputs() {
     let list = list_of(&S);
@@ -135,4 +154,8 @@ fn refused_inputs() {
         }
     }
     assert_eq!(listener.step(b""), (listener, Answer::Refused(14), 0, 0));
+    let four = &list_of(&[4])[..];
+    let given = Given { lines: 5, line: four, settings: [2, 1, 1, 1], room: ROOM };
+    assert_eq!(change_into(take_out, &mut list.clone(), given), refused(15));
+    assert_eq!(change_into(arrive, &mut list.clone(), given), refused(16));
 }

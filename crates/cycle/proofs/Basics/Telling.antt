@@ -7,6 +7,7 @@ use Rattle.cycle.specs.Building as building
 use Rattle.cycle.specs.ReadingBack as readingBack
 use Rattle.cycle.specs.Judging as judging
 use Rattle.cycle.specs.Size as sizing
+use Rattle.cycle.specs.Changes as changes
 use Rattle.cycle.specs.declared.Figures.{Figures}
 use Rattle.cycle.specs.declared.Built.{Built}
 use Rattle.cycle.specs.declared.Built.the-variants.{Cycle as BuiltCycle, Refused as BuiltRefused}
@@ -17,6 +18,9 @@ use Rattle.cycle.specs.declared.Judged.the-variants.{Cycle as JudgedCycl
 use Rattle.cycle.specs.declared.Dimensions.{Dimensions}
 use Rattle.cycle.specs.declared.Sized.{Sized}
 use Rattle.cycle.specs.declared.Sized.the-variants.{Cycle as SizedCycle, Refused as SizedRefused}
+use Rattle.cycle.specs.declared.Counts.{Counts}
+use Rattle.cycle.specs.declared.Changed.{Changed}
+use Rattle.cycle.specs.declared.Changed.the-variants.{Cycle as ChangedCycle, Refused as ChangedRefused}
 
 pub built-told : (a b : Built) → building.numbers a ≡ building.numbers b → a ≡ b
 built-told (BuiltCycle n) (BuiltCycle m) h = cc
@@ -78,3 +82,17 @@ sized-told (SizedCycle f) (SizedCycle g) h = ap SizedCycle (dimensions-told f g 
 sized-told (SizedCycle f) (SizedRefused number place) h = let z : _≡_ {A = ℕ} 0 1 = cc in absurd (omega arith)
 sized-told (SizedRefused number place) (SizedCycle f) h = let z : _≡_ {A = ℕ} 0 1 = cc in absurd (omega arith)
 sized-told (SizedRefused number place) (SizedRefused other there) h = cc
+
+pub changed-told : (a b : Changed) → changes.numbers a ≡ changes.numbers b → a ≡ b
+changed-told (ChangedCycle x) (ChangedCycle y) h = ap ChangedCycle (counts-told x y h)
+  where
+    counts-told : (x y : Counts) → changes.numbers (ChangedCycle x) ≡ changes.numbers (ChangedCycle y) → x ≡ y
+    counts-told x y h =
+        let lines : x .lines ≡ y .lines = cc in
+        let d : x .d ≡ y .d = cc in
+        let k : x .k ≡ y .k = cc in
+        let n : x .n ≡ y .n = cc in
+        λ i. record { lines = lines i; d = d i; k = k i; n = n i }
+changed-told (ChangedCycle x) (ChangedRefused number place) h = let z : _≡_ {A = ℕ} 0 1 = cc in absurd (omega arith)
+changed-told (ChangedRefused number place) (ChangedCycle x) h = let z : _≡_ {A = ℕ} 0 1 = cc in absurd (omega arith)
+changed-told (ChangedRefused number place) (ChangedRefused other there) h = cc

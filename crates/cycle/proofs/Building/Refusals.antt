@@ -78,15 +78,16 @@ module _ (list : List ℕ) (lines : ℕ) (whole : length list ≡ lineLength * l
 
   -- ---- 4
 
-  module _ (m : ℕ) (so : fallFrom 0 0 (listLines list) ≡ fallFrom i m (drop i (listLines list))) where
-    line-here :
-        i < lines → drop i (listLines list) ≡ spelled (drop (lineLength * i) list) ∷ drop (i + 1) (listLines list)
-    line-here h =
-        let none-there : Line = spelled [] in
-        let there : i < length list / lineLength = omega (arith, count-lines list lines whole) in
-        drop-cons (listLines list) i none-there (omega (arith, length-listLines list))
-        ∙ rw (line-at list none-there i there, spelled-front lineLength (drop (i * lineLength) list) (omega arith), mul-comm i lineLength, add-one i)
+  -- line i, and those behind it
+  pub line-here :
+      i < lines → drop i (listLines list) ≡ spelled (drop (lineLength * i) list) ∷ drop (i + 1) (listLines list)
+  line-here h =
+      let none-there : Line = spelled [] in
+      let there : i < length list / lineLength = omega (arith, count-lines list lines whole) in
+      drop-cons (listLines list) i none-there (omega (arith, length-listLines list))
+      ∙ rw (line-at list none-there i there, spelled-front lineLength (drop (i * lineLength) list) (omega arith), mul-comm i lineLength, add-one i)
 
+  module _ (m : ℕ) (so : fallFrom 0 0 (listLines list) ≡ fallFrom i m (drop i (listLines list))) where
     pub tag-rises :
         i < lines → (x : ℕ) → x ≡ value 0 (take tagWidth (drop (lineLength * i) list)) → m ≤ x →
         fallFrom 0 0 (listLines list) ≡ fallFrom (i + 1) x (drop (i + 1) (listLines list))

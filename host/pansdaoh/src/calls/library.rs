@@ -9,7 +9,7 @@
 #![allow(unsafe_code)]
 #![deny(clippy::undocumented_unsafe_blocks)]
 
-use super::{Answer, Found, Line, Size, State, Step};
+use super::{Answer, Change, Found, Line, Size, State, Step};
 
 #[link(name = "pansdaoh", kind = "static")]
 extern "C" {
@@ -24,6 +24,32 @@ extern "C" {
         out_length: usize,
     ) -> Answer;
     fn pansdaoh_size(lines: u64, n: u64, p: u64, layout: u64, copies: u64, c: u64) -> Size;
+    fn pansdaoh_arrive(
+        list: *mut u8,
+        list_length: usize,
+        lines: u64,
+        line: *const u8,
+        line_length: usize,
+        n: u64,
+        p: u64,
+        layout: u64,
+        copies: u64,
+        out: *mut u8,
+        out_length: usize,
+    ) -> Change;
+    fn pansdaoh_take_out(
+        list: *mut u8,
+        list_length: usize,
+        lines: u64,
+        line: *const u8,
+        line_length: usize,
+        n: u64,
+        p: u64,
+        layout: u64,
+        copies: u64,
+        out: *mut u8,
+        out_length: usize,
+    ) -> Change;
     fn pansdaoh_read_back(
         image: *const u8,
         image_length: usize,
@@ -64,6 +90,66 @@ pub fn build(list: &[u8], n: u64, p: u64, layout: u64, copies: u64, out: &mut [u
 pub fn size(lines: u64, n: u64, p: u64, layout: u64, copies: u64, c: u64) -> Size {
     // SAFETY: the call is given numbers alone, and any are answered.
     unsafe { pansdaoh_size(lines, n, p, layout, copies, c) }
+}
+
+/// A line arrives in the list of so many lines at the front of a buffer, and the
+/// changed list's cycle is built into `out`, the settings being n, p, layout and
+/// copies; refuses by 1 to 4, 16, then 5 to 7.
+#[inline]
+pub fn arrive(
+    list: &mut [u8],
+    lines: u64,
+    line: &[u8],
+    settings: [u64; 4],
+    out: &mut [u8],
+) -> Change {
+    change(pansdaoh_arrive, list, lines, line, settings, out)
+}
+
+/// The first line with the given line's numbers is taken out, likewise; refuses by
+/// 1 to 4, 15, then 5 to 7.
+#[inline]
+pub fn take_out(
+    list: &mut [u8],
+    lines: u64,
+    line: &[u8],
+    settings: [u64; 4],
+    out: &mut [u8],
+) -> Change {
+    change(pansdaoh_take_out, list, lines, line, settings, out)
+}
+
+/// A C function that changes a list.
+type Changing = unsafe extern "C" fn(
+    *mut u8,
+    usize,
+    u64,
+    *const u8,
+    usize,
+    u64,
+    u64,
+    u64,
+    u64,
+    *mut u8,
+    usize,
+) -> Change;
+
+#[inline]
+fn change(
+    call: Changing,
+    list: &mut [u8],
+    lines: u64,
+    line: &[u8],
+    [n, p, layout, copies]: [u64; 4],
+    out: &mut [u8],
+) -> Change {
+    let (held, held_length) = (list.as_mut_ptr(), list.len());
+    let (given, given_length) = (line.as_ptr(), line.len());
+    let (room, length) = (out.as_mut_ptr(), out.len());
+    // SAFETY: the slices lend their bytes for the call, and the mutable ones overlap nothing.
+    unsafe {
+        call(held, held_length, lines, given, given_length, n, p, layout, copies, room, length)
+    }
 }
 
 /// Writes the list of an image, without leading zeros, into `out`; refuses by 1,

@@ -1,7 +1,7 @@
-use reference::generate::{list, list_of, Random};
+use reference::generate::{each_alteration, list, list_of, Random};
 use reference::yards::{damaged_building, image_of, legal_copies};
 
-use crate::compare::{build, each_alteration, NUMBERS};
+use crate::compare::{build, NUMBERS};
 
 #[test]
 fn small_lists_and_all_settings() {

@@ -26,6 +26,13 @@ impl Lent {
         Lent { bytes: (0..AROUND + room + AROUND).map(former).collect() }
     }
 
+    /// A buffer that holds these bytes.
+    pub fn of(bytes: &[u8]) -> Lent {
+        let mut lent = Lent::new(bytes.len());
+        lent.buffer().copy_from_slice(bytes);
+        lent
+    }
+
     pub fn buffer(&mut self) -> &mut [u8] {
         let end = self.bytes.len() - AROUND;
         &mut self.bytes[AROUND..end]
@@ -108,16 +115,4 @@ pub fn lookup_lent(image: &[u8], tag: u64, tune_in: u64, room: usize) -> Found {
     assert_eq!(found, expected_found, "tag {tag}, tune-in {tune_in}");
     assert!(lent.holds(&expected), "tag {tag}, tune-in {tune_in}");
     found
-}
-
-/// Every byte of some bytes, altered in turn to each of 256 and set back.
-pub fn each_alteration(bytes: &[u8], mut check: impl FnMut(&[u8])) {
-    let mut altered = bytes.to_vec();
-    for place in 0..bytes.len() {
-        for byte in 0..=255 {
-            altered[place] = byte;
-            check(&altered);
-        }
-        altered[place] = bytes[place];
-    }
 }

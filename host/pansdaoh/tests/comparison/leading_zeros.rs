@@ -1,12 +1,12 @@
 //! Leading zeros in a list line (C-13).
 
 use pansdaoh::calls::{self, Answer};
-use reference::generate::{full_of_zeros, list_of};
+use reference::generate::{each_alteration, full_of_zeros, list_of};
 use reference::yards::Settings;
 use reference::zeros::{each_zero_on_air, Calls};
 use reference::Refusal;
 
-use crate::compare::{self, each_alteration, lookup};
+use crate::compare::{self, lookup};
 
 /// The library's calls, held against those of the reference.
 const CALLS: Calls = Calls { build, read_back };

@@ -1,11 +1,9 @@
 //! A bucket's lines one by one.
 
 use pansdaoh::calls;
-use reference::generate::{list, Random};
+use reference::generate::{each_alteration, list, Random};
 use reference::yards::image_of;
 use reference::Refusal;
-
-use crate::compare::each_alteration;
 
 /// Line i on both sides.
 fn compare(bucket: &[u8], i: u64) -> calls::Line {

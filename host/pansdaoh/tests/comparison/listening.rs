@@ -1,10 +1,8 @@
 use pansdaoh::calls::{self, State, Step};
 use reference::air::{hear_bounds, hear_changing, Hears};
-use reference::generate::{alter, list, Random};
+use reference::generate::{alter, each_alteration, list, Random};
 use reference::yards::{damaged_cycle, image_of};
 use reference::{Answer, Listener};
-
-use crate::compare::each_alteration;
 
 /// A listener of each side.
 #[derive(Clone)]

@@ -2,6 +2,7 @@
 //! numbers, and each byte of the lent buffers.
 
 mod building;
+mod changing;
 mod compare;
 mod full_size;
 mod leading_zeros;

@@ -70,7 +70,7 @@ fn compiles_and_links() {
 #[test]
 fn refusals() {
     let lines: Vec<&str> = HEADER.lines().map(str::trim).collect();
-    for number in 1..=14 {
+    for number in 1..=16 {
         let named = |line: &&str| {
             line.starts_with("PANSDAOH_REFUSED_")
                 && line.trim_end_matches(',').ends_with(&format!("= {number}"))
@@ -129,7 +129,8 @@ fn stack() {
     compiler.args(["-std=gnu11", "-O2", "-Wl,-z,now"]);
     let figures = output(&mut Command::new(link(&mut compiler, "stack.c", "stack")));
     let calls: Vec<&str> = figures.lines().map(|line| line.split(' ').next().unwrap()).collect();
-    assert_eq!(calls, ["build", "size", "read_back", "lookup", "step", "line"]);
+    let all = ["build", "size", "arrive", "take_out", "read_back", "lookup", "step", "line"];
+    assert_eq!(calls, all);
     for line in figures.lines() {
         let numbers: Vec<u64> = line.split(' ').skip(1).map(|word| word.parse().unwrap()).collect();
         let (measured, claimed) = (numbers[0], numbers[1]);

@@ -15,11 +15,13 @@ static unsigned char stack[1 << 17];
 static uint8_t list[PANSDAOH_MAX_LINES * PANSDAOH_LINE + 1];
 static uint8_t image[PANSDAOH_MAX_BUCKETS * PANSDAOH_BUCKET];
 static uint8_t out[sizeof list];
+static uint8_t given[PANSDAOH_LINE];
 
 /* What the calls are given, and what they answered. */
 static uint64_t n, p, layout, copies, lines, tag, place;
 static struct pansdaoh_answer built, read_back;
 static struct pansdaoh_size_answer size;
+static struct pansdaoh_change_answer changed;
 static struct pansdaoh_found found;
 static struct pansdaoh_listener listener;
 static struct pansdaoh_step_answer step;
@@ -31,6 +33,16 @@ static void call_build(void) {
 
 static void call_size(void) {
     size = pansdaoh_size(lines, n, p, layout, copies, lines);
+}
+
+static void call_arrive(void) {
+    changed = pansdaoh_arrive(list, lines * PANSDAOH_LINE, lines - 1, given, sizeof given, n, p,
+                              layout, copies, image, sizeof image);
+}
+
+static void call_take_out(void) {
+    changed = pansdaoh_take_out(list, lines * PANSDAOH_LINE, lines, given, sizeof given, n, p,
+                                layout, copies, image, sizeof image);
 }
 
 static void call_read_back(void) {
@@ -67,7 +79,8 @@ static void measure(void (*call)(void), size_t *most) {
         *most = sizeof stack - untouched;
 }
 
-static size_t build_stack, size_stack, read_back_stack, lookup_stack, step_stack, line_stack;
+static size_t build_stack, size_stack, arrive_stack, take_out_stack;
+static size_t read_back_stack, lookup_stack, step_stack, line_stack;
 
 /* A hearing to its end; 0 if it ends as the lookup does. */
 static int hear(uint64_t first_place) {
@@ -85,7 +98,17 @@ static int hear(uint64_t first_place) {
            pansdaoh_heard(listener.state) != found.heard;
 }
 
-/* Builds, sizes, reads back, looks up and steps; 0 if nothing was refused. */
+/* The first line is taken out and arrives again; 0 if the cycle is as it was. */
+static int come_and_go(void) {
+    memcpy(given, list, sizeof given);
+    measure(call_take_out, &take_out_stack);
+    if (changed.number != 0 || changed.lines != lines - 1)
+        return 1;
+    measure(call_arrive, &arrive_stack);
+    return changed.number != 0 || changed.lines != lines || changed.n != built.count;
+}
+
+/* Builds, sizes, changes, reads back, looks up and steps; 0 if nothing was refused. */
 static int run(const uint64_t settings[5]) {
     uint64_t i;
     n = settings[0];
@@ -98,6 +121,8 @@ static int run(const uint64_t settings[5]) {
                 (unsigned long)(4294900000 + i / 3), 99999, 9999, 999999);
     measure(call_build, &build_stack);
     measure(call_size, &size_stack);
+    if (lines > 0 && come_and_go())
+        return 1;
     measure(call_read_back, &read_back_stack);
     if (built.number != 0 || size.number != 0 || size.n != built.count || read_back.number != 0)
         return 1;
@@ -122,6 +147,8 @@ int main(void) {
             return 1;
     printf("build %zu %d\n", build_stack, PANSDAOH_BUILD_STACK);
     printf("size %zu %d\n", size_stack, PANSDAOH_SIZE_STACK);
+    printf("arrive %zu %d\n", arrive_stack, PANSDAOH_ARRIVE_STACK);
+    printf("take_out %zu %d\n", take_out_stack, PANSDAOH_TAKE_OUT_STACK);
     printf("read_back %zu %d\n", read_back_stack, PANSDAOH_READ_BACK_STACK);
     printf("lookup %zu %d\n", lookup_stack, PANSDAOH_LOOKUP_STACK);
     printf("step %zu %d\n", step_stack, PANSDAOH_STEP_STACK);

@@ -1,7 +1,8 @@
 /*
  * Builds list S of the sample yard with r 1 and prints for tag 5, which lies in
  * two data buckets, each tune-in, heard, elapsed and lines. The cycle is held
- * against its size, each lookup against a listener's own steps.
+ * against its size and against that of a list in which a line came and went, each
+ * lookup against a listener's own steps.
  */
 #include "pansdaoh.h"
 
@@ -44,6 +45,30 @@ static int compare(uint64_t buckets, uint64_t tag, uint64_t place, struct pansda
            pansdaoh_elapsed(listener.state) != found.elapsed || matched != found.lines;
 }
 
+/* A line comes and goes in list S; 0 if list and cycle are what they were. */
+static int come_and_go(const uint8_t *list, size_t length, uint64_t buckets) {
+    static const char LINE[] = "         7     0   0     0\n";
+    static uint8_t held[sizeof LIST - 1 + PANSDAOH_LINE];
+    static uint8_t cycle[sizeof image];
+    const uint8_t *line = (const uint8_t *)LINE;
+    struct pansdaoh_change_answer full, come, gone, again;
+    memcpy(held, list, length);
+    full = pansdaoh_arrive(held, length, 5, line, PANSDAOH_LINE, 2, 1, 1, 1, cycle, sizeof cycle);
+    come = pansdaoh_arrive(held, sizeof held, 5, line, PANSDAOH_LINE, 2, 1, 1, 1, cycle,
+                           sizeof cycle);
+    if (come.number != 0 || come.lines != 6 || come.d != 6 || come.k != 3 || come.n <= buckets ||
+        memcmp(held + 3 * PANSDAOH_LINE, line, PANSDAOH_LINE))
+        return 1;
+    gone = pansdaoh_take_out(held, sizeof held, 6, line, PANSDAOH_LINE, 2, 1, 1, 1, cycle,
+                             sizeof cycle);
+    again = pansdaoh_take_out(held, sizeof held, 5, line, PANSDAOH_LINE, 2, 1, 1, 1, cycle,
+                              sizeof cycle);
+    return gone.number != 0 || gone.lines != 5 || gone.n != buckets ||
+           full.number != PANSDAOH_REFUSED_NO_PLACE ||
+           again.number != PANSDAOH_REFUSED_NOT_IN_LIST || memcmp(held, list, length) ||
+           memcmp(cycle, image, PANSDAOH_BUCKET * buckets);
+}
+
 int main(void) {
     const uint8_t *list = (const uint8_t *)LIST;
     size_t length = sizeof LIST - 1;
@@ -57,6 +82,8 @@ int main(void) {
     if (built.number != 0 || read.number != 0 || read.count != 5 || memcmp(lines, list, length))
         return 1;
     if (size.number != 0 || size.n != built.count || size.bytes != image_length)
+        return 1;
+    if (come_and_go(list, length, built.count))
         return 1;
     for (tune_in = 0; tune_in < built.count; tune_in++) {
         struct pansdaoh_found found =

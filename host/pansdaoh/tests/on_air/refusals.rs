@@ -1,6 +1,7 @@
 //! An example of each refusal.
 
-use pansdaoh::{build, lookup, read_back, Answer, Listener, Refusal, Settings, BUCKET, LINE};
+use pansdaoh::{arrive, build, lookup, read_back, take_out};
+use pansdaoh::{Answer, Listener, Refusal, Settings, BUCKET, LINE};
 use reference::generate::list_of;
 
 use crate::{bucket, sample, sample_image, DOCUMENT, LIST_S};
@@ -27,6 +28,17 @@ fn building() -> Examples {
         ("building, list S, n 2, p 1, r 3", roomy(s, sample(1, 3))),
         ("building, 40,000 lines, n 2, p 1, m 40,000", roomy(&many, sample(2, 40_000))),
         ("building, list S, r 1, into 2,879 bytes", refused(s, sample(1, 1), 2_879)),
+    ]
+}
+
+fn changing() -> Examples {
+    let s = &mut LIST_S.as_bytes().to_vec();
+    let image = &mut [0; 40 * BUCKET];
+    let absent = take_out(s, 5, &list_of(&[4]), sample(1, 1), image).unwrap_err();
+    let full = arrive(s, 5, &list_of(&[4]), sample(1, 1), image).unwrap_err();
+    vec![
+        ("taking a line of tag 4 out of list S", absent),
+        ("a line arriving in list S, in a buffer of 135 bytes", full),
     ]
 }
 
@@ -75,10 +87,10 @@ fn reading_back() -> Examples {
 /// The rows of the document's table are these, each number once.
 #[test]
 fn each_refusal_with_its_example() {
-    let mut examples = [building(), listening(), looking_up(), reading_back()].concat();
+    let mut examples = [building(), changing(), listening(), looking_up(), reading_back()].concat();
     examples.sort_by_key(|(_, refusal)| refusal.number);
     let numbers: Vec<u64> = examples.iter().map(|(_, refusal)| refusal.number).collect();
-    assert_eq!(numbers, (1..=14).collect::<Vec<u64>>());
+    assert_eq!(numbers, (1..=16).collect::<Vec<u64>>());
     let row = |(example, refusal): &(&str, Refusal)| {
         let (number, place) = (refusal.number, refusal.place);
         format!("| {number} | {} | {example} | {place} |", refusal.condition())

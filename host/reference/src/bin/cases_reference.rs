@@ -2,7 +2,8 @@
 
 use std::io::{Read, Write};
 
-use reference::{build, lookup, read_back, size, Answer, Listener, Looked, Refusal, Size};
+use reference::{arrive, build, lookup, read_back, size, take_out};
+use reference::{Answer, Changed, Listener, Looked, Refusal, Settings, Size};
 
 const HEAD: usize = 74;
 const COLUMNS: usize = 12;
@@ -46,6 +47,8 @@ fn answer(letter: u8, numbers: Numbers, body: &[u8]) -> String {
         b'L' => looked(numbers, body),
         b'H' => heard(numbers, body),
         b'F' => sized(numbers, body),
+        b'A' => changed(arrive, numbers, body),
+        b'T' => changed(take_out, numbers, body),
         _ => panic!("no such request: {}", letter as char),
     }
 }
@@ -97,4 +100,23 @@ fn sized([n, p, layout, copies, lines, _]: Numbers, body: &[u8]) -> String {
         Ok(Size { k, d, n, bytes, heard }) => format!("0 0 {k} {d} {n} {bytes} {heard}\n"),
         Err(Refusal { number, place }) => format!("{number} {place} 0 0 0 0 0\n"),
     }
+}
+
+/// A line arrives or is taken out.
+type Changing = fn(&mut [u8], u64, &[u8], Settings, &mut [u8]) -> Result<Changed, Refusal>;
+
+/// The body has the number of lines, the length of the list's buffer and that of
+/// the given line; then the line; then what the list's buffer holds.
+fn changed(call: Changing, [n, p, layout, copies, length, _]: Numbers, body: &[u8]) -> String {
+    let (front, rest) = body.split_at(3 * COLUMNS);
+    let [lines, list_length, line_length] =
+        std::array::from_fn(|i| number(&front[COLUMNS * i..][..COLUMNS]));
+    let (line, list) = rest.split_at(line_length as usize);
+    assert_eq!(list.len() as u64, list_length);
+    let (mut list, mut cycle) = (list.to_vec(), lent(length));
+    let text = match call(&mut list, lines, line, [n, p, layout, copies], &mut cycle) {
+        Ok(Changed { lines, d, k, n }) => format!("0 0 {lines} {d} {k} {n}"),
+        Err(Refusal { number, place }) => format!("{number} {place} 0 0 0 0"),
+    };
+    format!("{text} {} {}\n", hash(&list), hash(&cycle))
 }

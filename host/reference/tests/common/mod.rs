@@ -1,8 +1,9 @@
 //! Calls with lent buffers that show what was written.
 #![allow(dead_code)]
 
+use reference::skips::{Given, Made};
 use reference::yards::Settings;
-use reference::{build, lookup, read_back, Looked, Refusal};
+use reference::{build, lookup, read_back, Changed, Looked, Refusal};
 
 /// A lent buffer before a call.
 pub fn lent(length: usize) -> Vec<u8> {
@@ -34,6 +35,17 @@ pub fn lookup_into(
     let result = lookup(image, tag, tune_in, &mut buffer);
     let lines = written(buffer, result.map(|looked| 27 * looked.lines as usize))?;
     Ok((result?, lines))
+}
+
+/// A line arrives or is taken out.
+pub type Changing = fn(&mut [u8], u64, &[u8], Settings, &mut [u8]) -> Result<Changed, Refusal>;
+
+/// Changes a list in its buffer, its image into a lent one, likewise.
+pub fn change_into(call: Changing, list: &mut [u8], given: Given) -> Made {
+    let mut buffer = lent(given.room);
+    let result = call(list, given.lines, given.line, given.settings, &mut buffer);
+    let image = written(buffer, result.map(|changed| 240 * changed.n as usize))?;
+    Ok((result?, image))
 }
 
 fn written(mut buffer: Vec<u8>, length: Result<usize, Refusal>) -> Result<Vec<u8>, Refusal> {

@@ -9,7 +9,7 @@ use Rattle.cases.proofs.answers.say.Statement.{statement}
 use Rattle.cases.proofs.answers.say.Tie as tie
 
 abbrev Inv-loop : tie.InvT-loop
-Inv-loop numbers line₀ at₀ i₀ line at i = (length line ≡ 147) × (i ≤ length numbers) × (i ≤ at) × (at ≤ 21 * i)
+Inv-loop numbers line₀ at₀ i₀ line at i = (length line ≡ 168) × (i ≤ length numbers) × (i ≤ at) × (at ≤ 21 * i)
 
 abbrev μ-loop : tie.MeasureT-loop
 μ-loop numbers line₀ at₀ i₀ line at i = length numbers - i

@@ -11,4 +11,4 @@ answer-spec =
     (tie.spec
     (λ c κs. tt) (λ c. search needs) (λ c κs. tt) (λ c. tt) (λ c. omega arith)
     (λ c. front _ _ (omega arith))
-    (λ c κs. tt) (λ c κs. tt) (λ c. search needs) (λ c. tt))
+    (λ c κs. tt) (λ c κs. tt) (λ c. search needs) (λ c. search needs) (λ c. tt))

@@ -1,0 +1,19 @@
+-- `pansdaoh::pansdaoh_arrive` meets its contract: what an arrival answers and writes. Assumes nothing.
+use mathlib.Core.Path.{ap, _∙_}
+use borrow.Author.Needs.{needs}
+use Rattle.pansdaoh.specs.Calls.{changeOf, changeAnswer}
+use Rattle.pansdaoh.proofs.pansdaoh_arrive.Statement.{statement}
+use Rattle.pansdaoh.proofs.pansdaoh_arrive.Tie as tie
+
+returns : tie.Need-returns
+unfolding changeAnswer
+returns c =
+    let told = c .before .before .before .before .before .arrive .ensures in
+    (c .change-answer .ensures ∙ ap changeOf (told .0), told .1, told .2)
+
+pub pansdaoh-arrive-spec : {M : Type 1} → statement M
+pansdaoh-arrive-spec =
+    tie.close
+    (tie.spec
+    (λ c κs. search needs) (λ c κs. search needs) (λ c. search needs) (λ c. search needs)
+    returns)
