@@ -18,7 +18,7 @@ use Rattle.cycle.specs.Tree.{Settings}
 use Rattle.cycle.specs.Building as building
 use Rattle.cycle.specs.Building.{build}
 use Rattle.cycle.specs.Judging.{judge}
-use Rattle.cycle.specs.Changes.{equals, listIn, givenConditions, Change, arrival, departure, conditions, Outcome, change, arrive, takeOut}
+use Rattle.cycle.specs.Changes.{sameNumbers, equals, listIn, givenConditions, Change, arrival, departure, conditions, Outcome, change, arrive, takeOut}
 use Rattle.cycle.specs.declared.Figures.{Figures}
 use Rattle.cycle.specs.declared.Counts.{Counts}
 use Rattle.cycle.specs.declared.Built.the-variants as Built
@@ -86,6 +86,7 @@ pub record MovedBehind (l : Line) (before after : List Line) : Type 0 where
   pub greater : List Line
   pub was : before ≡ front ++ (l ∷ (same-tag ++ greater))
   pub is : after ≡ front ++ (same-tag ++ (l ∷ greater))
+  pub first : any (sameNumbers l) front ≡ false
   pub tag-same : every (λ x. eqb (x .tag) (l .tag)) same-tag ≡ true
   pub tag-greater : every (λ x. ltb (l .tag) (x .tag)) greater ≡ true
 

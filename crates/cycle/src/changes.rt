@@ -248,11 +248,17 @@ fn arrive_judged(
     copies: u64,
     out: &mut [u8],
 ) -> Changed
-    requires { ⌜ (firstRefusal (givenConditions (settings n p layout copies) (now buffer) lines (now given)) ≡ none) × (plain ≡ true → PlainList (listIn (now buffer) lines)) ⌝ }
+    requires { ⌜ (firstRefusal (givenConditions (settings n p layout copies) (now buffer) lines (now given)) ≡ none) ×
+        (plain ≡ true → PlainList (listIn (now buffer) lines)) ⌝ }
     ensures { λ r.
-        ⌜ (Changes.numbers r ≡ Changes.numbers (Changes.arrive (settings n p layout copies) (now (buffer .entry)) lines (now (given .entry)) (length (now (out .entry))) .answer)) ×
-        (now (buffer .exit) ≡ onto (Changes.arrive (settings n p layout copies) (now (buffer .entry)) lines (now (given .entry)) (length (now (out .entry))) .list) (now (buffer .entry))) ×
-        (now (out .exit) ≡ onto (Changes.arrive (settings n p layout copies) (now (buffer .entry)) lines (now (given .entry)) (length (now (out .entry))) .cycle) (now (out .entry))) ⌝ }
+        ⌜ (Changes.numbers r ≡
+        Changes.numbers (Changes.arrive (settings n p layout copies) (now (buffer .entry)) lines (now (given .entry)) (length (now (out .entry))) .answer)) ×
+        (now (buffer .exit) ≡
+        onto (Changes.arrive (settings n p layout copies) (now (buffer .entry)) lines (now (given .entry)) (length (now (out .entry))) .list)
+        (now (buffer .entry))) ×
+        (now (out .exit) ≡
+        onto (Changes.arrive (settings n p layout copies) (now (buffer .entry)) lines (now (given .entry)) (length (now (out .entry))) .cycle)
+        (now (out .entry))) ⌝ }
 {
     if lines == Line::LINES_MOST {
         return Changed::Refused(16, 0);
@@ -288,11 +294,17 @@ fn take_out_judged(
     copies: u64,
     out: &mut [u8],
 ) -> Changed
-    requires { ⌜ (firstRefusal (givenConditions (settings n p layout copies) (now buffer) lines (now given)) ≡ none) × (plain ≡ true → PlainList (listIn (now buffer) lines)) ⌝ }
+    requires { ⌜ (firstRefusal (givenConditions (settings n p layout copies) (now buffer) lines (now given)) ≡ none) ×
+        (plain ≡ true → PlainList (listIn (now buffer) lines)) ⌝ }
     ensures { λ r.
-        ⌜ (Changes.numbers r ≡ Changes.numbers (Changes.takeOut (settings n p layout copies) (now (buffer .entry)) lines (now (given .entry)) (length (now (out .entry))) .answer)) ×
-        (now (buffer .exit) ≡ onto (Changes.takeOut (settings n p layout copies) (now (buffer .entry)) lines (now (given .entry)) (length (now (out .entry))) .list) (now (buffer .entry))) ×
-        (now (out .exit) ≡ onto (Changes.takeOut (settings n p layout copies) (now (buffer .entry)) lines (now (given .entry)) (length (now (out .entry))) .cycle) (now (out .entry))) ⌝ }
+        ⌜ (Changes.numbers r ≡
+        Changes.numbers (Changes.takeOut (settings n p layout copies) (now (buffer .entry)) lines (now (given .entry)) (length (now (out .entry))) .answer)) ×
+        (now (buffer .exit) ≡
+        onto (Changes.takeOut (settings n p layout copies) (now (buffer .entry)) lines (now (given .entry)) (length (now (out .entry))) .list)
+        (now (buffer .entry))) ×
+        (now (out .exit) ≡
+        onto (Changes.takeOut (settings n p layout copies) (now (buffer .entry)) lines (now (given .entry)) (length (now (out .entry))) .cycle)
+        (now (out .entry))) ⌝ }
 {
     let end = (LINE * lines) as usize;
     let place = first_equal(
@@ -330,9 +342,14 @@ pub fn arrive(
     out: &mut [u8],
 ) -> Changed
     ensures { λ r.
-        ⌜ (Changes.numbers r ≡ Changes.numbers (Changes.arrive (settings n p layout copies) (now (buffer .entry)) lines (now (given .entry)) (length (now (out .entry))) .answer)) ×
-        (now (buffer .exit) ≡ onto (Changes.arrive (settings n p layout copies) (now (buffer .entry)) lines (now (given .entry)) (length (now (out .entry))) .list) (now (buffer .entry))) ×
-        (now (out .exit) ≡ onto (Changes.arrive (settings n p layout copies) (now (buffer .entry)) lines (now (given .entry)) (length (now (out .entry))) .cycle) (now (out .entry))) ⌝ }
+        ⌜ (Changes.numbers r ≡
+        Changes.numbers (Changes.arrive (settings n p layout copies) (now (buffer .entry)) lines (now (given .entry)) (length (now (out .entry))) .answer)) ×
+        (now (buffer .exit) ≡
+        onto (Changes.arrive (settings n p layout copies) (now (buffer .entry)) lines (now (given .entry)) (length (now (out .entry))) .list)
+        (now (buffer .entry))) ×
+        (now (out .exit) ≡
+        onto (Changes.arrive (settings n p layout copies) (now (buffer .entry)) lines (now (given .entry)) (length (now (out .entry))) .cycle)
+        (now (out .entry))) ⌝ }
 {
     let told = judge_given(buffer, lines, given, n, p, layout);
     match told {
@@ -356,9 +373,14 @@ pub fn take_out(
     out: &mut [u8],
 ) -> Changed
     ensures { λ r.
-        ⌜ (Changes.numbers r ≡ Changes.numbers (Changes.takeOut (settings n p layout copies) (now (buffer .entry)) lines (now (given .entry)) (length (now (out .entry))) .answer)) ×
-        (now (buffer .exit) ≡ onto (Changes.takeOut (settings n p layout copies) (now (buffer .entry)) lines (now (given .entry)) (length (now (out .entry))) .list) (now (buffer .entry))) ×
-        (now (out .exit) ≡ onto (Changes.takeOut (settings n p layout copies) (now (buffer .entry)) lines (now (given .entry)) (length (now (out .entry))) .cycle) (now (out .entry))) ⌝ }
+        ⌜ (Changes.numbers r ≡
+        Changes.numbers (Changes.takeOut (settings n p layout copies) (now (buffer .entry)) lines (now (given .entry)) (length (now (out .entry))) .answer)) ×
+        (now (buffer .exit) ≡
+        onto (Changes.takeOut (settings n p layout copies) (now (buffer .entry)) lines (now (given .entry)) (length (now (out .entry))) .list)
+        (now (buffer .entry))) ×
+        (now (out .exit) ≡
+        onto (Changes.takeOut (settings n p layout copies) (now (buffer .entry)) lines (now (given .entry)) (length (now (out .entry))) .cycle)
+        (now (out .entry))) ⌝ }
 {
     let told = judge_given(buffer, lines, given, n, p, layout);
     match told {

@@ -1,6 +1,6 @@
 -- The conditions 1 to 4 of a list in its buffer and a given line: what is known where none of them holds, and what each answers.
 -- Assumes nothing.
-use mathlib.Core.Path.{_≡_, refl, _∙_}
+use mathlib.Core.Path.{_≡_, refl, _∙_, subst}
 use Prim.Native.Nat.{ℕ, _*_, _≤_, _<_}
 use mathlib.Core.Bool.{Bool, true, false, _&&_, not}
 use mathlib.Core.Option.{none, some}
@@ -78,11 +78,18 @@ given-passed s buffer lines given h =
     }
 
 -- copies are not looked at
-pub given-any-copies :
+given-any-copies :
     (n p layout c d : ℕ) (buffer : List ℕ) (lines : ℕ) (given : List ℕ) →
     givenConditions (settings n p layout c) buffer lines given ≡ givenConditions (settings n p layout d) buffer lines given
 unfolding givenConditions
 given-any-copies n p layout c d buffer lines given = rw (any-copies n p layout c d)
+
+pub told-any-copies :
+    (n p layout c d : ℕ) (buffer : List ℕ) (lines : ℕ) (given : List ℕ) (r : GivenJudged) →
+    GivenTold (givenConditions (settings n p layout c) buffer lines given) (listIn buffer lines) r →
+    GivenTold (givenConditions (settings n p layout d) buffer lines given) (listIn buffer lines) r
+told-any-copies n p layout c d buffer lines given r h =
+    subst (λ cs. GivenTold cs (listIn buffer lines) r) (given-any-copies n p layout c d buffer lines given) h
 
 -- ---- 3 and 4
 

@@ -1,19 +1,19 @@
 -- Lines with one arrived or one taken out: where it stands, and which it was. Then both, one after the other.
 -- Assumes nothing.
-use mathlib.Core.Path.{_≡_, refl, sym, ap, ap₂}
+use mathlib.Core.Path.{_≡_, refl, sym, ap, ap₂, _∙_, subst}
 use Prim.Native.Nat.{ℕ, _≤_, _<_}
 use native.Mathlib.Omega.{arith}
 use mathlib.Core.Bool.{Bool, true, false, _&&_, _||_, true≢false}
-use mathlib.Core.List.{List, [], _∷_, _++_, map}
-use lib.Dec.{ltb, eqb}
-use borrow.Author.Tests.{ltb-true, ltb-false, lt-ltb, le-ltb, le-leb, eqb-true, eq-eqb}
+use mathlib.Core.List.{List, [], _∷_, _++_, map, map-append}
+use lib.Dec.{leb, ltb, eqb}
+use borrow.Author.Tests.{ltb-true, ltb-false, leb-true, lt-ltb, le-ltb, le-leb, eqb-true, eq-eqb}
 use Rattle.columns.specs.Lists.{pick, every, any}
 use Rattle.columns.proofs.Strict.{both}
 use Rattle.buckets.specs.declared.Line.{Line}
 use Rattle.buckets.specs.ListLine.{spelled}
 use Rattle.cycle.specs.Changes.{arrived, sameNumbers, equals, takenOut}
 use Rattle.cycle.specs.ComingAndGoing.{PutBehind, FirstGone, MovedBehind}
-use Rattle.cycle.proofs.Lines.Rising.{Rising}
+use Rattle.cycle.proofs.Lines.Rising.{Rising, rising-front}
 
 -- ---- equal lines
 
@@ -34,6 +34,11 @@ same-line a b h =
 pub same-self : (a : Line) → sameNumbers a a ≡ true
 unfolding sameNumbers
 same-self a = rw (eq-eqb (a .tag) (a .tag) refl, eq-eqb (a .tare) (a .tare) refl, eq-eqb (a .code) (a .code) refl, eq-eqb (a .weighing) (a .weighing) refl)
+
+-- a test of each outcome of g
+every-mapped : {A B : Type 0} (f : B → Bool) (g : A → B) (xs : List A) → every f (map g xs) ≡ every (λ x. f (g x)) xs
+every-mapped f g [] = refl
+every-mapped f g (x ∷ xs) = ap (λ b. f (g x) && b) (every-mapped f g xs)
 
 module _ (given : List ℕ) where
   abbrev tag : ℕ
@@ -115,52 +120,15 @@ module _ (given : List ℕ) where
 
   -- ---- taken out, then arrived
 
-  abbrev sameTag : Line → Bool
-  sameTag x = eqb (x .tag) tag
-
-  abbrev greater : Line → Bool
-  greater x = ltb tag (x .tag)
-
-  all-greater : (m : ℕ) (ls : List Line) → tag < m → Rising m ls → every greater ls ≡ true
-  all-greater m [] h r = refl
-  all-greater m (x ∷ ls) h r =
-      rw (lt-ltb tag (x .tag) (omega (arith, r .0))) (all-greater (x .tag) ls (omega (arith, r .0)) (r .1))
-
-  -- lines behind the one taken out: those of its tag, and those of greater ones
-  record Behind (ss : List (List ℕ)) : Type 0 where
-    same : List Line
-    over : List Line
-    was : map spelled ss ≡ same ++ over
-    is : map spelled (arrived given ss) ≡ same ++ (spelled given ∷ over)
-    tag-same : every sameTag same ≡ true
-    tag-greater : every greater over ≡ true
-
-  behind : (m : ℕ) (ss : List (List ℕ)) → m ≡ tag → Rising m (map spelled ss) → Behind ss
-  behind m [] e r = record { same = []; over = []; was = refl; is = refl; tag-same = refl; tag-greater = refl }
-  behind m (s ∷ ss) e r = go (ltb tag (spelled s .tag)) refl (behind (spelled s .tag) ss)
-    where
-      go : (b : Bool) → ltb tag (spelled s .tag) ≡ b → (spelled s .tag ≡ tag → Rising (spelled s .tag) (map spelled ss) → Behind ss) →
-          Behind (s ∷ ss)
-      go true k rest =
-          record {
-            same = [];
-            over = map spelled (s ∷ ss);
-            was = refl;
-            is = rw k;
-            tag-same = refl;
-            tag-greater = rw k (all-greater (spelled s .tag) (map spelled ss) (ltb-true tag (spelled s .tag) k) (r .1));
-          }
-      go false k rest =
-          let here : spelled s .tag ≡ tag = omega (arith, ltb-false tag (spelled s .tag) k, r .0) in
-          let b = rest here (r .1) in
-          record {
-            same = spelled s ∷ b .same;
-            over = b .over;
-            was = ap (λ (ls : List Line). spelled s ∷ ls) (b .was);
-            is = rw k (ap (λ (ls : List Line). spelled s ∷ ls) (b .is));
-            tag-same = rw (eq-eqb (spelled s .tag) tag here) (b .tag-same);
-            tag-greater = b .tag-greater;
-          }
+  -- lines of no smaller tag that are of no greater one have this very tag
+  same-tags :
+      (m : ℕ) (ss : List (List ℕ)) → tag ≤ m → Rising m (map spelled ss) → every (λ s. leb (spelled s .tag) tag) ss ≡ true →
+      every (λ l. eqb (l .tag) tag) (map spelled ss) ≡ true
+  same-tags m [] h r low = refl
+  same-tags m (s ∷ ss) h r low =
+      let told = both (leb (spelled s .tag) tag) (every (λ x. leb (spelled x .tag) tag) ss) low in
+      let here : spelled s .tag ≡ tag = omega (arith, r .0, leb-true (spelled s .tag) tag (told .0)) in
+      rw (eq-eqb (spelled s .tag) tag here) (same-tags (spelled s .tag) ss (omega (arith, here)) (r .1) (told .1))
 
   -- an equal line further on has no smaller tag
   reaches : (m : ℕ) (ss : List (List ℕ)) → Rising m (map spelled ss) → any (equals given) ss ≡ true → m ≤ tag
@@ -185,15 +153,20 @@ module _ (given : List ℕ) where
           MovedBehind (spelled given) (map spelled (s ∷ ss)) (map spelled (arrived given (pick b ss (s ∷ takenOut given ss))))
       go true e rest k =
           let same : spelled given ≡ spelled s = same-line (spelled given) (spelled s) e in
-          let b = behind (spelled s .tag) ss (sym (ap (λ (l : Line). l .tag) same)) (r .1) in
+          let put = put-behind (spelled s .tag) ss (r .1) in
+          let parted : map spelled ss ≡ map spelled (put .front) ++ map spelled (put .rest) =
+          ap (map spelled) (put .was) ∙ map-append spelled (put .front) (put .rest) in
+          let rises : Rising (spelled s .tag) (map spelled (put .front)) =
+          rising-front (spelled s .tag) (map spelled (put .front)) (map spelled (put .rest)) (subst (Rising (spelled s .tag)) parted (r .1)) in
           record {
             front = [];
-            same-tag = b .same;
-            greater = b .over;
-            was = ap₂ {C = List Line} _∷_ (sym same) (b .was);
-            is = b .is;
-            tag-same = b .tag-same;
-            tag-greater = b .tag-greater;
+            same-tag = map spelled (put .front);
+            greater = map spelled (put .rest);
+            was = ap₂ {C = List Line} _∷_ (sym same) parted;
+            is = ap (map spelled) (put .is) ∙ map-append spelled (put .front) (given ∷ put .rest);
+            first = refl;
+            tag-same = same-tags (spelled s .tag) (put .front) (omega (arith, ap (λ (l : Line). l .tag) same)) rises (put .tag-at-most);
+            tag-greater = every-mapped (λ l. ltb tag (l .tag)) spelled (put .rest) ∙ put .tag-greater;
           }
       go false e rest k =
           let moved = rest k in
@@ -204,6 +177,7 @@ module _ (given : List ℕ) where
             greater = moved .greater;
             was = ap (λ (ls : List Line). spelled s ∷ ls) (moved .was);
             is = rw (le-ltb tag (spelled s .tag) up) (ap (λ (ls : List Line). spelled s ∷ ls) (moved .is));
+            first = rw e (moved .first);
             tag-same = moved .tag-same;
             tag-greater = moved .tag-greater;
           }

@@ -9,7 +9,7 @@ use Rattle.cycle.specs.Tree.{Settings, settings}
 use Rattle.cycle.specs.Changes.{listIn, givenConditions, arrival}
 use Rattle.cycle.specs.declared.changes.GivenJudged.{GivenJudged}
 use Rattle.cycle.specs.Inner.Changing.{GivenTold}
-use Rattle.cycle.proofs.Changing.GivenJudging.{given-any-copies}
+use Rattle.cycle.proofs.Changing.GivenJudging.{told-any-copies}
 use Rattle.cycle.proofs.Changing.ChangeAnswers.{given-refused, change-refused}
 use Rattle.cycle.proofs.changes.arrive.Statement.{statement}
 use Rattle.cycle.proofs.changes.arrive.Tie as tie
@@ -31,10 +31,8 @@ told : (c : tie.After-judge-given) {r : GivenJudged} → c .judge-given .result 
     let s = start c in GivenTold (givenConditions (set s) (bytes s) (s .args .lines) (line s)) (listIn (bytes s) (s .args .lines)) r
 told c {r} e =
     let s = start c in
-    subst (λ cs. GivenTold cs (listIn (bytes s) (s .args .lines)) r)
-    (given-any-copies (s .args .n) (s .args .p) (s .args .layout) 0 (s .args .copies) (bytes s) (s .args .lines) (line s))
-    (subst (GivenTold (givenConditions (settings (s .args .n) (s .args .p) (s .args .layout) 0) (bytes s) (s .args .lines) (line s)) (listIn (bytes s) (s .args .lines))) e
-    (c .judge-given .ensures))
+    told-any-copies (s .args .n) (s .args .p) (s .args .layout) 0 (s .args .copies) (bytes s) (s .args .lines) (line s) r
+    (subst (GivenTold _ (listIn (bytes s) (s .args .lines))) e (c .judge-given .ensures))
 
 arrive-judged-requires : tie.Need-arrive-judged-requires
 arrive-judged-requires c κs = let found = c .before .before .before in told (found .before .before) (found .told2 .given .1)
