@@ -1,13 +1,14 @@
 -- Document 02, C-14, "Skips come and go": a line arrives in a list or is taken out of it, the list lying in a lent buffer, and
 -- the changed list's cycle is built in another.
 -- Assumes nothing.
+use mathlib.Core.Path.{_≡_}
 use Prim.Native.Nat.{ℕ, suc, _*_}
 use mathlib.Core.Bool.{Bool, _&&_, _||_, not}
 use mathlib.Core.Option.{Option, none, some}
 use mathlib.Core.List.{List, [], _∷_, _++_}
 use lib.Dec.{leb, ltb, eqb}
 use lib.ListN.{length, take}
-use Rattle.columns.specs.Lists.{pick, joined, any}
+use Rattle.columns.specs.Lists.{pick, joined, any, onto}
 use Rattle.columns.specs.PrintedNumbers.{blanks}
 use Rattle.buckets.specs.declared.Line.{Line}
 use Rattle.buckets.specs.Lengths.{lineLength, linesMost}
@@ -141,6 +142,12 @@ outcome none s c room =
       list = c .list ++ c .behind;
       cycle = build s (c .list) room .output;
     }
+
+-- An answer, and the list's buffer and the cycle's, each before the call and after it, meet an outcome: the answer has its
+-- numbers, a buffer begins with its bytes, and behind them every byte stays. Of a refusal these are no bytes, so all stay.
+abbrev pub Meets : Outcome → Changed → List ℕ → List ℕ → List ℕ → List ℕ → Type 0
+Meets o r list listAfter cycle cycleAfter =
+    (numbers r ≡ numbers (o .answer)) × (listAfter ≡ onto (o .list) list) × (cycleAfter ≡ onto (o .cycle) cycle)
 
 -- a change of the list that lies in `buffer`, `lines` lines long, by the given line, its cycle's buffer having room for `room`
 -- bytes

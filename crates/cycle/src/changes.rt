@@ -23,7 +23,7 @@ ghost use mathlib.Core.Bool.{true};
 ghost use mathlib.Core.Option.{none};
 ghost use Prim.Native.Nat.{_+_, _-_, _*_, _≤_};
 ghost use lib.ListN.{length, take, drop};
-ghost use Rattle.columns.specs.Lists.{put, onto};
+ghost use Rattle.columns.specs.Lists.{put};
 ghost use Rattle.buckets.specs.Lengths.{lineColumnsWidth, lineLength, linesMost, bucketLength};
 ghost use Rattle.buckets.specs.ListLine.{spelled, taken, listLines};
 ghost use Rattle.buckets.specs.Inner.Columns.{readPlain, PlainList};
@@ -251,14 +251,8 @@ fn arrive_judged(
     requires { ⌜ (firstRefusal (givenConditions (settings n p layout copies) (now buffer) lines (now given)) ≡ none) ×
         (plain ≡ true → PlainList (listIn (now buffer) lines)) ⌝ }
     ensures { λ r.
-        ⌜ (Changes.numbers r ≡
-        Changes.numbers (Changes.arrive (settings n p layout copies) (now (buffer .entry)) lines (now (given .entry)) (length (now (out .entry))) .answer)) ×
-        (now (buffer .exit) ≡
-        onto (Changes.arrive (settings n p layout copies) (now (buffer .entry)) lines (now (given .entry)) (length (now (out .entry))) .list)
-        (now (buffer .entry))) ×
-        (now (out .exit) ≡
-        onto (Changes.arrive (settings n p layout copies) (now (buffer .entry)) lines (now (given .entry)) (length (now (out .entry))) .cycle)
-        (now (out .entry))) ⌝ }
+        ⌜ Changes.Meets (Changes.arrive (settings n p layout copies) (now (buffer .entry)) lines (now (given .entry)) (length (now (out .entry))))
+        r (now (buffer .entry)) (now (buffer .exit)) (now (out .entry)) (now (out .exit)) ⌝ }
 {
     if lines == Line::LINES_MOST {
         return Changed::Refused(16, 0);
@@ -297,14 +291,8 @@ fn take_out_judged(
     requires { ⌜ (firstRefusal (givenConditions (settings n p layout copies) (now buffer) lines (now given)) ≡ none) ×
         (plain ≡ true → PlainList (listIn (now buffer) lines)) ⌝ }
     ensures { λ r.
-        ⌜ (Changes.numbers r ≡
-        Changes.numbers (Changes.takeOut (settings n p layout copies) (now (buffer .entry)) lines (now (given .entry)) (length (now (out .entry))) .answer)) ×
-        (now (buffer .exit) ≡
-        onto (Changes.takeOut (settings n p layout copies) (now (buffer .entry)) lines (now (given .entry)) (length (now (out .entry))) .list)
-        (now (buffer .entry))) ×
-        (now (out .exit) ≡
-        onto (Changes.takeOut (settings n p layout copies) (now (buffer .entry)) lines (now (given .entry)) (length (now (out .entry))) .cycle)
-        (now (out .entry))) ⌝ }
+        ⌜ Changes.Meets (Changes.takeOut (settings n p layout copies) (now (buffer .entry)) lines (now (given .entry)) (length (now (out .entry))))
+        r (now (buffer .entry)) (now (buffer .exit)) (now (out .entry)) (now (out .exit)) ⌝ }
 {
     let end = (LINE * lines) as usize;
     let place = first_equal(
@@ -342,14 +330,8 @@ pub fn arrive(
     out: &mut [u8],
 ) -> Changed
     ensures { λ r.
-        ⌜ (Changes.numbers r ≡
-        Changes.numbers (Changes.arrive (settings n p layout copies) (now (buffer .entry)) lines (now (given .entry)) (length (now (out .entry))) .answer)) ×
-        (now (buffer .exit) ≡
-        onto (Changes.arrive (settings n p layout copies) (now (buffer .entry)) lines (now (given .entry)) (length (now (out .entry))) .list)
-        (now (buffer .entry))) ×
-        (now (out .exit) ≡
-        onto (Changes.arrive (settings n p layout copies) (now (buffer .entry)) lines (now (given .entry)) (length (now (out .entry))) .cycle)
-        (now (out .entry))) ⌝ }
+        ⌜ Changes.Meets (Changes.arrive (settings n p layout copies) (now (buffer .entry)) lines (now (given .entry)) (length (now (out .entry))))
+        r (now (buffer .entry)) (now (buffer .exit)) (now (out .entry)) (now (out .exit)) ⌝ }
 {
     let told = judge_given(buffer, lines, given, n, p, layout);
     match told {
@@ -373,14 +355,8 @@ pub fn take_out(
     out: &mut [u8],
 ) -> Changed
     ensures { λ r.
-        ⌜ (Changes.numbers r ≡
-        Changes.numbers (Changes.takeOut (settings n p layout copies) (now (buffer .entry)) lines (now (given .entry)) (length (now (out .entry))) .answer)) ×
-        (now (buffer .exit) ≡
-        onto (Changes.takeOut (settings n p layout copies) (now (buffer .entry)) lines (now (given .entry)) (length (now (out .entry))) .list)
-        (now (buffer .entry))) ×
-        (now (out .exit) ≡
-        onto (Changes.takeOut (settings n p layout copies) (now (buffer .entry)) lines (now (given .entry)) (length (now (out .entry))) .cycle)
-        (now (out .entry))) ⌝ }
+        ⌜ Changes.Meets (Changes.takeOut (settings n p layout copies) (now (buffer .entry)) lines (now (given .entry)) (length (now (out .entry))))
+        r (now (buffer .entry)) (now (buffer .exit)) (now (out .entry)) (now (out .exit)) ⌝ }
 {
     let told = judge_given(buffer, lines, given, n, p, layout);
     match told {

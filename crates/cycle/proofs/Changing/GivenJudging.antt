@@ -85,11 +85,12 @@ unfolding givenConditions
 given-any-copies n p layout c d buffer lines given = rw (any-copies n p layout c d)
 
 pub told-any-copies :
-    (n p layout c d : ℕ) (buffer : List ℕ) (lines : ℕ) (given : List ℕ) (r : GivenJudged) →
-    GivenTold (givenConditions (settings n p layout c) buffer lines given) (listIn buffer lines) r →
+    (n p layout c d : ℕ) (buffer : List ℕ) (lines : ℕ) (given : List ℕ) (found r : GivenJudged) → found ≡ r →
+    GivenTold (givenConditions (settings n p layout c) buffer lines given) (listIn buffer lines) found →
     GivenTold (givenConditions (settings n p layout d) buffer lines given) (listIn buffer lines) r
-told-any-copies n p layout c d buffer lines given r h =
-    subst (λ cs. GivenTold cs (listIn buffer lines) r) (given-any-copies n p layout c d buffer lines given) h
+told-any-copies n p layout c d buffer lines given found r e h =
+    subst (λ cs. GivenTold cs (listIn buffer lines) r) (given-any-copies n p layout c d buffer lines given)
+    (subst (GivenTold (givenConditions (settings n p layout c) buffer lines given) (listIn buffer lines)) e h)
 
 -- ---- 3 and 4
 

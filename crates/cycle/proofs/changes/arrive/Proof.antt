@@ -1,6 +1,6 @@
 -- `cycle::changes::arrive` meets its contract: 1 to 4, and then what is done with a list and a line that pass them.
 -- Assumes nothing.
-use mathlib.Core.Path.{_≡_, subst}
+use mathlib.Core.Path.{_≡_}
 use mathlib.Core.List.{List}
 use Prim.Native.Nat.{ℕ}
 use lib.ListN.{length}
@@ -31,8 +31,8 @@ told : (c : tie.After-judge-given) {r : GivenJudged} → c .judge-given .result 
     let s = start c in GivenTold (givenConditions (set s) (bytes s) (s .args .lines) (line s)) (listIn (bytes s) (s .args .lines)) r
 told c {r} e =
     let s = start c in
-    told-any-copies (s .args .n) (s .args .p) (s .args .layout) 0 (s .args .copies) (bytes s) (s .args .lines) (line s) r
-    (subst (GivenTold _ (listIn (bytes s) (s .args .lines))) e (c .judge-given .ensures))
+    told-any-copies (s .args .n) (s .args .p) (s .args .layout) 0 (s .args .copies) (bytes s) (s .args .lines) (line s)
+    (c .judge-given .result) r e (c .judge-given .ensures)
 
 arrive-judged-requires : tie.Need-arrive-judged-requires
 arrive-judged-requires c κs = let found = c .before .before .before in told (found .before .before) (found .told2 .given .1)
