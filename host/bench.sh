@@ -1,8 +1,8 @@
 #!/bin/sh
-# The library's calls against those of the reference, at 1,000, 10,000 and 40,000 lines, and at 10,000 for a list full of zeros
-# and for changes of a list: instructions a bucket, counted by callgrind as the difference between one round and two, and
-# nanoseconds a bucket, the best of several rounds. The growth is that of a bucket's cost from the size before, for library and
-# reference: 1.00 is linear.
+# The library's calls against those of the reference, at 1,000, 10,000 and 40,000 lines, and at 10,000 for a list full of zeros,
+# for changes of a list, for sizing and for a bucket's line: instructions a bucket, for sizing a call, counted by callgrind as
+# the difference between one round and two, and nanoseconds, the best of several rounds. The growth is that of a bucket's cost
+# from the size before, for library and reference: 1.00 is linear.
 # Usage: bench.sh, some three minutes
 set -e
 cd "$(dirname "$0")"
@@ -98,3 +98,10 @@ rows yard arrive - 8 8 1 1
 rows yard take_out - 8 8 1 1
 rows yard arrive - 2 1 1 4
 rows yard take_out - 2 1 1 4
+
+header "The first line of each bucket, and, for a call, a cycle sized"
+rows yard line - 8 8 1 1
+rows yard line - 2 1 1 4
+rows yard size - 8 8 1 1
+rows yard size - 2 1 1 4
+rows yard size - 8 8 2 4

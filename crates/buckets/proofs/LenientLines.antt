@@ -182,7 +182,7 @@ module _ (s : List ℕ) where
         let rest : List ℕ = take (tareWidth - 1) (drop (suc tareStart) s) in
         let is : value 0 (take tareWidth (drop tareStart s)) ≡ (0 + (c - 48)) * 10 ^ length rest + value 0 rest =
         ap (value 0) tare-columns ∙ value-behind (0 + (c - 48)) rest in
-        let all : value 0 (take tareWidth (drop tareStart s)) ≡ (0 + (c - 48)) * 100000 + value 0 rest = rw tare-rest at is in
+        let all : value 0 (take tareWidth (drop tareStart s)) ≡ (0 + (c - 48)) * 10 ^ (tareWidth - 1) + value 0 rest = rw tare-rest at is in
         omega (arith, line-fits (spelled s) (r .in-range) .small-tare, all))
 
     pub tag-over : {x : ℕ} → x ≡ value 0 (take tagWidth s) → tagMost < x → 18446744073709551615 ≡ tagOrMisprint (readLine s)

@@ -291,7 +291,7 @@ fn spelled_columns(text: &[u8], at: usize, width: usize) -> u64
     let mut i = 0;
     while i < width {
         let c = text[at + i];
-        x = x * 10;
+        x = x * columns::ten_to(1);
         if 48 < c {
             x += wide(c - 48);
         }

@@ -33,7 +33,7 @@ fn digits(part: &[u8], at: usize) -> Figure
         if NINE < c {
             return Figure::NoNumber;
         }
-        x = x * 10 + (c - ZERO) as u64;
+        x = x * columns::ten_to(1) + (c - ZERO) as u64;
         i += 1;
     }
     Figure::Value(x)

@@ -9,7 +9,6 @@ pub mod Answered
 pub mod Put
 pub mod FromTheRight
 pub mod Padded
-pub mod Table
 pub mod Places
 pub mod Lenient
 pub mod Rows

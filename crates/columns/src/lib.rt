@@ -33,26 +33,26 @@ pub const LAST: u8 = 2;
 // What is answered of misprinted columns in the place of their number.
 pub const MISPRINT: u64 = 18446744073709551615;
 
-// The powers of ten from 1 to 10^9.
-const TENS: [u64; 10] = [
-    1,
-    10,
-    100,
-    1000,
-    10000,
-    100000,
-    1000000,
-    10000000,
-    100000000,
-    1000000000,
-];
+// n to the power e, by multiplying.
+pub fn power(n: u64, e: usize) -> u64
+    requires { ⌜ (1 ≤ n) × (n ^ e < 2 ^ 64) ⌝ }
+    ensures { λ r. ⌜ r ≡ n ^ e ⌝ }
+{
+    let mut x = 1;
+    let mut done = 0;
+    while done < e {
+        x = x * n;
+        done += 1;
+    }
+    x
+}
 
-// The power of ten that has e zeros.
+// Ten to the power e, for each power of ten that a u64 holds (document 02, C-15).
 pub fn ten_to(e: usize) -> u64
-    requires { ⌜ e < 10 ⌝ }
+    requires { ⌜ e < 20 ⌝ }
     ensures { λ r. ⌜ r ≡ 10 ^ e ⌝ }
 {
-    TENS[e]
+    power(10, e)
 }
 
 // Blanks in every column.
@@ -71,24 +71,26 @@ pub fn print_digits(part: &mut [u8], x: u64)
     requires { ⌜ now part ≡ blanks (length (now part)) ⌝ }
     ensures { λ _. ⌜ now (part .exit) ≡ print (length (now (part .entry))) x ⌝ }
 {
+    let ten = ten_to(1);
+    let hundred = ten_to(2);
     let mut i = part.len();
     let mut rest = x;
     while 1 < i {
-        if rest < 10 {
+        if rest < ten {
             part[i - 1] = ZERO + rest as u8;
             return;
         }
-        let two = (rest % 100) as u8;
-        part[i - 1] = ZERO + two % 10;
-        part[i - 2] = ZERO + two / 10;
+        let two = rest % hundred;
+        part[i - 1] = ZERO + (two % ten) as u8;
+        part[i - 2] = ZERO + (two / ten) as u8;
         i -= 2;
-        rest = rest / 100;
+        rest = rest / hundred;
         if rest == 0 {
             return;
         }
     }
     if i == 1 {
-        part[0] = ZERO + (rest % 10) as u8;
+        part[0] = ZERO + (rest % ten) as u8;
     }
 }
 
@@ -243,7 +245,7 @@ pub fn lenient_number(part: &[u8]) -> u64
     let mut x = 0;
     let mut i = 0;
     while i < part.len() {
-        x = x * 10 + (part[i] % 16) as u64;
+        x = x * ten_to(1) + (part[i] % 16) as u64;
         i += 1;
     }
     x

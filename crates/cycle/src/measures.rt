@@ -2,6 +2,7 @@
 use super::Figures;
 use super::Judged;
 use buckets::Bucket;
+use columns;
 ghost use mathlib.Core.Path.{_≡_};
 ghost use mathlib.Core.Bool.{true};
 ghost use mathlib.Core.List.{[]};
@@ -56,13 +57,7 @@ pub fn power(n: u64, h: usize) -> u64
     requires { ⌜ (2 ≤ n) × (n ≤ entriesMost) × (h ≤ levelsMost) ⌝ }
     ensures { λ r. ⌜ r ≡ n ^ h ⌝ }
 {
-    let mut x = 1;
-    let mut i = 0;
-    while i < h {
-        x = x * n;
-        i += 1;
-    }
-    x
+    columns::power(n, h)
 }
 
 // The index buckets of a full subtree of height h.

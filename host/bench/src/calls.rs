@@ -17,12 +17,16 @@ pub trait Calls {
     fn arrive(list: &mut [u8], lines: u64, line: &[u8], s: Settings, out: &mut [u8]) -> u64;
     /// A line is taken out of it, likewise.
     fn take_out(list: &mut [u8], lines: u64, line: &[u8], s: Settings, out: &mut [u8]) -> u64;
+    /// Returns the buckets of the cycle of so many lines.
+    fn size(lines: u64, settings: Settings) -> u64;
     /// Returns the lines read.
     fn read_back(image: &[u8], settings: Settings, out: &mut [u8]) -> u64;
     /// Returns the buckets heard.
     fn lookup(image: &[u8], tag: u64, tune_in: u64, out: &mut [u8]) -> u64;
     /// A hearing to its end, bucket by bucket; returns the buckets heard.
     fn hearing(image: &[u8], tag: u64, tune_in: u64) -> u64;
+    /// Returns the tag of line i of a bucket, 0 if it has none.
+    fn line(bucket: &[u8], i: u64) -> u64;
 }
 
 pub struct Library;
@@ -44,6 +48,12 @@ impl Calls for Library {
         let change = library::take_out(list, lines, line, s, out);
         assert_eq!(change.number, 0);
         change.n
+    }
+
+    fn size(lines: u64, [n, p, layout, copies]: Settings) -> u64 {
+        let size = library::size(lines, n, p, layout, copies, 1);
+        assert_eq!(size.number, 0);
+        size.n
     }
 
     fn read_back(image: &[u8], [n, p, layout, copies]: Settings, out: &mut [u8]) -> u64 {
@@ -72,6 +82,12 @@ impl Calls for Library {
             }
         }
     }
+
+    fn line(bucket: &[u8], i: u64) -> u64 {
+        let line = library::line(bucket, i);
+        assert_eq!(line.number, 0);
+        line.tag
+    }
 }
 
 pub struct Reference;
@@ -87,6 +103,10 @@ impl Calls for Reference {
 
     fn take_out(list: &mut [u8], lines: u64, line: &[u8], s: Settings, out: &mut [u8]) -> u64 {
         reference::take_out(list, lines, line, s, out).unwrap().n
+    }
+
+    fn size(lines: u64, [n, p, layout, copies]: Settings) -> u64 {
+        reference::size(lines, n, p, layout, copies, 1).unwrap().n
     }
 
     fn read_back(image: &[u8], [n, p, layout, copies]: Settings, out: &mut [u8]) -> u64 {
@@ -110,5 +130,9 @@ impl Calls for Reference {
                 _ => return listener.heard(),
             }
         }
+    }
+
+    fn line(bucket: &[u8], i: u64) -> u64 {
+        reference::line(bucket, i).unwrap().map_or(0, |[tag, ..]| tag)
     }
 }

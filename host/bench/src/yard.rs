@@ -12,6 +12,8 @@ use crate::calls::{Calls, Reference, Settings, BUCKET, LINE};
 const SPREAD: u64 = 40;
 /// Hearings of one round.
 const HEARINGS: u64 = 2_000;
+/// Sizings of one round.
+const SIZINGS: u64 = 1_000;
 
 /// A line arrives or is taken out.
 type Change = fn(&mut [u8], u64, &[u8], Settings, &mut [u8]) -> u64;
@@ -58,7 +60,8 @@ impl Yard {
 
     /// One round of a call; returns the buckets it built, read or heard. `step`
     /// goes through whole hearings; a line arrives before all others, and the first
-    /// is taken out.
+    /// is taken out; `line` reads the first line of each bucket. For `size` it returns
+    /// how often the cycle was sized.
     pub fn round<C: Calls>(&mut self, call: &str) -> u64 {
         let buckets = (self.image.len() / BUCKET) as u64;
         let image = black_box(&self.image[..]);
@@ -69,6 +72,16 @@ impl Yard {
             }
             "arrive" => self.change(C::arrive, printed_line(0, 8_000, 100, 100_000).into()),
             "take_out" => self.change(C::take_out, self.list[..LINE].into()),
+            "size" => {
+                let lines = (self.list.len() / LINE) as u64;
+                (0..SIZINGS).filter(|_| C::size(black_box(lines), self.settings) == buckets).count()
+                    as u64
+            }
+            "line" => {
+                let tags = image.chunks_exact(BUCKET).map(|bucket| C::line(bucket, 0));
+                black_box(tags.fold(0, u64::max));
+                buckets
+            }
             "read_back" => {
                 C::read_back(image, self.settings, black_box(&mut self.list_out));
                 buckets

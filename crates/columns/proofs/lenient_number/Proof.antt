@@ -28,7 +28,7 @@ module _ (s : List ℕ) (x i : ℕ) (o : Spelled s x i) (h : i < length s) where
       omega (arith, o .small)
 
   -- ten columns fit
-  fits : length s ≤ 10 → x * 10 + getD s i 0 % 16 < 20000000000
+  fits : length s ≤ 10 → x * 10 + getD s i 0 % 16 < 2 * 10 ^ 10
   fits few =
       let p = pow-le-pow-right {n = 10} (lit< tt) {i = i + 1} {j = 10} (omega arith) in
       omega (arith, next-small, p)
@@ -53,19 +53,28 @@ Inv-loop part x₀ i₀ x i = Spelled part x i
 abbrev μ-loop : tie.MeasureT-loop
 μ-loop part x₀ i₀ x i = length part - i
 
+abbrev start : tie.In-loop Inv-loop μ-loop → tie.Start Inv-loop μ-loop
+start c = c .before .before .before
+
 fit : (c : tie.In-loop Inv-loop μ-loop) →
-    c .before .loop .x * 10 + getD (c .before .before .args .part .now) (c .before .loop .i) 0 % 16 < 20000000000
-fit c = fits _ _ _ (c .before .loop .inv) (c .loop-test .taken) (c .before .before .pre .0)
+    c .before .loop .x * 10 + getD (start c .args .part .now) (c .before .loop .i) 0 % 16 < 2 * 10 ^ 10
+fit c = fits _ _ _ (c .before .loop .inv) (c .loop-test .taken) (start c .pre .0)
+
+-- the power of ten that the number is multiplied by
+ten : (c : tie.After-ten-to Inv-loop μ-loop) → c .ten-to .result ≡ 10
+ten c = c .ten-to .ensures
 
 loop-again : tie.Need-loop-again Inv-loop μ-loop
 loop-again c =
-    let t = c .before in
-    let s = t .before .before in
-    next _ _ _ (t .before .loop .inv) (t .loop-test .taken) (column-worth (s .args .part .now) (t .before .loop .i) (s .pre .1) (t .loop-test .taken))
+    let t = c .before .before in
+    let s = start t in
+    rw (ten (c .before))
+    (next _ _ _ (t .before .loop .inv) (t .loop-test .taken)
+    (column-worth (s .args .part .now) (t .before .loop .i) (s .pre .1) (t .loop-test .taken)))
 
 pub lenient-number-spec : {M : Type 1} → statement M
 lenient-number-spec =
     tie.close
-    (tie.spec Inv-loop μ-loop (λ c. none-read _) (λ c. omega (arith, fit c)) (λ c. omega arith) (λ c. omega arith)
-    (λ c. omega (arith, fit (c .before))) (λ c. omega arith) (λ c. omega arith) loop-again
-    (λ c. all-read _ _ _ (c .before .loop .inv) (c .loop-test .left)))
+    (tie.spec Inv-loop μ-loop (λ c. none-read _) (λ c κs. lit< tt) (λ c. rw (ten c) (omega (arith, fit (c .before))))
+    (λ c. omega arith) (λ c. omega arith) (λ c. rw (ten (c .before)) (omega (arith, fit (c .before .before)))) (λ c. omega arith)
+    (λ c. omega arith) loop-again (λ c. all-read _ _ _ (c .before .loop .inv) (c .loop-test .left)))

@@ -6,6 +6,7 @@ use mathlib.Core.Path.{_≡_, refl, _∙_, sym, ap}
 use mathlib.Core.List.{List, _++_, append-nil}
 use native.Mathlib.Nat.{div-one}
 use native.Mathlib.Omega.{arith}
+use lib.Dec.{lit<}
 use lib.ListN.{length, set, length-append, length-set}
 use Rattle.columns.proofs.Rows.{_▹_, _▹₂_, _▹₃_}
 use Rattle.columns.specs.PrintedNumbers.{print, blanks}
@@ -51,10 +52,10 @@ digit part x n i rest v j q o p ev ej eq =
 
 -- two more
 two-digits : (part : List ℕ) (x n i rest : ℕ) → Open part x n i rest → 1 < i → 10 ≤ rest →
-    Written (set (set part (i - 1) (48 + rest % 100 % 10)) (i - 2) (48 + rest % 100 / 10)) x n (i - 2) (rest / 100)
+    Written (set (set part (i - 1) (48 + rest % 10 ^ 2 % 10)) (i - 2) (48 + rest % 10 ^ 2 / 10)) x n (i - 2) (rest / 10 ^ 2)
 two-digits part x n i rest o p r =
-    let one = digit part x n i rest (48 + rest % 100 % 10) (i - 1) (rest / 10) o (omega arith) (omega arith) refl refl in
-    digit _ x n (i - 1) (rest / 10) (48 + rest % 100 / 10) (i - 2) (rest / 100) (record { so-far = one; more = λ h. omega arith })
+    let one = digit part x n i rest (48 + rest % 10 ^ 2 % 10) (i - 1) (rest / 10) o (omega arith) (omega arith) refl refl in
+    digit _ x n (i - 1) (rest / 10) (48 + rest % 10 ^ 2 / 10) (i - 2) (rest / 10 ^ 2) (record { so-far = one; more = λ h. omega arith })
     (omega arith) (omega arith) (omega arith) (omega arith)
 
 long : (part : List ℕ) (x n i rest : ℕ) → Written part x n i rest → length part ≡ n
@@ -69,37 +70,69 @@ unfolding blanks
 full part x n i rest f z = let e : n ≡ f .w = omega (arith, f .whole) in rw (f .is, z, e)
 
 abbrev Inv-loop : tie.InvT-loop
-Inv-loop part₀ x i₀ rest₀ part i rest = Open part x (length part₀) i rest
+Inv-loop part₀ x ten hundred i₀ rest₀ part i rest = Open part x (length part₀) i rest
 
 abbrev μ-loop : tie.MeasureT-loop
-μ-loop part₀ x i₀ rest₀ part i rest = i
+μ-loop part₀ x ten hundred i₀ rest₀ part i rest = i
+
+abbrev start : tie.At-loop Inv-loop μ-loop → tie.Start Inv-loop μ-loop
+start c = c .before .before .before .before
+
+-- the powers of ten
+ten : (c : tie.At-loop Inv-loop μ-loop) → c .before .before .ten-to .result ≡ 10
+ten c = c .before .before .ten-to .ensures
+
+hundred : (c : tie.At-loop Inv-loop μ-loop) → c .before .ten-to2 .result ≡ 10 ^ 2
+hundred c = c .before .ten-to2 .ensures
 
 -- the columns that a turn writes are there
-inside : (c : tie.In-loop Inv-loop μ-loop) → (c .before .loop .i ≤ length (c .before .loop .part)) × (c .before .loop .i ≤ length (c .before .before .args .part .now))
+inside : (c : tie.In-loop Inv-loop μ-loop) → (c .before .loop .i ≤ length (c .before .loop .part)) × (c .before .loop .i ≤ length (start (c .before) .args .part .now))
 inside c = let f = c .before .loop .inv .so-far in (omega (arith, long _ _ _ _ _ f, f .whole), omega (arith, f .whole))
 
 -- what each way out has written
 last-digit : (c : tie.Then1 Inv-loop μ-loop) →
-    Written (set (c .before .before .loop .part) (c .before .before .loop .i - 1) (48 + c .before .before .loop .rest)) (c .before .before .before .args .x)
-    (length (c .before .before .before .args .part .now)) (c .before .before .loop .i - 1) (c .before .before .loop .rest / 10)
-last-digit c = digit _ _ _ _ _ _ _ _ (c .before .before .loop .inv) (omega arith) (omega arith) refl refl
+    Written (set (c .before .before .loop .part) (c .before .before .loop .i - 1) (48 + c .before .before .loop .rest)) (start (c .before .before) .args .x)
+    (length (start (c .before .before) .args .part .now)) (c .before .before .loop .i - 1) (c .before .before .loop .rest / 10)
+last-digit c = digit _ _ _ _ _ _ _ _ (c .before .before .loop .inv) (omega arith) (omega (arith, ten (c .before .before))) refl refl
 
 both-digits : (c : tie.Else1 Inv-loop μ-loop) →
     Written
     (set
-    (set (c .before .before .loop .part) (c .before .before .loop .i - 1) (48 + c .before .before .loop .rest % 100 % 10))
+    (set (c .before .before .loop .part) (c .before .before .loop .i - 1) (48 + c .before .before .loop .rest % 10 ^ 2 % 10))
     (c .before .before .loop .i - 2)
-    (48 + c .before .before .loop .rest % 100 / 10))
-    (c .before .before .before .args .x) (length (c .before .before .before .args .part .now)) (c .before .before .loop .i - 2) (c .before .before .loop .rest / 100)
-both-digits c = two-digits _ _ _ _ _ (c .before .before .loop .inv) (c .before .loop-test .taken) (c .if1 .left)
+    (48 + c .before .before .loop .rest % 10 ^ 2 / 10))
+    (start (c .before .before) .args .x) (length (start (c .before .before) .args .part .now)) (c .before .before .loop .i - 2) (c .before .before .loop .rest / 10 ^ 2)
+both-digits c =
+    two-digits _ _ _ _ _ (c .before .before .loop .inv) (c .before .loop-test .taken) (omega (arith, c .if1 .left, ten (c .before .before)))
 
 first-column : (c : tie.Then3 Inv-loop μ-loop) →
-    Written (set (c .before .before .loop .part) 0 (48 + c .before .before .loop .rest % 10)) (c .before .before .before .args .x)
-    (length (c .before .before .before .args .part .now)) 0 (c .before .before .loop .rest / 10)
+    Written (set (c .before .before .loop .part) 0 (48 + c .before .before .loop .rest % 10)) (start (c .before .before) .args .x)
+    (length (start (c .before .before) .args .part .now)) 0 (c .before .before .loop .rest / 10)
 first-column c = digit _ _ _ _ _ _ _ _ (c .before .before .loop .inv) (omega (arith, c .if3 .taken)) refl (omega (arith, c .if3 .taken)) refl
 
+-- two digits of a turn are bytes
+tens : (c : tie.Else1 Inv-loop μ-loop) → c .before .before .loop .rest % c .before .before .before .ten-to2 .result / c .before .before .before .before .ten-to .result < 10
+tens c = rw (hundred (c .before .before), ten (c .before .before)) (omega arith)
+
+ones : (c : tie.Else1 Inv-loop μ-loop) → c .before .before .loop .rest % c .before .before .before .ten-to2 .result % c .before .before .before .before .ten-to .result < 10
+ones c = rw (hundred (c .before .before), ten (c .before .before)) (omega arith)
+
+same-length-2 : tie.Need-same-length-2 Inv-loop μ-loop
+same-length-2 c =
+    let loop = c .before .before .before in
+    rw (hundred loop, ten loop) (long _ _ _ _ _ (both-digits (c .before)))
+
 returns-2 : tie.Need-returns-2 Inv-loop μ-loop
-returns-2 c = done _ _ _ _ _ (both-digits (c .before)) (omega (arith, inside (c .before .before))) (c .if2 .taken)
+returns-2 c =
+    let loop = c .before .before .before in
+    rw (hundred loop, ten loop)
+    (done _ _ _ _ _ (both-digits (c .before)) (omega (arith, inside (c .before .before))) (rw (hundred loop) at (c .if2 .taken)))
+
+loop-again : tie.Need-loop-again Inv-loop μ-loop
+loop-again c =
+    let loop = c .before .before .before in
+    rw (hundred loop, ten loop)
+    (record { so-far = both-digits (c .before); more = λ h. let some = rw (hundred loop) at (c .if2 .left) in omega (arith, some) })
 
 slice-write-part-4 : tie.Need-slice-write-part-4 Inv-loop μ-loop
 slice-write-part-4 c = let f = c .before .before .loop .inv .so-far in omega (arith, long _ _ _ _ _ f, f .whole, c .if3 .taken)
@@ -110,12 +143,19 @@ returns-4 c = full _ _ _ _ _ (c .before .before .loop .inv .so-far) (omega (arit
 pub print-digits-spec : {M : Type 1} → statement M
 print-digits-spec =
     tie.close
-    (tie.spec Inv-loop μ-loop ▹ (λ c. none _ _ _ (c .pre)) ▹₃ omega arith ▹ (λ c. omega (arith, inside (c .before)))
+    (tie.spec Inv-loop μ-loop ▹ (λ c κs. lit< tt) ▹ (λ c κs. lit< tt) ▹ (λ c. none _ _ _ (c .before .before .before .pre))
+    ▹ (λ c. omega (arith, ten (c .before .before))) ▹ (λ c. omega (arith, ten (c .before .before))) ▹ omega arith
+    ▹ (λ c. omega (arith, inside (c .before)))
     ▹ (λ c. long _ _ _ _ _ (last-digit c))
-    ▹ (λ c. done _ _ _ _ _ (last-digit c) (omega (arith, inside (c .before))) (omega arith)) ▹₃ omega arith
-    ▹ (λ c. omega (arith, inside (c .before))) ▹₂ omega arith
-    ▹ (λ c. simp length-set (omega (arith, inside (c .before)))) ▹ omega arith
-    ▹ (λ c. long _ _ _ _ _ (both-digits (c .before))) ▹ returns-2 ▹ omega arith
-    ▹ (λ c. record { so-far = both-digits (c .before); more = λ h. omega (arith, c .if2 .left) }) ▹₂ omega arith
-    ▹ slice-write-part-4 ▹ (λ c. long _ _ _ _ _ (first-column c)) ▹ (λ c. full _ _ _ _ _ (first-column c) refl)
+    ▹ (λ c. done _ _ _ _ _ (last-digit c) (omega (arith, inside (c .before))) (omega (arith, ten (c .before .before))))
+    ▹ (λ c. rw (hundred (c .before .before)) (lit< tt)) ▹ (λ c. rw (ten (c .before .before)) (lit< tt))
+    ▹ (λ c. omega (arith, ones c)) ▹ (λ c. omega (arith, ones c)) ▹ omega arith
+    ▹ (λ c. omega (arith, inside (c .before))) ▹ (λ c. rw (ten (c .before .before)) (lit< tt))
+    ▹ (λ c. omega (arith, tens c)) ▹ (λ c. omega (arith, tens c)) ▹ omega arith
+    ▹ (λ c. simp length-set (omega (arith, inside (c .before)))) ▹ omega arith ▹ (λ c. rw (hundred (c .before .before)) (lit< tt))
+    ▹ same-length-2 ▹ returns-2 ▹ omega arith ▹ loop-again
+    ▹ (λ c. rw (ten (c .before .before)) (lit< tt)) ▹ (λ c. rw (ten (c .before .before)) (omega arith))
+    ▹ (λ c. rw (ten (c .before .before)) (omega arith)) ▹ slice-write-part-4
+    ▹ (λ c. rw (ten (c .before .before)) (long _ _ _ _ _ (first-column c)))
+    ▹ (λ c. rw (ten (c .before .before)) (full _ _ _ _ _ (first-column c) refl))
     ▹ (λ c. long _ _ _ _ _ (c .before .before .loop .inv .so-far)) ▹ returns-4)

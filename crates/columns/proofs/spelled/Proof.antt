@@ -61,7 +61,7 @@ module _ (s : List ℕ) (x i : ℕ) (o : Spelled s x i) (h : i < length s) where
       }
 
   -- ten columns fit
-  fits : length s ≤ 10 → x * 10 + getD s i 0 - 48 < 10000000000
+  fits : length s ≤ 10 → x * 10 + getD s i 0 - 48 < 10 ^ 10
   fits t = lt-of-lt-of-le next-small (pow-le-pow-right {n = 10} (lit< tt) {i = i + 1} {j = 10} (omega arith))
 
 none-read : (s : List ℕ) → every digit s ≡ true → Spelled s 0 0
@@ -84,7 +84,7 @@ digit-at : (c : tie.In-loop Inv-loop μ-loop) → Digit (getD (start c .args .pa
 digit-at c = next-digit _ _ _ (c .before .loop .inv) (c .loop-test .taken)
 
 fit : (c : tie.In-loop Inv-loop μ-loop) →
-    c .before .loop .x * 10 + getD (start c .args .part .now) (c .before .loop .i) 0 - 48 < 10000000000
+    c .before .loop .x * 10 + getD (start c .args .part .now) (c .before .loop .i) 0 - 48 < 10 ^ 10
 fit c = fits _ _ _ (c .before .loop .inv) (c .loop-test .taken) (start c .pre .0)
 
 -- the power of ten that the number is multiplied by

@@ -1,27 +1,14 @@
--- `columns::ten_to` meets its contract: the table's rule is a test at each of its ten entries, which antt computes.
+-- `columns::ten_to` meets its contract: 10^19 is the largest power of ten that 64 bits hold.
 -- Assumes nothing.
-use mathlib.Core.List.{List, [], _∷_}
-use mathlib.Core.Bool.{Bool}
-use Prim.Native.Nat.{ℕ, _^_}
-use lib.Dec.{eqb, eqb→eq}
-use lib.ListN.{getD}
-use borrow.Author.Needs.{needs}
-use Rattle.columns.proofs.Rows.{_▹_, _▹₂_}
-use Rattle.columns.proofs.Table.{at}
+use native.Mathlib.Nat.{pow-le-pow-right}
+use native.Mathlib.Omega.{arith}
+use lib.Dec.{lit<}
 use Rattle.columns.proofs.ten_to.Statement.{statement}
 use Rattle.columns.proofs.ten_to.Tie as tie
 
-tens : List ℕ
-tens = 1 ∷ 10 ∷ 100 ∷ 1000 ∷ 10000 ∷ 100000 ∷ 1000000 ∷ 10000000 ∷ 100000000 ∷ 1000000000 ∷ []
-
-right : ℕ → ℕ → Bool
-right k x = eqb x (10 ^ k)
-
-returns : tie.Need-returns
-unfolding tens right
-returns c = eqb→eq (getD tens (c .args .e) 0) (10 ^ (c .args .e)) (at right tens tt (c .args .e) (search needs))
+power-requires : tie.Need-power-requires
+power-requires c κs =
+    (lit< tt, omega (arith, pow-le-pow-right {n = 10} (lit< tt) {i = c .args .e} {j = 19} (omega arith)))
 
 pub ten-to-spec : {M : Type 1} → statement M
-ten-to-spec =
-    tie.close
-    (tie.spec ▹₂ search needs ▹ returns)
+ten-to-spec = tie.close (tie.spec power-requires (λ c. c .power .ensures))

@@ -1,4 +1,4 @@
--- The next power, and the sizes of full subtrees.
+-- The sizes of full subtrees.
 -- Assumes nothing.
 use mathlib.Core.Path.{_≡_, ap, _∙_}
 use Prim.Native.Nat.{ℕ, zero, suc, _+_, _*_, _^_, _≤_}
@@ -6,10 +6,6 @@ use native.Mathlib.Nat.{pow-succ', pow-zero, mul-comm, add-mul, one-mul, mul-le-
 use native.Mathlib.Numerals.{add-one}
 use native.Mathlib.Omega.{arith}
 use Rattle.cycle.specs.Judging.{fullSize}
-
--- the next power
-pub power-next : (n h : ℕ) → n ^ (h + 1) ≡ n ^ h * n
-power-next n h = rw (add-one h) (pow-succ' n h ∙ mul-comm n (n ^ h))
 
 pub full-next : (n h : ℕ) → fullSize n (h + 1) ≡ fullSize n h * n + 1
 full-next n h = rw (add-one h)

@@ -47,27 +47,38 @@ loop-holds c =
     let whole : c .before .args .width - 0 ≡ c .before .args .width = omega arith in
     (omega arith, omega arith, rw (add-zero, whole))
 
+-- the power of ten that the number is multiplied by
+ten : (c : tie.After-ten-to Inv-loop μ-loop) → c .ten-to .result ≡ 10
+ten c = c .ten-to .ensures
+
 mul-x : tie.Need-mul-x Inv-loop μ-loop
-mul-x c = let b = small (c .before .before .loop .i) (c .before .before .loop .x) (omega arith) (omega arith) in omega arith
+mul-x c =
+    let l = c .before .before .before .loop in
+    let b = small (l .i) (l .x) (omega arith) (omega arith) in
+    rw (ten c) (omega arith)
 
 add-x : tie.Need-add-x Inv-loop μ-loop
 add-x c =
-    let at = c .before .before .before .before .before .before .args .at in
-    let l = c .before .before .before .before .loop in
+    let read = c .before .before .before in
+    let at = read .before .before .before .before .args .at in
+    let l = read .before .before .loop in
     let b = small (l .i) (l .x) (omega arith) (omega arith) in
-    omega (arith, c .before .before .shared-slice-known2 .given (at + l .i), c .wide .ensures)
+    rw (ten (c .before .before)) (omega (arith, read .shared-slice-known2 .given (at + l .i), c .wide .ensures))
 
 loop-again : tie.Need-loop-again Inv-loop μ-loop
 loop-again c =
-    let text = c .before .before .before .before .before .args .text .now in
-    let at = c .before .before .before .before .before .args .at in
-    let i = c .before .before .before .loop .i in
-    let x = c .before .before .before .loop .x in
-    let inv = c .before .before .before .loop .inv in
-    let is : c .if1 .x ≡ x * 10 + (getD text (at + i) 0 - 48) = ⊎-elim (λ w. omega (arith, w .1 .ensures)) (λ w. omega arith) (c .if1 .came) in (
+    let read = c .before .before in
+    let start = read .before .before .before .before in
+    let text = start .args .text .now in
+    let at = start .args .at in
+    let i = read .before .before .loop .i in
+    let x = read .before .before .loop .x in
+    let inv = read .before .before .loop .inv in
+    let is : c .if1 .x ≡ x * 10 + (getD text (at + i) 0 - 48) =
+    rw (← ten (c .before)) (⊎-elim (λ w. omega (arith, w .1 .ensures)) (λ w. omega arith) (c .if1 .came)) in (
       omega arith,
-      column-small (getD text (at + i) 0) i x (c .if1 .x) (omega (arith, c .before .shared-slice-known2 .given (at + i))) is (inv .1),
-      inv .2 ∙ column-read text at (c .before .before .before .before .before .args .width) i x (c .if1 .x) (omega arith) (omega arith) is,
+      column-small (getD text (at + i) 0) i x (c .if1 .x) (omega (arith, read .shared-slice-known2 .given (at + i))) is (inv .1),
+      inv .2 ∙ column-read text at (start .args .width) i x (c .if1 .x) (omega arith) (omega arith) is,
     )
 
 returns : tie.Need-returns Inv-loop μ-loop
@@ -79,5 +90,5 @@ returns c =
 pub spelled-columns-spec : {M : Type 1} → statement M
 spelled-columns-spec =
     tie.close
-    (tie.spec Inv-loop μ-loop ▹ loop-holds ▹₂ omega arith ▹ mul-x ▹ omega arith ▹ (λ c κs. tt) ▹ add-x ▹₂ omega arith
+    (tie.spec Inv-loop μ-loop ▹ loop-holds ▹₂ omega arith ▹ (λ c κs. lit< tt) ▹ mul-x ▹ omega arith ▹ (λ c κs. tt) ▹ add-x ▹₂ omega arith
     ▹ loop-again ▹ returns)

@@ -17,7 +17,7 @@ digit-more at i x d h e k =
     omega arith
 
 -- at most 11 digits
-spelt : (at i x : ℕ) → i < 12 → x < 10 ^ (i - at) → x < 100000000000
+spelt : (at i x : ℕ) → i < 12 → x < 10 ^ (i - at) → x < 10 ^ 11
 spelt at i x h e =
     let few : i - at ≤ 11 = omega arith in
     omega (arith, pow-le-pow-right {n = 10} (lit< tt) {i = i - at} {j = 11} few)
@@ -29,22 +29,27 @@ abbrev μ-loop : tie.MeasureT-loop
 μ-loop part at x₀ i₀ x i = 12 - i
 
 -- x before a turn's digit
-small : (c : tie.At-loop Inv-loop μ-loop) → c .loop .i < 12 → c .loop .x < 100000000000
-small c h = spelt (c .before .args .at) (c .loop .i) (c .loop .x) h (c .loop .inv .2)
+small : (c : tie.At-loop Inv-loop μ-loop) → c .loop .i < 12 → c .loop .x < 10 ^ 11
+small c h = spelt (c .before .before .args .at) (c .loop .i) (c .loop .x) h (c .loop .inv .2)
 
 loop-holds : tie.Need-loop-holds Inv-loop μ-loop
 loop-holds c =
-    let none : c .args .at - c .args .at ≡ 0 = omega arith in
+    let none : c .before .args .at - c .before .args .at ≡ 0 = omega arith in
     (omega arith, omega arith, rw none (lit< tt))
+
+-- the power of ten that the number is multiplied by
+ten : (c : tie.After-ten-to Inv-loop μ-loop) → c .ten-to .result ≡ 10
+ten c = c .ten-to .ensures
 
 loop-again : tie.Need-loop-again Inv-loop μ-loop
 loop-again c =
-    let s = c .before .before .before .before in
-    (omega arith, omega arith, digit-more (s .before .args .at) (s .loop .i) (s .loop .x) _ (s .loop .inv .0) (s .loop .inv .2) (omega arith))
+    let s = c .before .before .before .before .before in
+    (omega arith, omega arith, rw (ten c) (digit-more (s .before .before .args .at) (s .loop .i) (s .loop .x) _ (s .loop .inv .0) (s .loop .inv .2) (omega arith)))
 
 pub digits-spec : {M : Type 1} → statement M
 digits-spec =
     tie.close
     (tie.spec Inv-loop μ-loop loop-holds ▹ (λ c. omega arith) ▹ (λ c. tt) ▹ (λ c. tt)
-    ▹ (λ c. omega (arith, small (c .before .before .before .before) (omega arith))) ▹ (λ c. omega arith)
-    ▹ (λ c. omega (arith, small (c .before .before .before .before) (omega arith))) ▹₂ omega arith ▹ loop-again ▹ (λ c. tt))
+    ▹ (λ c κs. lit< tt) ▹ (λ c. rw (ten c) (omega (arith, small (c .before .before .before .before .before) (omega arith))))
+    ▹ (λ c. omega arith) ▹ (λ c. rw (ten c) (omega (arith, small (c .before .before .before .before .before) (omega arith))))
+    ▹₂ omega arith ▹ loop-again ▹ (λ c. tt))
