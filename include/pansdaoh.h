@@ -21,8 +21,8 @@
  * processor runs it, with the calling convention of Linux (System V), in one
  * ELF object. Of other libraries it needs memcpy at most. Code and constants
  * take less than 48 KiB; linked with --gc-sections a program has only what it
- * calls: one that only listens (start, step, heard, elapsed, line) less than 12 KiB.
- * Each call's need of stack is given with it, at most, without what memcpy
+ * calls: one that only listens (start, step, lost, heard, elapsed, line) less than
+ * 12 KiB. Each call's need of stack is given with it, at most, without what memcpy
  * takes. There is no other memory behind the calls.
  *
  * On another processor the library cannot be linked: the toolchain compiles for
@@ -45,11 +45,12 @@ extern "C" {
  * 0.2 are to be built anew: distances in them may lead past the next cycle's
  * start, and such buckets are refused (8). From 0.3 on a list's numbers may have
  * leading zeros, and a list read back need not be the bytes that were built. 0.3.1
- * added the calls that change a list in its buffer, and the refusals 15 and 16.
+ * added the calls that change a list in its buffer, and the refusals 15 and 16. 0.3.2
+ * added pansdaoh_lost; a listener's counts stop at 4,294,967,295.
  */
 #define PANSDAOH_VERSION_MAJOR 0
 #define PANSDAOH_VERSION_MINOR 3
-#define PANSDAOH_VERSION_PATCH 1
+#define PANSDAOH_VERSION_PATCH 2
 
 #define PANSDAOH_LINE 27           /* bytes of a list line, its newline included */
 #define PANSDAOH_BUCKET 240        /* bytes of a bucket */
@@ -259,9 +260,9 @@ struct pansdaoh_found pansdaoh_lookup(const uint8_t *image, size_t image_length,
 
 /*
  * A listener is a state of eight numbers that the caller keeps, and may copy.
- * pansdaoh_start makes it; pansdaoh_step hands it back in place. The calls take
- * the numbers, so that they may lie in any memory; the struct is there for a
- * program to keep them in. What each number means is not promised.
+ * pansdaoh_start makes it; pansdaoh_step and pansdaoh_lost hand it back in place.
+ * The calls take the numbers, so that they may lie in any memory; the struct is
+ * there for a program to keep them in. What each number means is not promised.
  */
 #define PANSDAOH_STATE 8 /* numbers of a state */
 
@@ -269,7 +270,7 @@ struct pansdaoh_listener {
     uint64_t state[PANSDAOH_STATE];
 };
 
-/* The answers of a step. */
+/* The answers of a step, and to a lost bucket. */
 enum pansdaoh_step_kind {
     PANSDAOH_STEP_DOZE = 1,
     PANSDAOH_STEP_FOUND = 2,
@@ -277,7 +278,7 @@ enum pansdaoh_step_kind {
     PANSDAOH_STEP_REFUSED = 4
 };
 
-/* What a step returns. */
+/* What a step returns, and a lost bucket. */
 struct pansdaoh_step_answer {
     uint64_t answer; /* PANSDAOH_STEP_DOZE, _FOUND, _ABSENT or _REFUSED */
     uint64_t value;  /* doze: the distance; refused: the number; else 0 */
@@ -293,8 +294,9 @@ void pansdaoh_start(uint64_t state[PANSDAOH_STATE], uint64_t tag);
  * by d the next bucket to give is the one d places on. pansdaoh_line reads the
  * lines that the answer names.
  *
- * The lines of the tag are those that the steps named, once found is answered.
- * Lines taken before absent or a refusal are void.
+ * The lines of the tag are those that the steps named since the last lost bucket,
+ * if one was lost, once found is answered. Lines taken before absent, a refusal or a
+ * lost bucket are void.
  *
  * The list on air may change from cycle to cycle. No distance of a bucket leads
  * past the next cycle's start (8), where position 0 is awaited and N may be new;
@@ -312,12 +314,34 @@ void pansdaoh_start(uint64_t state[PANSDAOH_STATE], uint64_t tag);
 struct pansdaoh_step_answer pansdaoh_step(uint64_t state[PANSDAOH_STATE], const uint8_t *bucket,
                                           size_t bucket_length);
 
-#define PANSDAOH_STEP_STACK 2560 /* bytes of stack, at most; start and counts need less */
+#define PANSDAOH_STEP_STACK 2560 /* bytes of stack, at most; start, lost and counts need less */
 
-/* The buckets that the listener has taken. */
+/*
+ * Gives the listener a bucket that the radio lost, in the place of pansdaoh_step and
+ * without bytes. The answer is a doze by 1, which names no lines: the next bucket to
+ * give is the one right behind the lost one. Whatever it is, it is the tune-in anew,
+ * and lines taken before are void. If it is lost too, it is handed in as lost too.
+ *
+ * Both counts run on, and a lost bucket counts as heard. With q buckets lost in all,
+ * on a list that stays as it is, the hearing still ends with the exact lines or a
+ * true absence; it hears at most (q + 1) x (2 + k + C) buckets, and (q + 1) x 2N go
+ * by, at most. If the list changes, what is said of a step holds from the last
+ * tune-in on.
+ *
+ * A bucket that was received damaged is no lost one: it is given to pansdaoh_step,
+ * which refuses it (8).
+ *
+ * Refused by 14 alone, which changes nothing.
+ */
+struct pansdaoh_step_answer pansdaoh_lost(uint64_t state[PANSDAOH_STATE]);
+
+/* The buckets that the listener has taken, lost ones counted. Stops at 4,294,967,295. */
 uint64_t pansdaoh_heard(const uint64_t state[PANSDAOH_STATE]);
 
-/* The buckets gone by from tune-in to the last taken, both counted. */
+/*
+ * The buckets gone by from the first taken to the last, both counted, be they lost or
+ * not. Stops at 4,294,967,295.
+ */
 uint64_t pansdaoh_elapsed(const uint64_t state[PANSDAOH_STATE]);
 
 /* A line of a bucket. If refused, or if there is none, all behind is 0. */

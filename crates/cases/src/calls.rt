@@ -3,6 +3,7 @@ use super::answers::say;
 use super::answers::stop;
 use super::changes::serve_change;
 use super::hearing::hear;
+use super::hearing::hear_marked;
 use super::lent::fill;
 use super::lent::hash;
 use super::numbers::COLUMNS;
@@ -56,11 +57,14 @@ fn lookup(numbers: &Numbers, body: &[u8], lent: &mut [u8]) -> bool {
     }
 }
 
-// H: one listener, given the body's buckets.
-fn hearing(numbers: &Numbers, body: &[u8]) -> bool {
+// H, and Q with lost buckets: one listener, given the body's buckets.
+fn hearing(letter: u8, numbers: &Numbers, body: &[u8]) -> bool {
     let size = numbers[1] as usize;
     if size == 0 {
         return stop(b"error: a bucket of 0 bytes\n");
+    }
+    if letter == b'Q' {
+        return hear_marked(numbers[0], size, body);
     }
     hear(numbers[0], size, body)
 }
@@ -102,10 +106,10 @@ fn call(letter: u8, numbers: &Numbers, body: &mut [u8], lent: &mut [u8]) -> bool
         b'B' => build(numbers, body, lent),
         b'R' => read_back(numbers, body, lent),
         b'L' => lookup(numbers, body, lent),
-        b'H' => hearing(numbers, body),
+        b'H' | b'Q' => hearing(letter, numbers, body),
         b'F' => size(numbers, body),
         b'A' | b'T' => serve_change(letter, numbers, body, lent),
-        _ => stop(b"error: a letter is none of B, R, L, H, F, A, T\n"),
+        _ => stop(b"error: a letter is none of B, R, L, H, F, A, T, Q\n"),
     }
 }
 

@@ -4,7 +4,7 @@ use mathlib.Core.Path.{_≡_, sym, _∙_, ap, subst}
 use Prim.Native.Nat.{ℕ, _+_, _<_}
 use mathlib.Core.Option.{some}
 use mathlib.Core.List.{List}
-use native.Mathlib.Nat.{zero-add, mod-eq-of-lt, add-mod-left}
+use native.Mathlib.Nat.{mod-eq-of-lt, add-mod-left}
 use native.Mathlib.Omega.{arith}
 use Rattle.buckets.specs.ListLine.{listLines}
 use Rattle.cycle.specs.Tree.{Plan, plan}
@@ -13,12 +13,10 @@ use Rattle.cycle.specs.Cycle.{cycleSize, bucketAt}
 use Rattle.cycle.specs.Inner.Held.{cycleBucket}
 use Rattle.cycle.proofs.Lines.DataTags.{AcceptedPlan}
 use Rattle.cycle.proofs.Building.BuiltImage.{CycleOf}
-use Rattle.listener.specs.Listener.{start}
 use Rattle.listener.specs.Hearing.{hearing, repeated, End, endOf, elapsedIn}
 use Rattle.listener.specs.EndPlace.{endPlace, EveryEnd}
 use Rattle.listener.proofs.Lookups.Images.{BuiltCycle, built-cycle}
 use Rattle.listener.proofs.Walks.TwoCycles.{Sends, WalkTo, EndsIn, in-first, in-second, hears, told}
-use Rattle.listener.proofs.OnAir.{elapsed-gone}
 
 module _ (t : Plan) (image : List ℕ) (fits : AcceptedPlan t) (reads : CycleOf image (cycleSize t) (cycleBucket t)) (tag tune : ℕ) (early : tune < cycleSize t) where
   -- the cycle twice
@@ -44,10 +42,7 @@ module _ (t : Plan) (image : List ℕ) (fits : AcceptedPlan t) (reads : CycleOf 
   pub ends-there :
       (m : ℕ) (strays : ℕ → List ℕ) (e : End) → endOf (hearing (repeated image (cycleSize t)) strays tag tune m) ≡ some e →
       tune + elapsedIn (hearing (repeated image (cycleSize t)) strays tag tune m) ≡ endPlace t tag tune + 1
-  unfolding start
-  ends-there m strays e ended =
-      rw elapsed-gone
-      (rw zero-add at (told sends tag tune early (way (hears sends tag tune early)) m strays .ends-at e ended))
+  ends-there m strays e ended = told sends tag tune early (way (hears sends tag tune early)) m strays .ends-at e ended
 
 pub end-place : EveryEnd
 end-place s list room n built tag tune early m strays e =

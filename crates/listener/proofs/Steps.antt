@@ -9,6 +9,8 @@ pub mod Dozes
 pub mod StepBounds
 pub mod StepLeaves
 pub mod Mechanics
+pub mod EndedSteps
 pub mod SavedStates
 pub mod StartedListeners
 pub mod Told
+pub mod Uncounted

@@ -2,6 +2,7 @@
 pub mod Walk
 pub mod WalkedSteps
 pub mod Walked
+pub mod Unmarked
 pub mod TagRuns
 pub mod Target
 pub mod DataLines

@@ -4,11 +4,13 @@ pub mod Hearing
 pub mod Lookup
 pub mod Demand3
 pub mod OnAir
+pub mod Lost
 pub mod EndPlace
 pub mod HeardLimit
 pub mod SampleYard
 pub mod Readings
 pub mod ChangedList
+pub mod LostTable
 pub mod State
 pub mod Started
 pub mod Inner

@@ -1,7 +1,7 @@
--- Document 01, "The listener", with document 02, C-12: its state, its start and its step, with the conditions 14, 8, 9 and 10 in
--- that order.
+-- Document 01, "The listener", with document 02, C-12 and C-16: its state, its start and its step, with the conditions 14, 8, 9
+-- and 10 in that order, and what it makes of a lost bucket.
 -- Assumes nothing.
-use Prim.Native.Nat.{ℕ, suc, _+_}
+use Prim.Native.Nat.{ℕ, suc, _+_, min}
 use mathlib.Core.Bool.{Bool, true, false, _&&_, _||_, not}
 use mathlib.Core.Option.{Option, none, some}
 use mathlib.Core.List.{List, [], _∷_, _++_, map}
@@ -144,16 +144,6 @@ isEnded Either = false
 isEnded Data = false
 isEnded Ended = true
 
--- the largest number that a listener's counts keep to
-abbrev pub countMost : ℕ
-countMost = 4294967295
-
--- Every state that starting and stepping give keeps to it in these four (the law `CountsFit` of Started). One made in another
--- way may not, and is answered as an ended one.
-unfoldable pub countsFit : Listener → Bool
-countsFit s =
-    leb (s .heard) countMost && (leb (s .elapsed) countMost && (leb (s .doze) countMost && leb (s .passed) countMost))
-
 -- an ended listener with these counts
 unfoldable pub ended : Listener → ℕ → ℕ → Listener
 ended s heard elapsed =
@@ -179,12 +169,19 @@ refusedEnded s = stepped s (Refused 14) 0 0
 unfoldable pub refused : Listener → ℕ → Stepped
 refused s number = stepped (ended s (s .heard) (s .elapsed)) (Refused number) 0 0
 
+-- document 02, C-16: "A count that would pass 4,294,967,295 stops there."
+abbrev pub countMost : ℕ
+countMost = 4294967295
+
+unfoldable pub stopped : ℕ → ℕ
+stopped x = min x countMost
+
 -- "Heard counts buckets taken; elapsed counts from tune-in to the last taken, both in.": both with the bucket at hand
 unfoldable pub heardWith : Listener → ℕ
-heardWith s = s .heard + 1
+heardWith s = stopped (s .heard + 1)
 
 unfoldable pub elapsedWith : Listener → ℕ
-elapsedWith s = s .elapsed + s .doze
+elapsedWith s = stopped (s .elapsed + s .doze)
 
 -- a doze by d ends at the next cycle's start, beyond which no distance of a bucket reaches
 unfoldable pub reachesStart : Bucket → ℕ → Bool
@@ -235,8 +232,34 @@ heedRead s (some b) = heed s b
 
 -- "A step: 14, 8, 9, 10." 14: "bucket given to an ended listener"
 unfoldable pub step : Listener → List ℕ → Stepped
-step s bytes = pick (isEnded (s .phase) || not (countsFit s)) (refusedEnded s) (heedRead s (readBucket bytes))
+step s bytes = pick (isEnded (s .phase)) (refusedEnded s) (heedRead s (readBucket bytes))
 
 -- the lines of a bucket that the answer to it names
 unfoldable pub named : List ℕ → Stepped → List Line
 named bytes r = take (r .count) (drop (r .first) (linesRead (readBucket bytes)))
+
+-- ---- a lost bucket: document 02, C-16
+
+-- a listener with these counts
+unfoldable pub counting : Listener → ℕ → ℕ → Listener
+counting s heard elapsed =
+    record {
+      tag = s .tag;
+      phase = s .phase;
+      due = s .due;
+      cycle = s .cycle;
+      passed = s .passed;
+      doze = s .doze;
+      heard = heard;
+      elapsed = elapsed;
+    }
+
+-- "the display then starts over with the next bucket as its tune-in, both counts running on from the first"; "A lost bucket
+-- counts as heard."
+unfoldable pub startsOver : Listener → Listener
+startsOver s = counting (start (s .tag)) (heardWith s) (elapsedWith s)
+
+-- "A bucket that the radio marks as lost may be handed in as lost, without bytes; the listener answers doze by 1", "and an ended
+-- listener answers a lost one by 14"
+unfoldable pub lost : Listener → Stepped
+lost s = pick (isEnded (s .phase)) (refusedEnded s) (stepped (startsOver s) (Doze 1) 0 0)

@@ -1,4 +1,4 @@
-// The listener and the lookup: document 01, "The listener", with document 02, C-12.
+// The listener and the lookup: document 01, "The listener", with document 02, C-12 and C-16.
 mod choose;
 mod hearing;
 pub mod lookup;
@@ -25,13 +25,13 @@ pub struct Listener {
     due: u64,
     // the N of the last bucket taken, which is awaited within its cycle
     cycle: u64,
-    // the cycle starts passed since tune-in
+    // the cycle starts passed since tune-in, that behind a lost bucket if one was lost
     passed: u64,
     // the buckets that go by up to the next one taken, that one counted
     doze: u64,
-    // buckets taken
+    // buckets taken, lost ones counted
     heard: u64,
-    // buckets gone by from tune-in to the last one taken, both in
+    // buckets gone by from the first one to the last one, both in
     elapsed: u64,
 }
 

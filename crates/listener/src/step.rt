@@ -1,4 +1,4 @@
-// A listener's start and its step: document 01, "The listener", with document 02, C-12.
+// A listener's start, its step and its lost bucket: document 01, "The listener", with document 02, C-12 and C-16.
 use super::Answer;
 use super::Listener;
 use super::Phase;
@@ -13,15 +13,31 @@ use buckets::Reading;
 use buckets::reader;
 ghost use mathlib.Core.Path.{_≡_};
 ghost use mathlib.Core.List.{List};
-ghost use Prim.Native.Nat.{ℕ, _≤_};
+ghost use Prim.Native.Nat.{ℕ, _+_, _≤_};
 ghost use Rattle.buckets.specs.Lengths.{bucketsMost, bucketLinesMost};
 ghost use Rattle.buckets.specs.Bucket.{Body, dataBody, readBucket};
 ghost use Rattle.buckets.specs.Inner.Held.{bucketWith, indexOf, asReading};
-ghost use Rattle.listener.specs.Listener.{start, isEnded, isIndex, countsFit, ended, stepped, refused, refusedEnded};
+ghost use Rattle.listener.specs.Listener.{start, isEnded, isIndex, stopped, ended, stepped, refused, refusedEnded};
 ghost use Rattle.listener.specs.Listener.{heardWith, elapsedWith, dueAt, awaited, dueWith, passedWith, dozing, dozes, decided, bodyChoice, dataChoice};
-ghost use Rattle.listener.specs.Listener.{heed, heedRead, step, stepNumbers};
+ghost use Rattle.listener.specs.Listener.{heed, heedRead, step, startsOver, lost, stepNumbers};
 ghost use Rattle.listener.specs.declared.Answer.the-variants.{Doze};
-ghost use Rattle.listener.specs.Inner.OnReading.{isTuneIn, Counts, SoundHead, SoundIndex, WasRead, taggedLines};
+ghost use Rattle.listener.specs.Inner.OnReading.{isTuneIn, SoundHead, SoundIndex, WasRead, taggedLines};
+
+// Where a listener's counts stop.
+const COUNT_MOST: u64 = 4294967295;
+
+// A count with some more, stopped where it would pass the largest.
+fn count_on(count: u64, more: u64) -> u64
+    ensures { λ r. ⌜ r ≡ stopped (count + more) ⌝ }
+{
+    if COUNT_MOST < count {
+        return COUNT_MOST;
+    }
+    if COUNT_MOST - count < more {
+        return COUNT_MOST;
+    }
+    count + more
+}
 
 // Whether the tune-in bucket is awaited.
 fn is_tune_in(phase: Phase) -> bool
@@ -59,9 +75,6 @@ impl Listener {
 
     pub const LINE: usize = Line::LENGTH;
 
-    // The largest number that a listener's counts keep to.
-    const COUNT_MOST: u64 = 4294967295;
-
     // A listener that waits for its tune-in bucket.
     pub fn new(tag: u64) -> Listener
         ensures { λ r. ⌜ r ≡ start tag ⌝ }
@@ -78,34 +91,31 @@ impl Listener {
         }
     }
 
-    // The buckets taken.
+    // The buckets taken, lost ones counted.
     pub fn heard(self) -> u64
         ensures { λ r. ⌜ r ≡ self .heard ⌝ }
     {
         self.heard
     }
 
-    // The buckets gone by from tune-in to the last one taken, both in.
+    // The buckets gone by from the first one to the last one taken or lost, both in.
     pub fn elapsed(self) -> u64
         ensures { λ r. ⌜ r ≡ self .elapsed ⌝ }
     {
         self.elapsed
     }
 
-    // Whether the state's counts keep to their limit.
-    fn counts_fit(self) -> bool
-        ensures { λ r. ⌜ r ≡ countsFit self ⌝ }
+    // Both counts with the bucket at hand.
+    fn heard_with(self) -> u64
+        ensures { λ r. ⌜ r ≡ heardWith self ⌝ }
     {
-        if Listener::COUNT_MOST < self.heard {
-            return false;
-        }
-        if Listener::COUNT_MOST < self.elapsed {
-            return false;
-        }
-        if Listener::COUNT_MOST < self.doze {
-            return false;
-        }
-        self.passed <= Listener::COUNT_MOST
+        count_on(self.heard, 1)
+    }
+
+    fn elapsed_with(self) -> u64
+        ensures { λ r. ⌜ r ≡ elapsedWith self ⌝ }
+    {
+        count_on(self.elapsed, self.doze)
     }
 
     // The ended listener with these counts.
@@ -139,10 +149,9 @@ impl Listener {
 
     // Found or absent, at the bucket at hand.
     fn end_by(self, answer: Answer, first: u64, count: u64) -> Stepped
-        requires { ⌜ Counts self ⌝ }
         ensures { λ r. ⌜ r ≡ stepped (ended self (heardWith self) (elapsedWith self)) answer first count ⌝ }
     {
-        let listener = self.ended(self.heard + 1, self.elapsed + self.doze);
+        let listener = self.ended(self.heard_with(), self.elapsed_with());
         Stepped {
             listener: listener,
             answer: answer,
@@ -162,7 +171,6 @@ impl Listener {
         first: u64,
         count: u64,
     ) -> Stepped
-        requires { ⌜ Counts self ⌝ }
         requires { ⌜ SoundHead h ⌝ }
         ensures { λ r.
             ⌜ ((body : Body) → dueWith (bucketWith h body) d ≡ due → passedWith self (bucketWith h body) d ≡ passed →
@@ -175,8 +183,8 @@ impl Listener {
             cycle: h.position + h.to_cycle,
             passed: passed,
             doze: d,
-            heard: self.heard + 1,
-            elapsed: self.elapsed + self.doze,
+            heard: self.heard_with(),
+            elapsed: self.elapsed_with(),
         };
         Stepped {
             listener: listener,
@@ -188,7 +196,6 @@ impl Listener {
 
     // Doze by d, awaiting a bucket of the kind named: in this cycle, or the next cycle's first unless a start was passed before.
     fn doze_by(self, h: Head, d: u64, awaits: Phase, first: u64, count: u64) -> Stepped
-        requires { ⌜ Counts self ⌝ }
         requires { ⌜ SoundHead h ⌝ }
         requires { ⌜ d ≤ bucketsMost ⌝ }
         ensures { λ r. ⌜ ((body : Body) → r ≡ decided self (bucketWith h body) (dozes d awaits first count)) ⌝ }
@@ -233,7 +240,6 @@ impl Listener {
 
     // An index bucket: the first pair, else a later pair, else an entry, else absent.
     fn index_step(self, h: Head, x: IndexItems) -> Stepped
-        requires { ⌜ Counts self ⌝ }
         requires { ⌜ SoundHead h ⌝ }
         requires { ⌜ SoundIndex x ⌝ }
         ensures { λ r. ⌜ r ≡ decided self (bucketWith h (indexOf x)) (bodyChoice (self .tag) (indexOf x)) ⌝ }
@@ -259,7 +265,6 @@ impl Listener {
 
     // A data bucket: the lines of our tag, and whether the next data bucket may have more.
     fn data_step(self, h: Head, follow_on: u64, count: usize, tags: [u64; 8]) -> Stepped
-        requires { ⌜ Counts self ⌝ }
         requires { ⌜ SoundHead h ⌝ }
         requires { ⌜ («follow_on» ≤ bucketsMost) × (count ≤ bucketLinesMost) ⌝ }
         ensures { λ r.
@@ -284,7 +289,6 @@ impl Listener {
 
     // An index bucket that was read: 9, the tune-in, or its choice.
     fn take_index(self, h: Head, x: IndexItems) -> Stepped
-        requires { ⌜ Counts self ⌝ }
         requires { ⌜ SoundHead h ⌝ }
         requires { ⌜ SoundIndex x ⌝ }
         ensures { λ r. ⌜ r ≡ heed self (bucketWith h (indexOf x)) ⌝ }
@@ -301,7 +305,6 @@ impl Listener {
 
     // A data bucket that was read: 9, the tune-in, or its choice.
     fn take_data(self, h: Head, follow_on: u64, count: usize, tags: [u64; 8]) -> Stepped
-        requires { ⌜ Counts self ⌝ }
         requires { ⌜ SoundHead h ⌝ }
         requires { ⌜ («follow_on» ≤ bucketsMost) × (count ≤ bucketLinesMost) ⌝ }
         ensures { λ r. ⌜ r ≡ heed self (bucketWith h (dataBody «follow_on» (taggedLines count tags))) ⌝ }
@@ -318,7 +321,6 @@ impl Listener {
 
     // What was read: 8, or the bucket of its kind.
     fn take_reading(self, r: Reading) -> Stepped
-        requires { ⌜ Counts self ⌝ }
         requires { ⌜ WasRead r ⌝ }
         ensures { λ s. ⌜ ((bytes : List ℕ) → r ≡ asReading (readBucket bytes) → s ≡ heedRead self (readBucket bytes)) ⌝ }
     {
@@ -359,10 +361,36 @@ impl Listener {
         if is_ended(phase) {
             return self.refused_ended();
         }
-        if !self.counts_fit() {
-            return self.refused_ended();
-        }
         let reading = reader::read_bucket(bucket);
         self.take_reading(reading)
+    }
+
+    // The listener that starts over with the next bucket as its tune-in, its counts running on.
+    fn starts_over(self) -> Listener
+        ensures { λ r. ⌜ r ≡ startsOver self ⌝ }
+    {
+        let fresh = Listener::new(self.tag);
+        Listener {
+            heard: self.heard_with(),
+            elapsed: self.elapsed_with(),
+            ..fresh
+        }
+    }
+
+    // The answer to a bucket that the radio lost, and the next listener.
+    pub fn lost(self) -> Stepped
+        ensures { λ r. ⌜ (r .listener ≡ lost self .listener) × (stepNumbers r ≡ stepNumbers (lost self)) ⌝ }
+    {
+        let phase = self.phase;
+        if is_ended(phase) {
+            return self.refused_ended();
+        }
+        let listener = self.starts_over();
+        Stepped {
+            listener: listener,
+            answer: Answer::Doze(1),
+            first: 0,
+            count: 0,
+        }
     }
 }

@@ -63,6 +63,10 @@ stepAnswer r =
 unfoldable pub stepFrom : List ℕ → List ℕ → Stepped
 stepFrom state bucket = listening.step (restored state) bucket
 
+-- a lost bucket, from a saved state
+unfoldable pub lostFrom : List ℕ → Stepped
+lostFrom state = listening.lost (restored state)
+
 -- "14 hands it back unchanged"
 abbrev pub wasEnded : Answer → Bool
 wasEnded (Doze d) = false
@@ -70,7 +74,7 @@ wasEnded Found = false
 wasEnded Absent = false
 wasEnded (Refused number) = eqb number 14
 
--- the state after a step: on 14 the eight numbers given, whatever they are
+-- the state after a step or a lost bucket: on 14 the eight numbers given, whatever they are
 unfoldable pub stateAfter : List ℕ → Stepped → List ℕ
 stateAfter state r = pick (wasEnded (r .answer)) state (saved (r .listener))
 

@@ -1,6 +1,6 @@
 // The calls for C and Rust: building, sizing, a line that arrives in a list or is taken out of it, reading back, a lookup, a
-// listener whose state is eight numbers that the caller keeps, and the lines of a bucket. Each takes any input. A lent buffer
-// keeps every byte that the output does not cover, and all of them on a refusal.
+// listener whose state is eight numbers that the caller keeps, given a bucket or told of a lost one, and the lines of a bucket.
+// Each takes any input. A lent buffer keeps every byte that the output does not cover, and all of them on a refusal.
 use buckets::BucketLine;
 use buckets::bucket_line;
 use cycle::Built;
@@ -31,7 +31,7 @@ ghost use Rattle.cycle.specs.Size;
 ghost use Rattle.listener.specs.Listener.{start};
 ghost use Rattle.listener.specs.Lookup;
 ghost use Rattle.listener.specs.State.{saved, restored};
-ghost use Rattle.pansdaoh.specs.Calls.{builtAnswer, readBackAnswer, lookedAnswer, stepAnswer, stepFrom, wasEnded, stateAfter, lineAnswer, sizeAnswer, changeAnswer};
+ghost use Rattle.pansdaoh.specs.Calls.{builtAnswer, readBackAnswer, lookedAnswer, stepAnswer, stepFrom, lostFrom, wasEnded, stateAfter, lineAnswer, sizeAnswer, changeAnswer};
 
 // A refusal's number (0: not refused) and place, and the number of buckets built or of lines read back.
 #[repr(C)]
@@ -214,6 +214,19 @@ fn was_ended(answer: listener::Answer) -> bool
         listener::Answer::Absent => false,
         listener::Answer::Refused(number) => number == 14,
     }
+}
+
+// Hands back a step's answer as numbers, and its listener in the state, which 14 leaves as it is.
+fn hand_back(state: &mut [u64; 8], r: Stepped) -> StepAnswer
+    ensures { λ s. ⌜ (s ≡ stepAnswer r) × (now (state .exit) ≡ stateAfter (now (state .entry)) r) ⌝ }
+{
+    let answer = r.answer;
+    if was_ended(answer) {
+        return step_answer(r);
+    }
+    let next = r.listener;
+    *state = next.saved();
+    step_answer(r)
 }
 
 // A bucket's line as numbers.
@@ -445,13 +458,19 @@ pub extern "C" fn pansdaoh_step(state: &mut [u64; 8], bucket: &[u8]) -> StepAnsw
 {
     let l = Listener::restored(*state);
     let r = l.step(bucket);
-    let answer = r.answer;
-    if was_ended(answer) {
-        return step_answer(r);
-    }
-    let next = r.listener;
-    *state = next.saved();
-    step_answer(r)
+    hand_back(state, r)
+}
+
+// Tells a listener that the bucket it woke for was lost.
+#[no_mangle]
+pub extern "C" fn pansdaoh_lost(state: &mut [u64; 8]) -> StepAnswer
+    ensures { λ r.
+        ⌜ (r ≡ stepAnswer (lostFrom (now (state .entry)))) ×
+        (now (state .exit) ≡ stateAfter (now (state .entry)) (lostFrom (now (state .entry)))) ⌝ }
+{
+    let l = Listener::restored(*state);
+    let r = l.lost();
+    hand_back(state, r)
 }
 
 // Line i of a bucket as its four numbers.
@@ -463,7 +482,7 @@ pub extern "C" fn pansdaoh_line(bucket: &[u8], i: u64) -> LineAnswer
     line_answer(line)
 }
 
-// The buckets that a listener has taken.
+// The buckets that a listener has taken, lost ones counted.
 #[no_mangle]
 pub extern "C" fn pansdaoh_heard(state: &[u64; 8]) -> u64
     ensures { λ r. ⌜ r ≡ restored (now (state .entry)) .heard ⌝ }
@@ -472,7 +491,7 @@ pub extern "C" fn pansdaoh_heard(state: &[u64; 8]) -> u64
     l.heard()
 }
 
-// The buckets gone by from a listener's tune-in to the last one taken, both in.
+// The buckets gone by from a listener's first one to the last one taken or lost, both in.
 #[no_mangle]
 pub extern "C" fn pansdaoh_elapsed(state: &[u64; 8]) -> u64
     ensures { λ r. ⌜ r ≡ restored (now (state .entry)) .elapsed ⌝ }

@@ -3,8 +3,8 @@
 //! Each lent buffer is a slice. After a refusal it holds what it held before,
 //! and bytes past the output always do.
 
-/// A listener's state. Any content is answered; only [`start`] and [`step`]
-/// give it a meaning.
+/// A listener's state. Any content is answered; only [`start`], [`step`] and
+/// [`lost`] give it a meaning.
 pub type State = [u64; 8];
 
 /// What building and reading back return.
@@ -75,7 +75,7 @@ pub struct Found {
 pub const FOUND: u64 = 1;
 pub const ABSENT: u64 = 2;
 
-/// What a step returns.
+/// What [`step`] and [`lost`] return.
 #[repr(C)]
 #[derive(Clone, Copy, Debug, PartialEq, Eq)]
 pub struct Step {

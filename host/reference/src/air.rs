@@ -1,5 +1,9 @@
 //! Cycles on air one after the other, each of a list and settings of its own,
-//! and what document 02, C-12, says of a hearing over them; for tests.
+//! and what document 02, C-12 and C-16, says of a hearing over them; for tests.
+
+pub mod losses;
+
+use std::fmt::Arguments;
 
 use crate::generate::{list_from, list_of, Random};
 use crate::literal::{self, Line};
@@ -10,13 +14,29 @@ use crate::{Answer, Listener};
 pub trait Hears {
     /// The answer, and which lines match: the first, and how many.
     fn hear(&mut self, bucket: &[u8]) -> (Answer, u64, u64);
+    /// The same of a bucket that is lost.
+    fn lose(&mut self) -> (Answer, u64, u64);
     /// Heard and elapsed.
     fn counts(&self) -> (u64, u64);
+
+    /// A bucket, or None for one that is lost.
+    fn give(&mut self, bucket: Option<&[u8]>) -> (Answer, u64, u64) {
+        match bucket {
+            Some(bucket) => self.hear(bucket),
+            None => self.lose(),
+        }
+    }
 }
 
 impl Hears for Listener {
     fn hear(&mut self, bucket: &[u8]) -> (Answer, u64, u64) {
         let (next, answer, first, count) = self.step(bucket);
+        *self = next;
+        (answer, first, count)
+    }
+
+    fn lose(&mut self) -> (Answer, u64, u64) {
+        let (next, answer, first, count) = self.lost();
         *self = next;
         (answer, first, count)
     }
@@ -65,58 +85,135 @@ impl Sending {
 
 /// How a hearing ended.
 pub struct Heard {
-    /// The cycle in which it ended, tune-in's being 0.
+    /// The cycle in which it ended, that of the first bucket being 0.
     pub cycle: usize,
     pub found: bool,
     pub heard: u64,
     pub elapsed: u64,
     pub lines: u64,
-    /// The limits on heard and elapsed were reached.
+    /// The limits on heard and elapsed since the last tune-in were reached.
     pub at_limit: [bool; 2],
+    /// q, the buckets lost.
+    pub lost: u64,
+    /// Lines handed over before a bucket was lost.
+    pub void: u64,
+}
+
+/// A bucket that a listener is given, and the counts with it.
+#[derive(Clone, Copy)]
+struct Place {
+    cycle: usize,
+    position: u64,
+    heard: u64,
+    elapsed: u64,
+}
+
+impl Place {
+    /// The bucket so many places on.
+    fn go(&mut self, air: &[&Sending], distance: u64) {
+        self.heard += 1;
+        self.elapsed += distance;
+        self.position += distance;
+        while self.position >= sent(air, self.cycle).buckets() {
+            self.position -= sent(air, self.cycle).buckets();
+            self.cycle += 1;
+        }
+    }
+
+    fn bucket<'a>(&self, air: &[&'a Sending]) -> &'a [u8] {
+        &sent(air, self.cycle).image[240 * self.position as usize..][..240]
+    }
+}
+
+/// A cycle on air; behind the last one the first comes again.
+fn sent<'a>(air: &[&'a Sending], cycle: usize) -> &'a Sending {
+    air[cycle % air.len()]
 }
 
 /// A hearing from a tune-in bucket of the first cycle to its end, held against
-/// C-12: the lines or the absence "are those of the list in whose cycle it
-/// ends", "k and C in the heard limit are those of the cycle it ends in", "the
-/// time limit becomes N - t buckets of the old cycle and all of the new one".
+/// C-12.
 pub fn hearing(air: &[&Sending], tag: u64, tune_in: u64, listener: &mut impl Hears) -> Heard {
-    let (mut cycle, mut position) = (0, tune_in);
-    let (mut heard, mut elapsed) = (0, 1);
-    let mut lines = Vec::new();
+    hearing_with(air, tag, tune_in, 0, listener)
+}
+
+/// The same with lost buckets: bit i of the marks is set where the bucket given
+/// behind i others is lost. "The listener answers doze by 1, and the display then
+/// starts over with the next bucket as its tune-in, both counts running on from the
+/// first, and lines handed over earlier in the lookup are void" (C-16).
+fn hearing_with(
+    air: &[&Sending],
+    tag: u64,
+    tune_in: u64,
+    marks: u128,
+    listener: &mut impl Hears,
+) -> Heard {
+    let told = format_args!("tag {tag}, tune-in {tune_in}, marks {marks:b}");
+    let mut place = Place { cycle: 0, position: tune_in, heard: 1, elapsed: 1 };
+    let (mut tuned, mut lines) = (place, Vec::new());
+    let (mut lost, mut void) = (0, 0);
     let found = loop {
-        let bucket = &air[cycle].image[240 * position as usize..][..240];
-        let (answer, first, count) = listener.hear(bucket);
-        heard += 1;
-        assert_eq!(listener.counts(), (heard, elapsed), "tag {tag}, tune-in {tune_in}");
+        let bucket = place.bucket(air);
+        let is_lost = place.heard <= 128 && marks >> (place.heard - 1) & 1 == 1;
+        let (answer, first, count) = listener.give((!is_lost).then_some(bucket));
+        assert_eq!(listener.counts(), (place.heard, place.elapsed), "{told}");
+        if is_lost {
+            assert_eq!((answer, first, count), (Answer::Doze(1), 0, 0), "{told}");
+        }
         for i in first..first + count {
             lines.push(literal::figures(&bucket[29 + 26 * i as usize..][..26]).unwrap());
         }
         match answer {
-            Answer::Doze(distance) => {
-                elapsed += distance;
-                position += distance;
-                while position >= air[cycle].buckets() {
-                    position -= air[cycle].buckets();
-                    cycle += 1;
-                }
-            }
+            Answer::Doze(distance) => place.go(air, distance),
             Answer::Found => break true,
             Answer::Absent => break false,
-            Answer::Refused(number) => panic!("refused by {number}: tag {tag}, tune-in {tune_in}"),
+            Answer::Refused(number) => panic!("refused by {number}: {told}"),
+        }
+        if is_lost {
+            lost += 1;
+            void += lines.len() as u64;
+            lines.clear();
+            tuned = place;
         }
     };
-    assert!(cycle <= 1, "ended in cycle {cycle}: tag {tag}, tune-in {tune_in}");
-    let wanted = air[cycle].lines_of(tag);
-    assert_eq!((found, &lines), (!wanted.is_empty(), &wanted), "tag {tag}, tune-in {tune_in}");
-    let limits = [air[cycle].heard_limit(tag), air[0].buckets() - tune_in + air[1].buckets()];
-    assert!(heard <= limits[0] && elapsed <= limits[1], "tag {tag}, tune-in {tune_in}");
-    // After the end any bytes are refused by 14 and change nothing.
-    for bytes in [&air[0].image[..240], b"", b"any"] {
-        assert_eq!(listener.hear(bytes), (Answer::Refused(14), 0, 0));
-        assert_eq!(listener.counts(), (heard, elapsed));
+    let at_limit = ends_well(air, tag, [tuned, place], (found, &lines), told);
+    // After the end any bytes, and a lost bucket, are refused by 14 and change nothing.
+    for given in [Some(&air[0].image[..240]), Some(b""), Some(b"any"), None] {
+        assert_eq!(listener.give(given), (Answer::Refused(14), 0, 0), "{told}");
+        assert_eq!(listener.counts(), (place.heard, place.elapsed), "{told}");
     }
-    let at_limit = [heard == limits[0], elapsed == limits[1]];
-    Heard { cycle, found, heard, elapsed, lines: lines.len() as u64, at_limit }
+    let Place { cycle, heard, elapsed, .. } = place;
+    Heard { cycle, found, heard, elapsed, lines: lines.len() as u64, at_limit, lost, void }
+}
+
+/// From its last tune-in on a hearing is as C-12 says: the lines or the absence
+/// "are those of the list in whose cycle it ends", "k and C in the heard limit are
+/// those of the cycle it ends in", "the time limit becomes N - t buckets of the old
+/// cycle and all of the new one". Whether the two limits were reached.
+fn ends_well(
+    air: &[&Sending],
+    tag: u64,
+    [tuned, end]: [Place; 2],
+    ended: (bool, &Vec<Line>),
+    told: Arguments,
+) -> [bool; 2] {
+    assert!(end.cycle <= tuned.cycle + 1, "ended in cycle {}: {told}", end.cycle);
+    let wanted = sent(air, end.cycle).lines_of(tag);
+    assert_eq!(ended, (!wanted.is_empty(), &wanted), "{told}");
+    let (old, new) = (sent(air, tuned.cycle), sent(air, tuned.cycle + 1));
+    let heard = [end.heard - tuned.heard + 1, sent(air, end.cycle).heard_limit(tag)];
+    let elapsed = [end.elapsed - tuned.elapsed + 1, old.buckets() - tuned.position + new.buckets()];
+    [heard, elapsed].map(|[count, limit]| {
+        assert!(count <= limit, "{count} of {limit}: {told}");
+        count == limit
+    })
+}
+
+/// Every tag around the lists of these cycles.
+fn tags_of(air: &[&Sending]) -> Vec<u64> {
+    let mut tags: Vec<u64> = air.iter().flat_map(|sent| tags_around(&sent.list)).collect();
+    tags.sort();
+    tags.dedup();
+    tags
 }
 
 /// How often hearings ended in each of the two cycles.
@@ -132,10 +229,7 @@ struct Ends {
 impl Ends {
     /// Every tag around the lists of the first two cycles, from every tune-in.
     fn hear<H: Hears>(&mut self, air: &[&Sending], start: &impl Fn(u64) -> H) {
-        let mut tags: Vec<u64> = air[..2].iter().flat_map(|sent| tags_around(&sent.list)).collect();
-        tags.sort();
-        tags.dedup();
-        for tag in tags {
+        for tag in tags_of(&air[..2]) {
             for tune_in in 0..air[0].buckets() {
                 let end = hearing(air, tag, tune_in, &mut start(tag));
                 let ends = if end.found { &mut self.found } else { &mut self.absent };
@@ -168,17 +262,7 @@ fn any_lists<H: Hears>(rounds: u64, start: &impl Fn(u64) -> H) -> Ends {
     let mut ends = Ends::default();
     let mut kinds = [0; 4];
     for _ in 0..rounds {
-        let air: [Sending; 3] = std::array::from_fn(|_| {
-            let lines = random.below(20).saturating_sub(2);
-            let (first, spread) = (random.below(4), random.below(3));
-            let list = list_from(random, lines, first, spread);
-            // Half of the trees are as deep as they can be.
-            let settings = match random.below(2) {
-                0 => random.pick(&legal_copies(lines, 2, 1)),
-                _ => legal_settings(random, lines),
-            };
-            Sending::new(list, settings)
-        });
+        let air: [Sending; 3] = std::array::from_fn(|_| any_sending(random));
         for sent in &air[..2] {
             kinds[sent.settings[2] as usize] += 1;
             kinds[0] += sent.list.is_empty() as u64;
@@ -190,9 +274,22 @@ fn any_lists<H: Hears>(rounds: u64, start: &impl Fn(u64) -> H) -> Ends {
     ends
 }
 
-/// Every two lists of up to three lines with tags 1 to 3, and one with three
-/// index levels, in each of their cycles with n 2 and p 1.
-fn short_lists<H: Hears>(start: &impl Fn(u64) -> H) -> Ends {
+/// The cycle of a list from a seed.
+fn any_sending(random: &mut Random) -> Sending {
+    let lines = random.below(20).saturating_sub(2);
+    let (first, spread) = (random.below(4), random.below(3));
+    let list = list_from(random, lines, first, spread);
+    // Half of the trees are as deep as they can be.
+    let settings = match random.below(2) {
+        0 => random.pick(&legal_copies(lines, 2, 1)),
+        _ => legal_settings(random, lines),
+    };
+    Sending::new(list, settings)
+}
+
+/// Every list of up to three lines with tags 1 to 3, and one with three index
+/// levels, in each of their cycles with n 2 and p 1.
+fn short_sendings() -> Vec<Sending> {
     let mut lists = vec![vec![1, 1, 2, 2, 3]];
     for lines in 0..=3 {
         let code = 0..3u64.pow(lines);
@@ -204,6 +301,12 @@ fn short_lists<H: Hears>(start: &impl Fn(u64) -> H) -> Ends {
         let copies = legal_copies(tags.len() as u64, 2, 1).into_iter();
         sendings.extend(copies.map(|settings| Sending::new(list_of(&tags), settings)));
     }
+    sendings
+}
+
+/// Every two of these.
+fn short_lists<H: Hears>(start: &impl Fn(u64) -> H) -> Ends {
+    let sendings = short_sendings();
     let mut ends = Ends::default();
     for old in &sendings {
         for new in &sendings {

@@ -2,8 +2,8 @@
 //! a cycle of buckets, a cycle is read back into its list, a listener picks
 //! out the lines of one tag, and a lookup runs it over an image. From document
 //! 02: a cycle's figures are told before there is a list (C-11), the list may
-//! change between cycles (C-12), its numbers may have leading zeros (C-13), and
-//! lines arrive in it or are taken out of it (C-14).
+//! change between cycles (C-12), its numbers may have leading zeros (C-13), lines
+//! arrive in it or are taken out of it (C-14), and buckets may be lost (C-16).
 #![forbid(unsafe_code)]
 
 pub mod air;

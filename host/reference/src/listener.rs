@@ -2,6 +2,9 @@
 
 use crate::bucket::{Bucket, BUCKET};
 
+/// "A count that would pass 4,294,967,295 stops there" (C-16).
+const COUNT_MOST: u64 = 4_294_967_295;
+
 /// The answer to one bucket.
 #[derive(Clone, Copy, Debug, PartialEq, Eq)]
 pub enum Answer {
@@ -62,6 +65,11 @@ impl Listener {
         Listener { tag, heard: 0, elapsed: 0, state: State::TuneIn }
     }
 
+    /// The same listener with other counts, for tests.
+    pub fn with_counts(self, heard: u64, elapsed: u64) -> Listener {
+        Listener { heard, elapsed, ..self }
+    }
+
     /// "Heard counts buckets taken".
     pub fn heard(self) -> u64 {
         self.heard
@@ -86,20 +94,45 @@ impl Listener {
         })
     }
 
+    /// Takes a bucket "handed in as lost, without bytes" (C-16). Returns what a
+    /// step does.
+    pub fn lost(self) -> (Listener, Answer, u64, u64) {
+        // "an ended listener answers a lost one by 14"
+        if self.state == State::Ended {
+            return (self, Answer::Refused(14), 0, 0);
+        }
+        // "the listener answers doze by 1, and the display then starts over with
+        // the next bucket as its tune-in, both counts running on from the first"
+        (self.counted(State::TuneIn), Answer::Doze(1), 0, 0)
+    }
+
+    /// This listener with the bucket at hand in its counts. "A lost bucket counts
+    /// as heard."
+    #[inline(always)]
+    fn counted(self, state: State) -> Listener {
+        let doze = match self.state {
+            State::Dozing(awaited) => awaited.doze,
+            _ => 1,
+        };
+        let heard = self.heard.saturating_add(1).min(COUNT_MOST);
+        let elapsed = self.elapsed.saturating_add(doze).min(COUNT_MOST);
+        Listener { tag: self.tag, heard, elapsed, state }
+    }
+
     /// The tests 8, 9 and 10 in order, else the step.
     #[inline(always)]
     fn hear(self, bytes: &[u8]) -> Result<(Listener, Answer, u64, u64), u64> {
         let bytes: &[u8; BUCKET] = bytes.try_into().map_err(|_| 8u64)?;
         let mut bucket = Bucket::default();
         bucket.read(bytes).ok_or(8u64)?;
-        let (doze, past_start) = match self.state {
+        let past_start = match self.state {
             State::Dozing(awaited) => {
                 if !awaited.is(&bucket) {
                     return Err(9);
                 }
-                (awaited.doze, awaited.past_start)
+                awaited.past_start
             }
-            _ => (1, false),
+            _ => false,
         };
         let (chosen, first, count) = if self.state == State::TuneIn {
             // "Tune-in bucket: doze to the next segment, even if this one
@@ -110,12 +143,7 @@ impl Listener {
         } else {
             collect(self.tag, &bucket)
         };
-        let mut next = Listener {
-            heard: self.heard + 1,
-            elapsed: self.elapsed + doze,
-            state: State::Ended,
-            ..self
-        };
+        let mut next = self.counted(State::Ended);
         let answer = match chosen {
             Move::Doze(doze, letter) => {
                 let to_start = doze == bucket.to_cycle;

@@ -551,31 +551,58 @@ fn read_bucket(bytes: &[u8]) -> Option<Bucket> {
     })
 }
 
-/// A listener that keeps all it has heard: the printed positions and N, and
-/// the dozes between.
+/// Where a count stops (C-16).
+const COUNT_MOST: u128 = 4_294_967_295;
+
+/// A listener that keeps all it has heard: the printed positions and N, the
+/// dozes between, and which buckets were lost.
 #[derive(Clone)]
 pub struct Listener {
     tag: u64,
-    /// Position, N and the doze after each bucket taken; then the letters awaited.
-    taken: Vec<(u64, u64, u64)>,
+    /// Heard and elapsed before the first bucket.
+    before: (u64, u64),
+    /// Position, N and the doze after each bucket taken, None for one lost; then
+    /// the letters awaited.
+    given: Vec<Option<(u64, u64, u64)>>,
     awaited: &'static [u8],
     ended: bool,
 }
 
 impl Listener {
     pub fn new(tag: u64) -> Listener {
-        Listener { tag, taken: vec![], awaited: b"ID", ended: false }
+        Listener::with_counts(tag, 0, 0)
     }
 
+    /// A listener that starts with these counts.
+    pub fn with_counts(tag: u64, heard: u64, elapsed: u64) -> Listener {
+        Listener { tag, before: (heard, elapsed), given: vec![], awaited: b"ID", ended: false }
+    }
+
+    /// "both counts running on from the first": all buckets, "a lost bucket
+    /// counts as heard".
     pub fn heard(&self) -> u64 {
-        self.taken.len() as u64
+        counted(self.before.0, self.given.len() as u64)
     }
 
     pub fn elapsed(&self) -> u64 {
-        match self.taken.split_last() {
-            None => 0,
-            Some((_, earlier)) => 1 + earlier.iter().map(|bucket| bucket.2).sum::<u64>(),
+        // A lost bucket is followed by the next one.
+        let dozes = self.given.iter().map(|bucket| bucket.map_or(1, |taken| taken.2)).collect();
+        counted(self.before.1, gone_by(dozes))
+    }
+
+    /// The buckets taken since the last one lost: the first of them is the tune-in.
+    fn taken(&self) -> Vec<(u64, u64, u64)> {
+        let since = self.given.rsplit(|bucket| bucket.is_none()).next().unwrap();
+        since.iter().map(|bucket| bucket.unwrap()).collect()
+    }
+
+    /// The answer to a lost bucket, which names no lines.
+    pub fn lost(&mut self) -> (Answer, u64, u64) {
+        if self.ended {
+            return (Answer::Refused(14), 0, 0);
         }
+        self.given.push(None);
+        (Answer::Doze(1), 0, 0)
     }
 
     /// The answer, and which lines match.
@@ -594,7 +621,8 @@ impl Listener {
 
     fn hear(&mut self, bytes: &[u8]) -> Result<(Answer, u64, u64), u64> {
         let bucket = read_bucket(bytes).ok_or(8u64)?;
-        if let Some(&(position, buckets, doze)) = self.taken.last() {
+        let mut taken = self.taken();
+        if let Some(&(position, buckets, doze)) = taken.last() {
             let as_awaited = if position + doze < buckets {
                 bucket.position == position + doze && bucket.buckets == buckets
             } else {
@@ -606,7 +634,7 @@ impl Listener {
         }
         let ours: Vec<usize> =
             (0..bucket.lines.len()).filter(|&i| bucket.lines[i][0] == self.tag).collect();
-        let tune_in = self.taken.is_empty();
+        let tune_in = taken.is_empty();
         let (answer, awaited): (Answer, &'static [u8]) = if tune_in {
             (Answer::Doze(bucket.to_segment), b"I")
         } else if bucket.letter == b'I' {
@@ -618,22 +646,22 @@ impl Listener {
         } else {
             (Answer::Found, b"")
         };
-        let mut next = self.clone();
         let doze = if let Answer::Doze(doze) = answer { doze } else { 0 };
-        next.taken.push((bucket.position, bucket.buckets, doze));
-        next.awaited = awaited;
-        next.ended = doze == 0;
+        taken.push((bucket.position, bucket.buckets, doze));
         if doze > 0 {
             // The place of the next bucket, counted on from the start of tune-in's
             // cycle, and the end of the cycle after that one.
-            let (position, old, _) = next.taken[0];
-            let place = position + next.elapsed() - 1 + doze;
+            let (position, old, _) = taken[0];
+            let dozes = taken.iter().map(|bucket| bucket.2).collect();
+            let place = position + gone_by(dozes) - 1 + doze;
             let within_old = place - doze < old;
             if !within_old && place >= old + bucket.buckets {
                 return Err(10);
             }
         }
-        *self = next;
+        self.given.push(taken.pop());
+        self.awaited = awaited;
+        self.ended = doze == 0;
         match ours.first() {
             Some(&first) if !tune_in => Ok((answer, first as u64, ours.len() as u64)),
             _ => Ok((answer, 0, 0)),
@@ -657,6 +685,22 @@ impl Listener {
             }
         }
         (Answer::Absent, b"")
+    }
+}
+
+/// The buckets from the first to the last, both in, by the doze after each.
+fn gone_by(dozes: Vec<u64>) -> u64 {
+    match dozes.split_last() {
+        None => 0,
+        Some((_, earlier)) => 1 + earlier.iter().sum::<u64>(),
+    }
+}
+
+/// A count with so many more: "a count that would pass 4,294,967,295 stops there".
+fn counted(before: u64, more: u64) -> u64 {
+    match more {
+        0 => before,
+        _ => (before as u128 + more as u128).min(COUNT_MOST) as u64,
     }
 }
 

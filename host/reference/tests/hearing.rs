@@ -3,7 +3,7 @@
 mod common;
 
 use common::lookup_into;
-use reference::air::{hear_bounds, hear_changing, hearing, Heard, Hears, Sending};
+use reference::air::{hear_bounds, hear_changing, hearing, losses, Heard, Hears, Sending};
 use reference::generate::{list, list_from, list_of, Random};
 use reference::yards::{damaged_cycle, image_of, legal_copies, tags, tags_around};
 use reference::{literal, Answer, Listener, Looked, Refusal};
@@ -116,7 +116,8 @@ fn damaged_images() {
                 (looked.found, looked.heard, looked.elapsed, lines)
             });
             assert!(fast == slow, "{fast:?} {slow:?}");
-            hear_both(random, &image, tag);
+            let mut both = Both::new(tag);
+            losses::wander(random, &image, |bucket| both.give(bucket).0);
         }
     }
     for number in [0, 7, 8, 9, 10, 11, 12] {
@@ -134,13 +135,31 @@ impl Both {
     fn new(tag: u64) -> Both {
         Both { fast: Listener::new(tag), slow: literal::Listener::new(tag) }
     }
+
+    fn with_counts(tag: u64, heard: u64, elapsed: u64) -> Both {
+        Both {
+            fast: Listener::new(tag).with_counts(heard, elapsed),
+            slow: literal::Listener::with_counts(tag, heard, elapsed),
+        }
+    }
+
+    fn check_counts(&self) {
+        assert_eq!(self.fast.counts(), (self.slow.heard(), self.slow.elapsed()));
+    }
 }
 
 impl Hears for Both {
     fn hear(&mut self, bucket: &[u8]) -> (Answer, u64, u64) {
         let answer = self.fast.hear(bucket);
         assert_eq!(answer, self.slow.step(bucket));
-        assert_eq!(self.fast.counts(), (self.slow.heard(), self.slow.elapsed()));
+        self.check_counts();
+        answer
+    }
+
+    fn lose(&mut self) -> (Answer, u64, u64) {
+        let answer = self.fast.lose();
+        assert_eq!(answer, self.slow.lost());
+        self.check_counts();
         answer
     }
 
@@ -160,25 +179,24 @@ fn bounds_of_8_to_10() {
     hear_bounds(Both::new);
 }
 
-/// Both listeners on the awaited bucket or another one.
-fn hear_both(random: &mut Random, image: &[u8], tag: u64) {
-    let buckets = image.len() / 240;
-    if buckets == 0 {
-        return;
-    }
-    let mut place = random.below(buckets as u64) as usize;
-    let mut both = Both::new(tag);
-    for _ in 0..12 {
-        if random.below(12) == 0 {
-            place = random.below(buckets as u64) as usize;
-        }
-        let length = if random.below(50) == 0 { random.below(250) as usize } else { 240 };
-        let bucket = &image[240 * place..];
-        let (answer, ..) = both.hear(&bucket[..length.min(bucket.len())]);
-        if let Answer::Doze(distance) = answer {
-            place = (place + distance as usize) % buckets;
-        }
-    }
+#[test]
+fn lost_buckets() {
+    losses::hear_unchanged(Both::new);
+}
+
+#[test]
+fn lost_buckets_of_changing_lists() {
+    losses::hear_changing(Both::new);
+}
+
+#[test]
+fn answers_to_lost_buckets() {
+    losses::hear_ways(Both::new);
+}
+
+#[test]
+fn counts_stop() {
+    losses::hear_near_stop(Both::with_counts);
 }
 
 /// Single buckets with numbers at the bounds of their ranges.

@@ -4,14 +4,12 @@ use mathlib.Core.Path.{_≡_, refl, _∙_, ap, subst}
 use Prim.Native.Nat.{ℕ, zero, suc, _+_, _%_}
 use native.Mathlib.Nat.{suc-add, mod-add-mod}
 use native.Mathlib.Omega.{arith}
-use mathlib.Core.Bool.{Bool, true, false, _||_, not, true≢false, false≢true}
-use mathlib.Core.Option.{Option, none, some}
+use mathlib.Core.Bool.{true, false, true≢false}
+use mathlib.Core.Option.{none, some}
 use mathlib.Core.List.{List, _∷_, _++_, append-assoc, append-nil}
-use Rattle.columns.specs.Lists.{pick}
 use Rattle.buckets.specs.declared.Line.{Line}
-use Rattle.buckets.specs.Bucket.{Bucket, readBucket}
 use Rattle.cycle.specs.Cycle.{bucketAt}
-use Rattle.listener.specs.Listener.{Choice, dozes, finds, misses, choice, isEnded, countsFit, awaited, ended, stepped, refusedEnded, refused, heardWith, elapsedWith, pastNextCycle, dozing, decided, heed, heedRead, step, named}
+use Rattle.listener.specs.Listener.{step, named}
 use Rattle.listener.specs.Hearing.{Taken, at, anywhere, onward, stepsFrom, repeated, End, found, absent, endOf, refusedBeforeEnd, linesGot, listenerAfter}
 use Rattle.listener.specs.Lookup
 use Rattle.listener.specs.Lookup.{Finish, run, afterAnswer}
@@ -20,59 +18,14 @@ use Rattle.listener.specs.declared.Phase.the-variants.{Ended}
 use Rattle.listener.specs.declared.Answer.{Answer}
 use Rattle.listener.specs.declared.Answer.the-variants.{Doze, Found, Absent, Refused}
 use Rattle.listener.specs.declared.Stepped.{Stepped}
-use Rattle.listener.proofs.Walks.WalkedSteps.{Stays, stays}
+use Rattle.listener.proofs.Steps.EndedSteps.{isEnd, over-step}
+use Rattle.listener.proofs.Walks.WalkedSteps.{Stays}
+use Rattle.listener.proofs.Walks.Unmarked.{stays-unmarked}
 
 -- how a run ends with the hearing
 abbrev pub finish : End → Listener → List Line → Finish
 finish found s got = Lookup.found s got
 finish absent s got = Lookup.absent s
-
--- ---- found and absent leave the listener ended
-
-abbrev isEnd : Answer → Bool
-isEnd (Doze d) = false
-isEnd Found = true
-isEnd Absent = true
-isEnd (Refused number) = false
-
-abbrev Over : Stepped → Type 0
-Over r = isEnd (r .answer) ≡ true → r .listener .phase ≡ Ended
-
-over-either : (x y : Stepped) (c : Bool) → Over x → Over y → Over (pick c x y)
-over-either x y true f g = f
-over-either x y false f g = g
-
-over-refused : (s : Listener) (number : ℕ) → Over (refused s number)
-unfolding refused stepped
-over-refused s number h = absurd (false≢true h)
-
-over-dozing : (s : Listener) (d first count : ℕ) → Over (stepped s (Doze d) first count)
-unfolding stepped
-over-dozing s d first count h = absurd (false≢true h)
-
-over-ended : (s : Listener) (a : Answer) (first count : ℕ) → Over (stepped (ended s (heardWith s) (elapsedWith s)) a first count)
-unfolding stepped ended
-over-ended s a first count h = refl
-
-over-decided : (s : Listener) (b : Bucket) (c : Choice) → Over (decided s b c)
-over-decided s b (dozes d next first count) =
-    over-either (refused s 10) (stepped (dozing s b d next) (Doze d) first count) (pastNextCycle s b d) (over-refused s 10)
-    (over-dozing (dozing s b d next) d first count)
-over-decided s b (finds first count) = over-ended s Found first count
-over-decided s b misses = over-ended s Absent 0 0
-
-over-read : (s : Listener) (o : Option Bucket) → Over (heedRead s o)
-unfolding heed
-over-read s none = over-refused s 8
-over-read s (some b) =
-    over-either (decided s b (choice (s .phase) (s .tag) b)) (refused s 9) (awaited s b)
-    (over-decided s b (choice (s .phase) (s .tag) b)) (over-refused s 9)
-
-pub over-step : (s : Listener) (bytes : List ℕ) → isEnd (step s bytes .answer) ≡ true → step s bytes .listener .phase ≡ Ended
-unfolding step refusedEnded stepped
-over-step s bytes =
-    over-either (refusedEnded s) (heedRead s (readBucket bytes)) (isEnded (s .phase) || not (countsFit s))
-    (λ h. absurd (false≢true h)) (over-read s (readBucket bytes))
 
 -- ---- the run
 
@@ -105,7 +58,7 @@ module _ (image : List ℕ) (n : ℕ) (strays : ℕ → List ℕ) where
         (a : Answer) → onward (at x) a ≡ anywhere → l .phase ≡ Ended → (e : End) →
         finish e l (before ++ lines a) ≡ finish e (listenerAfter l (rest a)) (before ++ (lines a ++ linesGot (rest a)))
     ends-here a away over e =
-        let s : Stays l (rest a) = rw away (stays (repeated image n) strays l over m) in
+        let s : Stays l (rest a) = rw away (stays-unmarked (repeated image n) strays l over m) in
         rw (s .keeps, s .no-lines, append-nil)
 
     goes-on :

@@ -1,5 +1,5 @@
--- The listener's step where the bucket is the one awaited: it is taken, conditions 8, 9, 10 and 14 do not hold, and the
--- counts and the place awaited move on.
+-- The listener's step where the bucket is the one awaited: it is taken, conditions 8, 9, 10 and 14 do not hold, and the place
+-- awaited moves on.
 -- Assumes nothing.
 use mathlib.Core.Path.{_≡_, refl, sym, _∙_, ap, ap₂}
 use mathlib.Core.Logic.{⊎-elim}
@@ -11,7 +11,7 @@ use native.Mathlib.Omega.{arith}
 use lib.Dec.{eqb}
 use borrow.Author.Tests.{eq-eqb}
 use Rattle.buckets.specs.Bucket.{Bucket, cycleLength, readBucket}
-use Rattle.listener.specs.Listener.{start, choice, letterAwaited, dueAt, placeAwaited, awaited, isEnded, countsFit, refusedEnded, heardWith, elapsedWith, pastNextCycle, dozing, decided, heed, step}
+use Rattle.listener.specs.Listener.{start, choice, letterAwaited, dueAt, placeAwaited, awaited, isEnded, refusedEnded, pastNextCycle, dozing, decided, heed, step}
 use Rattle.cycle.proofs.Basics.Ranges.{le-or-lt}
 use Rattle.listener.specs.declared.Listener.{Listener}
 use Rattle.listener.specs.declared.Phase.{Phase}
@@ -19,7 +19,6 @@ use Rattle.listener.specs.declared.Phase.the-variants.{TuneIn, Index, Ei
 use Rattle.listener.specs.declared.Stepped.{Stepped}
 use Rattle.listener.proofs.Walks.Walk.{awake}
 use Rattle.listener.proofs.Steps.Dozes
-use Rattle.listener.proofs.Steps.States.{limits-fit}
 
 -- what is on air reads as the buckets of two cycles, of n and n′ buckets, each at its place; places count from the first one's start
 pub record Airs (sent : ℕ → List ℕ) (n n′ : ℕ) (bk : ℕ → Bucket) : Type 0 where
@@ -31,16 +30,13 @@ pub record Airs (sent : ℕ → List ℕ) (n n′ : ℕ) (bk : ℕ → Bucket) :
   pub new-position : (x : ℕ) → n ≤ x → x < n + n′ → bk x .position ≡ x - n
   pub new-start : (x : ℕ) → n ≤ x → x < n + n′ → bk x .toCycle ≡ n + n′ - x
 
--- s awaits the bucket at place x, and was tuned in at place u
-pub record Awaits (n tag u : ℕ) (bk : ℕ → Bucket) (x : ℕ) (ph : Phase) (s : Listener) : Type 0 where
+-- s awaits the bucket at place x
+pub record Awaits (n tag : ℕ) (bk : ℕ → Bucket) (x : ℕ) (ph : Phase) (s : Listener) : Type 0 where
   pub tag-is : s .tag ≡ tag
   pub phase-is : s .phase ≡ ph
   pub place-is : placeAwaited ph s (bk x) ≡ true
   pub old-passed : x < n → s .passed ≡ 0
   pub new-passed : n ≤ x → s .passed ≡ 1
-  pub gone-by : u + (s .elapsed + s .doze) ≡ x + 1
-  pub dozes-some : 1 ≤ s .doze
-  pub counted : s .heard ≤ s .elapsed
 
 -- a phase whose letter is awaited is not ended
 pub open-phase : (ph : Phase) (b : Bucket) → letterAwaited ph (b .body) ≡ true → isEnded ph ≡ false
@@ -50,26 +46,23 @@ open-phase Either b h = refl
 open-phase Data b h = refl
 open-phase Ended b h = sym h
 
--- the listener that was just started awaits its tune-in bucket
-pub start-awaits : (n tag u : ℕ) (bk : ℕ → Bucket) → u < n → Awaits n tag u bk u TuneIn (start tag)
-unfolding start
-start-awaits n tag u bk h =
+-- a listener that was just started, or starts over, awaits its tune-in bucket, at place u
+pub start-awaits :
+    (n tag u : ℕ) (bk : ℕ → Bucket) (s : Listener) → u < n → s .tag ≡ tag → s .phase ≡ TuneIn → s .passed ≡ 0 →
+    Awaits n tag bk u TuneIn s
+start-awaits n tag u bk s h same tuning none =
     record {
-      tag-is = refl;
-      phase-is = refl;
+      tag-is = same;
+      phase-is = tuning;
       place-is = refl;
-      old-passed = λ l. refl;
+      old-passed = λ l. none;
       new-passed = λ l. absurd (omega arith);
-      gone-by = omega arith;
-      dozes-some = omega arith;
-      counted = omega arith;
     }
 
 pub step-takes :
-    (s : Listener) (bytes : List ℕ) (b : Bucket) → isEnded (s .phase) ≡ false → countsFit s ≡ true →
-    readBucket bytes ≡ some b → step s bytes ≡ heed s b
+    (s : Listener) (bytes : List ℕ) (b : Bucket) → isEnded (s .phase) ≡ false → readBucket bytes ≡ some b → step s bytes ≡ heed s b
 unfolding step
-step-takes s bytes b h k r = rw (h, k, r)
+step-takes s bytes b h r = rw (h, r)
 
 pub heed-decides :
     (s : Listener) (b : Bucket) → awaited s b ≡ true → heed s b ≡ decided s b (choice (s .phase) (s .tag) b)
@@ -106,40 +99,25 @@ awaited-at-start s b p c = rw (p, c)
 along {ℓ} : {A : Type ℓ} {x y : Phase} {z : A} (f : Phase → A) → x ≡ y → f y ≡ z → f x ≡ z
 along f e h = ap f e ∙ h
 
-module _ (sent : ℕ → List ℕ) (n n′ tag u : ℕ) (bk : ℕ → Bucket) (air : Airs sent n n′ bk) where
+module _ (sent : ℕ → List ℕ) (n n′ tag : ℕ) (bk : ℕ → Bucket) (air : Airs sent n n′ bk) where
   -- what a listener makes of the bucket that it awaits
   pub takes :
-      {x : ℕ} {ph : Phase} (s : Listener) → Awaits n tag u bk x ph s → x < n + n′ → letterAwaited ph (bk x .body) ≡ true →
+      {x : ℕ} {ph : Phase} (s : Listener) → Awaits n tag bk x ph s → x < n + n′ → letterAwaited ph (bk x .body) ≡ true →
       step s (sent x) ≡ decided s (bk x) (choice ph tag (bk x))
   unfolding awaited
   takes {x} {ph} s a hx l =
       let l′ : letterAwaited (s .phase) (bk x .body) ≡ true = along (λ p. letterAwaited p (bk x .body)) (a .phase-is) l in
       let p′ : placeAwaited (s .phase) s (bk x) ≡ true = along (λ p. placeAwaited p s (bk x)) (a .phase-is) (a .place-is) in
-      step-takes s (sent x) (bk x) (open-phase (s .phase) (bk x) l′)
-      (limits-fit s
-      (record {
-        heard = omega (arith, a .counted, a .gone-by, air .small, air .small′);
-        elapsed = omega (arith, a .gone-by, air .small, air .small′);
-        doze = omega (arith, a .gone-by, air .small, air .small′);
-        passed = once;
-      })) (air .read x hx) ∙
+      step-takes s (sent x) (bk x) (open-phase (s .phase) (bk x) l′) (air .read x hx) ∙
       (heed-decides s (bk x) (rw (l′, p′)) ∙
       ap₂ {C = Stepped} (λ p g. decided s (bk x) (choice p g (bk x))) (a .phase-is) (a .tag-is))
-    where
-      once : s .passed ≤ 1
-      once =
-          ⊎-elim
-          (λ (h : n ≤ x). omega (arith, a .new-passed h))
-          (λ (h : x < n). omega (arith, a .old-passed h))
-          (le-or-lt n x)
 
   -- what a listener awaits that dozes within a cycle
   dozes-within :
-      {x : ℕ} {ph next : Phase} (s : Listener) (d : ℕ) → Awaits n tag u bk x ph s → awake next ≡ true → 1 ≤ d →
-      d < bk x .toCycle → bk (x + d) .position ≡ bk x .position + d → cycleLength (bk (x + d)) ≡ cycleLength (bk x) →
-      (x + d < n → s .passed ≡ 0) → (n ≤ x + d → s .passed ≡ 1) → Awaits n tag u bk (x + d) next (dozing s (bk x) d next)
-  unfolding dozing heardWith elapsedWith
-  dozes-within {x} {ph} {next} s d a w far near same cycle old new =
+      {x : ℕ} {ph next : Phase} (s : Listener) (d : ℕ) → Awaits n tag bk x ph s → awake next ≡ true → d < bk x .toCycle → bk (x + d) .position ≡ bk x .position + d → cycleLength (bk (x + d)) ≡ cycleLength (bk x) →
+      (x + d < n → s .passed ≡ 0) → (n ≤ x + d → s .passed ≡ 1) → Awaits n tag bk (x + d) next (dozing s (bk x) d next)
+  unfolding dozing
+  dozes-within {x} {ph} {next} s d a w near same cycle old new =
       record {
         tag-is = a .tag-is;
         phase-is = refl;
@@ -148,17 +126,14 @@ module _ (sent : ℕ → List ℕ) (n n′ tag u : ℕ) (bk : ℕ → Bucket) (a
             (awaited-within (dozing s (bk x) d next) (bk (x + d)) (same ∙ sym (Dozes.due-within (bk x) d near)) cycle);
         old-passed = λ h. Dozes.passed-within (bk x) d near s ∙ old h;
         new-passed = λ h. Dozes.passed-within (bk x) d near s ∙ new h;
-        gone-by = omega (arith, a .gone-by);
-        dozes-some = far;
-        counted = omega (arith, a .counted, a .dozes-some);
       }
 
   -- what one awaits that dozes to the start of the next cycle
   dozes-to-start :
-      {x : ℕ} {ph next : Phase} (s : Listener) (d : ℕ) → Awaits n tag u bk x ph s → awake next ≡ true → 1 ≤ d → x < n →
-      x + d ≡ n → bk x .toCycle ≡ d → bk (x + d) .position ≡ 0 → Awaits n tag u bk (x + d) next (dozing s (bk x) d next)
-  unfolding dozing heardWith elapsedWith
-  dozes-to-start {x} {ph} {next} s d a w far old sums start first =
+      {x : ℕ} {ph next : Phase} (s : Listener) (d : ℕ) → Awaits n tag bk x ph s → awake next ≡ true → x < n →
+      x + d ≡ n → bk x .toCycle ≡ d → bk (x + d) .position ≡ 0 → Awaits n tag bk (x + d) next (dozing s (bk x) d next)
+  unfolding dozing
+  dozes-to-start {x} {ph} {next} s d a w old sums start first =
       let far-on : bk x .toCycle ≤ d = omega arith in
       record {
         tag-is = a .tag-is;
@@ -167,42 +142,39 @@ module _ (sent : ℕ → List ℕ) (n n′ tag u : ℕ) (bk : ℕ → Bucket) (a
             due-place next (dozing s (bk x) d next) (bk (x + d)) w (awaited-at-start (dozing s (bk x) d next) (bk (x + d)) first (Dozes.due-start (bk x) d far-on));
         old-passed = λ h. absurd (omega arith);
         new-passed = λ h. omega (arith, Dozes.passed-start (bk x) d far-on s, a .old-passed old);
-        gone-by = omega (arith, a .gone-by);
-        dozes-some = far;
-        counted = omega (arith, a .counted, a .dozes-some);
       }
 
   -- a doze to a bucket of this cycle, or to the first one of the next: the listener that awaits it
   pub dozes-on :
-      {x : ℕ} {ph next : Phase} (s : Listener) (d : ℕ) → Awaits n tag u bk x ph s → awake next ≡ true → 1 ≤ d → d ≤ bk x .toCycle →
-      x + d < n + n′ → Awaits n tag u bk (x + d) next (dozing s (bk x) d next)
+      {x : ℕ} {ph next : Phase} (s : Listener) (d : ℕ) → Awaits n tag bk x ph s → awake next ≡ true → 1 ≤ d → d ≤ bk x .toCycle →
+      x + d < n + n′ → Awaits n tag bk (x + d) next (dozing s (bk x) d next)
   unfolding cycleLength
   dozes-on {x} {ph} {next} s d a w far near inside = ⊎-elim in-new in-old (le-or-lt n x)
     where
-      in-new : n ≤ x → Awaits n tag u bk (x + d) next (dozing s (bk x) d next)
+      in-new : n ≤ x → Awaits n tag bk (x + d) next (dozing s (bk x) d next)
       in-new h =
           let here : bk x .position ≡ x - n = air .new-position x h (omega arith) in
           let there : bk (x + d) .position ≡ x + d - n = air .new-position (x + d) (omega arith) inside in
           let start : bk x .toCycle ≡ n + n′ - x = air .new-start x h (omega arith) in
           let start′ : bk (x + d) .toCycle ≡ n + n′ - (x + d) = air .new-start (x + d) (omega arith) inside in
-          dozes-within s d a w far (omega arith) (omega arith) (omega arith) (λ l. absurd (omega arith)) (λ l. a .new-passed h)
+          dozes-within s d a w (omega arith) (omega arith) (omega arith) (λ l. absurd (omega arith)) (λ l. a .new-passed h)
 
-      in-old : x < n → Awaits n tag u bk (x + d) next (dozing s (bk x) d next)
+      in-old : x < n → Awaits n tag bk (x + d) next (dozing s (bk x) d next)
       in-old h =
           let here : bk x .position ≡ x = air .old-position x h in
           let start : bk x .toCycle ≡ n - x = air .old-start x h in
           ⊎-elim
           (λ (l : n ≤ x + d).
-          dozes-to-start s d a w far h (omega arith) (omega arith) (air .new-position (x + d) l inside ∙ omega arith))
+          dozes-to-start s d a w h (omega arith) (omega arith) (air .new-position (x + d) l inside ∙ omega arith))
           (λ (l : x + d < n).
           let there : bk (x + d) .position ≡ x + d = air .old-position (x + d) l in
           let start′ : bk (x + d) .toCycle ≡ n - (x + d) = air .old-start (x + d) l in
-          dozes-within s d a w far (omega arith) (omega arith) (omega arith) (λ k. a .old-passed h) (λ k. absurd (omega arith)))
+          dozes-within s d a w (omega arith) (omega arith) (omega arith) (λ k. a .old-passed h) (λ k. absurd (omega arith)))
           (le-or-lt n (x + d))
 
   -- 10 does not hold of a doze that stays before the end of the next cycle
   pub not-past :
-      {x : ℕ} {ph : Phase} (s : Listener) (d : ℕ) → Awaits n tag u bk x ph s → x + d < n + n′ → pastNextCycle s (bk x) d ≡ false
+      {x : ℕ} {ph : Phase} (s : Listener) (d : ℕ) → Awaits n tag bk x ph s → x + d < n + n′ → pastNextCycle s (bk x) d ≡ false
   unfolding pastNextCycle
   not-past {x} {ph} s d a inside =
       ⊎-elim

@@ -13,10 +13,9 @@ use Rattle.buckets.proofs.Good.{Good, bucket-good}
 use Rattle.buckets.proofs.Buckets.{print-of-read-bucket}
 use Rattle.listener.specs.Listener.{start, step, isEnded, awaited, letterAwaited, placeAwaited, elapsedWith, pastNextCycle}
 use Rattle.cycle.specs.Inner.Held.{noBucket}
-use Rattle.listener.specs.Started.{after, Limits, CountsLimited, CountsFit, readOr, tuneInBucket, PastByCount}
+use Rattle.listener.specs.Started.{after, Limits, CountsLimited, readOr, tuneInBucket, PastByCount}
 use Rattle.listener.specs.declared.Phase.the-variants.{Ended}
 use Rattle.listener.specs.declared.Listener.{Listener}
-use Rattle.listener.proofs.Steps.States.{limits-fit}
 use Rattle.listener.proofs.Steps.StepLeaves.{Takes, Tuned, midway, over, tuned-limited, Leaves, leaves-tuned, past-here, leaves-open, midway-takes, tuned-step, tuned-after}
 
 start-limited : (tag : ℕ) → Limits (start tag)
@@ -61,9 +60,6 @@ started tag bytes more other =
 pub counts-limited : CountsLimited
 counts-limited tag [] = start-limited tag
 counts-limited tag (bytes ∷ more) = tuned-limited (after (start tag) (bytes ∷ more)) (started tag bytes more noBucket)
-
-pub counts-fit : CountsFit
-counts-fit tag given = limits-fit (after (start tag) given) (counts-limited tag given)
 
 -- ---- any of them
 

@@ -1,45 +1,53 @@
--- Listener's states: those that fit, and the step by its conditions.
+-- A listener's counts, and its step by its conditions.
 -- Assumes nothing.
 use mathlib.Core.Path.{_≡_, refl, sym, _∙_, ap}
 use mathlib.Core.Bool.{Bool, true, false, not, _&&_, true≢false}
 use mathlib.Core.List.{List}
-use Prim.Native.Nat.{ℕ}
+use Prim.Native.Nat.{ℕ, suc, _+_, _≤_, _<_}
 use native.Mathlib.Omega.{arith}
-use lib.Dec.{leb}
-use borrow.Author.Tests.{leb-true, le-leb, not-true, not-false}
-use Rattle.columns.proofs.Strict.{both}
+use borrow.Author.Tests.{not-true, not-false}
 use Rattle.buckets.specs.Bucket.{Bucket, readBucket}
-use Rattle.listener.specs.Listener.{dozes, countMost, countsFit, letterAwaited, placeAwaited, awaited, bodyChoice, choice, decided, refused, refusedEnded, isEnded, heed, heedRead, step}
-use Rattle.listener.specs.Inner.OnReading.{isTuneIn, Counts}
-use Rattle.listener.specs.Started.{Limits}
+use Rattle.listener.specs.Listener.{dozes, countMost, stopped, heardWith, elapsedWith, letterAwaited, placeAwaited, awaited, bodyChoice, choice, decided, stepped, refused, refusedEnded, isEnded, heed, heedRead, step, startsOver, lost}
+use Rattle.listener.specs.Inner.OnReading.{isTuneIn}
 use Rattle.listener.specs.declared.Phase.{Phase}
 use Rattle.listener.specs.declared.Phase.the-variants.{TuneIn, Index, Either, Data, Ended}
 use Rattle.listener.specs.declared.Listener.{Listener}
+use Rattle.listener.specs.declared.Answer.the-variants.{Doze}
 use Rattle.listener.specs.declared.Stepped.{Stepped}
 
-pub counts : (s : Listener) → countsFit s ≡ true → Counts s
-unfolding countsFit
-counts s h =
-    let fit : ℕ → Bool = λ x. leb x countMost in
-    let a = both (fit (s .heard)) (fit (s .elapsed) && (fit (s .doze) && fit (s .passed))) h in
-    let b = both (fit (s .elapsed)) (fit (s .doze) && fit (s .passed)) (a .1) in
-    let c = both (fit (s .doze)) (fit (s .passed)) (b .1) in
-    record {
-      heard = leb-true (s .heard) countMost (a .0);
-      elapsed = leb-true (s .elapsed) countMost (b .0);
-      doze = leb-true (s .doze) countMost (c .0);
-      passed = leb-true (s .passed) countMost (c .1);
-    }
+-- ---- counts
 
-pub limits-fit : (s : Listener) → Limits s → countsFit s ≡ true
-unfolding countsFit
-limits-fit s l =
-    rw (
-      le-leb (s .heard) countMost (omega arith),
-      le-leb (s .elapsed) countMost (omega arith),
-      le-leb (s .doze) countMost (omega arith),
-      le-leb (s .passed) countMost (omega arith),
-    )
+pub not-stopped : (x : ℕ) → x ≤ countMost → stopped x ≡ x
+unfolding stopped
+not-stopped x h = omega arith
+
+module _ (s : Listener) where
+  pub heard-with : s .heard < countMost → heardWith s ≡ s .heard + 1
+  unfolding heardWith
+  heard-with h = not-stopped (s .heard + 1) (omega arith)
+
+  pub elapsed-with : s .elapsed + s .doze ≤ countMost → elapsedWith s ≡ s .elapsed + s .doze
+  unfolding elapsedWith
+  elapsed-with h = not-stopped (s .elapsed + s .doze) h
+
+  -- with a bucket counted, they keep to the largest, and stop where they would with what comes behind it
+  pub heard-counted : heardWith s ≤ countMost
+  unfolding heardWith stopped
+  heard-counted = omega arith
+
+  pub elapsed-counted : elapsedWith s ≤ countMost
+  unfolding elapsedWith stopped
+  elapsed-counted = omega arith
+
+  pub heard-on : (k : ℕ) → stopped (heardWith s + k) ≡ stopped (s .heard + suc k)
+  unfolding heardWith stopped
+  heard-on k = omega arith
+
+  pub elapsed-on : (g : ℕ) → stopped (elapsedWith s + g) ≡ stopped (s .elapsed + (s .doze + g))
+  unfolding elapsedWith stopped
+  elapsed-on g = omega arith
+
+-- ---- conditions
 
 -- 9 does not hold, at tune-in or later, or does
 heed-awaited :
@@ -96,10 +104,16 @@ module _ (s : Listener) (bytes : List ℕ) where
   unfolding step
   step-ended h = rw h
 
-  pub step-unfit : isEnded (s .phase) ≡ false → countsFit s ≡ false → step s bytes ≡ refusedEnded s
+  pub step-read : isEnded (s .phase) ≡ false → step s bytes ≡ heedRead s (readBucket bytes)
   unfolding step
-  step-unfit h g = rw (h, g)
+  step-read h = rw h
 
-  pub step-read : isEnded (s .phase) ≡ false → countsFit s ≡ true → step s bytes ≡ heedRead s (readBucket bytes)
-  unfolding step
-  step-read h g = rw (h, g)
+-- the same of a lost bucket
+module _ (s : Listener) where
+  pub lost-ended : isEnded (s .phase) ≡ true → lost s ≡ refusedEnded s
+  unfolding lost
+  lost-ended h = rw h
+
+  pub lost-open : isEnded (s .phase) ≡ false → lost s ≡ stepped (startsOver s) (Doze 1) 0 0
+  unfolding lost
+  lost-open h = rw h

@@ -1,7 +1,7 @@
 -- What a step names lies in its bucket, and it dozes by no more than 99,999.
 -- Assumes nothing.
 use mathlib.Core.Path.{_≡_, refl, subst}
-use mathlib.Core.Bool.{Bool, true, false, _&&_, _||_, not}
+use mathlib.Core.Bool.{Bool, true, false, _&&_, not}
 use mathlib.Core.Option.{Option, none, some}
 use mathlib.Core.List.{List, [], _∷_}
 use Prim.Native.Nat.{ℕ, suc, _+_, _≤_}
@@ -17,7 +17,7 @@ use Rattle.buckets.specs.Bucket.{Pair, Entry, Body, indexBody, dataBody, Bucket
 use Rattle.buckets.proofs.Good.{Good, GoodBody, bucket-good, pair-fits, entry-fits}
 use Rattle.buckets.proofs.Buckets.{print-of-read-bucket}
 use Rattle.buckets.specs.BucketLines.{bodyLines, linesRead}
-use Rattle.listener.specs.Listener.{Choice, dozes, finds, misses, entryChoice, tagBelow, laterChoice, atMost, indexChoice, before, matching, lastIs, dataChoice, bodyChoice, choice, isEnded, countsFit, stepped, refused, refusedEnded, decided, awaited, pastNextCycle, heed, heedRead, step, named}
+use Rattle.listener.specs.Listener.{Choice, dozes, finds, misses, entryChoice, tagBelow, laterChoice, atMost, indexChoice, before, matching, lastIs, dataChoice, bodyChoice, choice, isEnded, stepped, refused, refusedEnded, decided, awaited, pastNextCycle, heed, heedRead, step, named}
 use Rattle.listener.specs.declared.Phase.{Phase}
 use Rattle.listener.specs.declared.Phase.the-variants.{TuneIn, Index, Either, Data, Ended}
 use Rattle.listener.specs.declared.Listener.{Listener}
@@ -176,7 +176,7 @@ module _ (s : Listener) (bytes : List ℕ) where
   pub within-step : Within (length (linesRead (readBucket bytes))) (step s bytes)
   unfolding step
   within-step =
-      either-step (length (linesRead (readBucket bytes))) (isEnded (s .phase) || not (countsFit s))
+      either-step (length (linesRead (readBucket bytes))) (isEnded (s .phase))
       (within-ended (length (linesRead (readBucket bytes))) s)
       (within-read s bytes (readBucket bytes) refl)
 

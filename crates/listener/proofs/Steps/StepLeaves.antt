@@ -26,7 +26,7 @@ use Rattle.listener.specs.declared.Answer.{Answer}
 use Rattle.listener.specs.declared.Answer.the-variants.{Doze, Found, Absent, Refused}
 use Rattle.listener.specs.declared.Stepped.{Stepped}
 use Rattle.listener.proofs.Walks.Walk.{awake}
-use Rattle.listener.proofs.Steps.States.{limits-fit, step-ended, step-read}
+use Rattle.listener.proofs.Steps.States.{heard-with, elapsed-with, step-ended, step-read}
 use Rattle.listener.proofs.Steps.Dozes.{due-within, passed-within, due-start, passed-start, past-start}
 use Rattle.listener.proofs.Steps.StepBounds.{Hop, Bounded, bounded-choice}
 
@@ -150,8 +150,8 @@ module _ (t : Bucket) (s : Listener) (b : Bucket) (good : Good b) (k : Takes t s
   pub past-here :
       (d : ℕ) → d ≤ b .toCycle →
       pastNextCycle s b d ≡ ltb (cycleLength t + cycleLength b) (t .position + (elapsedWith s + d))
-  unfolding pastNextCycle elapsedWith reachesStart cycleLength
-  past-here d near = by (s .passed) refl
+  unfolding pastNextCycle reachesStart cycleLength
+  past-here d near = rw (elapsed-with s (omega (arith, gone-short))) (by (s .passed) refl)
     where
       by :
           (passed : ℕ) → s .passed ≡ passed →
@@ -223,12 +223,15 @@ module _ (t : Bucket) (s : Listener) (b : Bucket) (good : Good b) (k : Takes t s
   leaves-ended :
       (a : Answer) (first count : ℕ) → isDoze a ≡ false →
       Leaves t s (stepped (ended s (heardWith s) (elapsedWith s)) a first count)
-  unfolding stepped ended heardWith elapsedWith
+  unfolding stepped ended
   leaves-ended a first count e =
+      let short = gone-short in
+      let heard = heard-with s (omega (arith, k .counted)) in
+      let elapsed = elapsed-with s (omega arith) in
       stops
       (record {
         over-is = refl;
-        limited = record { heard = omega (arith, gone-short, k); elapsed = omega (arith, gone-short); doze = limited .doze; passed = k .once };
+        limited = record { heard = omega (arith, k .counted, k .dozed); elapsed = omega arith; doze = limited .doze; passed = k .once };
         no-less = omega arith;
         no-doze = e;
       })
@@ -236,14 +239,17 @@ module _ (t : Bucket) (s : Listener) (b : Bucket) (good : Good b) (k : Takes t s
   leaves-dozing :
       (d : ℕ) (next : Phase) (first count : ℕ) → Hop (b .toCycle) d next → pastNextCycle s b d ≡ false →
       Leaves t s (stepped (dozing s b d next) (Doze d) first count)
-  unfolding stepped dozing heardWith elapsedWith
+  unfolding stepped dozing
   leaves-dozing d next first count h past =
+      let short = gone-short in
+      let heard = heard-with s (omega (arith, k .counted)) in
+      let elapsed = elapsed-with s (omega arith) in
       goes-on
       (record {
         awaits =
             record {
               awake-is = h .wakes;
-              next = next-place d (h .onward) (h .near) past;
+              next = rw elapsed (next-place d (h .onward) (h .near) past);
               tuned-short = k .tuned-short;
               dozed = h .onward;
               counted = omega (arith, k .counted, k .dozed);
@@ -282,7 +288,7 @@ module _ (t : Bucket) (s : Listener) (bytes : List ℕ) (l : Limits s) where
   pub leaves-open :
       isEnded (s .phase) ≡ false → ((b : Bucket) → readBucket bytes ≡ some b → awaited s b ≡ true → Takes t s b) →
       Leaves t s (step s bytes)
-  leaves-open o takes = rw (step-read s bytes o (limits-fit s l)) (leaves-read (readBucket bytes) refl takes)
+  leaves-open o takes = rw (step-read s bytes o) (leaves-read (readBucket bytes) refl takes)
 
 -- the place that a listener awaits past its tune-in: N is tested within a cycle only
 record Due (s : Listener) (b : Bucket) : Type 0 where

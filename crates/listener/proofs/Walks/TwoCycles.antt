@@ -18,15 +18,14 @@ use Rattle.cycle.specs.Inner.Held.{cycleBucket}
 use Rattle.cycle.proofs.Basics.Ranges.{le-or-lt}
 use Rattle.cycle.proofs.Lines.DataTags.{AcceptedPlan}
 use Rattle.cycle.proofs.Building.BuiltImage.{CycleOf}
-use Rattle.listener.specs.Listener.{start}
 use Rattle.listener.specs.Hearing.{hearing}
 use Rattle.listener.specs.Demand3.{endWanted}
 use Rattle.listener.specs.EndPlace.{endPlace}
 use Rattle.listener.specs.declared.Phase.the-variants.{TuneIn, Index}
-use Rattle.listener.proofs.Steps.Mechanics.{Airs, start-awaits}
+use Rattle.listener.proofs.Steps.Mechanics.{Airs}
 use Rattle.listener.proofs.Walks.Walk.{Walk}
-use Rattle.listener.proofs.Walks.WalkedSteps.{Walked}
-use Rattle.listener.proofs.Walks.Walked.{walked}
+use Rattle.listener.proofs.Walks.Walked.{Stretch}
+use Rattle.listener.proofs.Walks.Unmarked.{Walked, walked-unmarked}
 use Rattle.listener.proofs.Walks.Ways.{Carries, walk-as, to-start-of}
 use Rattle.listener.proofs.Walks.Arrival.{wanted, runs}
 use Rattle.listener.proofs.Walks.SegmentStart.{Within, endOfStart, ends, passes, from-first}
@@ -86,6 +85,17 @@ module _ {sent : ℕ → List ℕ} {t t′ : Plan} (s : Sends sent t t′) where
             λ x h l.
             ap (λ b. b .toCycle) (on-new x h) ∙
             omega (arith, to-start-of t′ (s .fits′ .keeps) (x - cycleSize t) (omega arith));
+      }
+
+  -- both, from place 0 on
+  unfoldable stretch : Stretch sent
+  stretch =
+      record {
+        base = 0;
+        n = cycleSize t;
+        n′ = cycleSize t′;
+        bucket = bucketOn;
+        airs = subst (λ f. Airs f (cycleSize t) (cycleSize t′) bucketOn) (λ i x. sent (sym (zero-add x) i)) airs;
       }
 
   unfoldable pub first : Carries both bucketOn t
@@ -164,8 +174,10 @@ module _ {sent : ℕ → List ℕ} {t t′ : Plan} (s : Sends sent t t′) where
     -- what holds of the hearing, whatever the number of its steps
     pub told :
         {p : Plan} {z : ℕ} → u < cycleSize t → (w : WalkTo p tag u z) (m : ℕ) (strays : ℕ → List ℕ) →
-        Walked both u (start tag) m (w .steps) (endWanted (wanted p tag)) z (wanted p tag) (hearing sent strays tag u m)
-    unfolding hearing
-    told h w m strays =
-        walked sent (cycleSize t) (cycleSize t′) tag u bucketOn airs (omega arith) strays (w .walk) (start tag)
-        (start-awaits (cycleSize t) tag u bucketOn h) m
+        Walked both u tag m (w .steps) (endWanted (wanted p tag)) z (wanted p tag) (hearing sent strays tag u m)
+    unfolding stretch
+    told {p} {z} h w m strays =
+        subst (λ v. Walked v u tag m (w .steps) (endWanted (wanted p tag)) z (wanted p tag) (hearing sent strays tag u m)) (zero-add both)
+        (subst (λ v. Walked (0 + both) v tag m (w .steps) (endWanted (wanted p tag)) z (wanted p tag) (hearing sent strays tag v m)) (zero-add u)
+        (subst (λ v. Walked (0 + both) (0 + u) tag m (w .steps) (endWanted (wanted p tag)) v (wanted p tag) (hearing sent strays tag (0 + u) m)) (zero-add z)
+        (walked-unmarked sent strays tag stretch u (w .steps) (endWanted (wanted p tag)) z (wanted p tag) m (w .walk) h)))

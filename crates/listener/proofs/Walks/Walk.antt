@@ -60,3 +60,18 @@ module _ {last tag : ℕ} {bk : ℕ → Bucket} where
   walk-end (misses-here hx l c) = hx
   walk-end (finds-here f c hx l e) = hx
   walk-end (hops d f c hx l e w far near more) = walk-end more
+
+  -- what it awaits may come
+  pub walk-open :
+      {x : ℕ} {ph : Phase} {h : ℕ} {e : End} {z : ℕ} {got : List Line} → Walk last tag bk x ph h e z got →
+      letterAwaited ph (bk x .body) ≡ true
+  walk-open (misses-here hx l c) = l
+  walk-open (finds-here f c hx l e) = l
+  walk-open (hops d f c hx l e w far near more) = l
+
+  -- every step goes on, so there are no more steps than places
+  pub walk-short :
+      {x : ℕ} {ph : Phase} {h : ℕ} {e : End} {z : ℕ} {got : List Line} → Walk last tag bk x ph h e z got → x + h ≤ last
+  walk-short (misses-here hx l c) = omega arith
+  walk-short (finds-here f c hx l e) = omega arith
+  walk-short (hops d f c hx l e w far near more) = omega (arith, walk-short more)

@@ -15,10 +15,8 @@ use Rattle.buckets.specs.declared.IndexItems.{IndexItems}
 use Rattle.buckets.specs.declared.Reading.{Reading}
 use Rattle.buckets.specs.Bucket.{Entry, readBucket}
 use Rattle.buckets.specs.Inner.Held.{entriesOf, asReading}
-use Rattle.listener.specs.Listener.{countMost}
 use Rattle.listener.specs.declared.Phase.{Phase}
 use Rattle.listener.specs.declared.Phase.the-variants
-use Rattle.listener.specs.declared.Listener.{Listener}
 
 -- ---- index buckets
 
@@ -69,7 +67,7 @@ isTuneIn the-variants.Either = false
 isTuneIn the-variants.Data = false
 isTuneIn the-variants.Ended = false
 
--- ---- what a well printed bucket keeps, and a state that fits
+-- ---- what a well printed bucket keeps
 
 unfoldable pub near : Entry → Bool
 near e = leb 1 (e .distance) && leb (e .distance) bucketsMost
@@ -93,9 +91,3 @@ pub record SoundIndex (x : IndexItems) : Type 0 where
 pub record WasRead (r : Reading) : Type 0 where
   pub bytes : List ℕ
   pub is : r ≡ asReading (readBucket bytes)
-
-pub record Counts (s : Listener) : Type 0 where
-  pub heard : s .heard ≤ countMost
-  pub elapsed : s .elapsed ≤ countMost
-  pub doze : s .doze ≤ countMost
-  pub passed : s .passed ≤ countMost

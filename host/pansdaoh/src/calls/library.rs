@@ -70,6 +70,7 @@ extern "C" {
     ) -> Found;
     fn pansdaoh_start(state: *mut State, tag: u64);
     fn pansdaoh_step(state: *mut State, bucket: *const u8, bucket_length: usize) -> Step;
+    fn pansdaoh_lost(state: *mut State) -> Step;
     fn pansdaoh_heard(state: *const State) -> u64;
     fn pansdaoh_elapsed(state: *const State) -> u64;
     fn pansdaoh_line(bucket: *const u8, bucket_length: usize, i: u64) -> Line;
@@ -183,14 +184,21 @@ pub fn step(state: &mut State, bucket: &[u8]) -> Step {
     unsafe { pansdaoh_step(state, bucket.as_ptr(), bucket.len()) }
 }
 
-/// The buckets that a listener has taken.
+/// Gives a listener a bucket that was lost; refuses by 14.
+#[inline]
+pub fn lost(state: &mut State) -> Step {
+    // SAFETY: the state is lent for the call, eight numbers that nothing else leads to.
+    unsafe { pansdaoh_lost(state) }
+}
+
+/// The buckets that a listener has taken, lost ones counted.
 #[inline]
 pub fn heard(state: &State) -> u64 {
     // SAFETY: the state is lent for the call, eight numbers that are only read.
     unsafe { pansdaoh_heard(state) }
 }
 
-/// The buckets from tune-in to the last taken, both in.
+/// The buckets from the first taken to the last, both in, be they lost or not.
 #[inline]
 pub fn elapsed(state: &State) -> u64 {
     // SAFETY: the state is lent for the call, eight numbers that are only read.

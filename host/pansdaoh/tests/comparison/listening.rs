@@ -1,4 +1,5 @@
 use pansdaoh::calls::{self, State, Step};
+use reference::air::losses::{self, stopped};
 use reference::air::{hear_bounds, hear_changing, Hears};
 use reference::generate::{alter, each_alteration, list, Random};
 use reference::yards::{damaged_cycle, image_of};
@@ -22,6 +23,15 @@ impl Both {
         both
     }
 
+    /// The same with other counts, which are the state's last two numbers.
+    fn with_counts(tag: u64, heard: u64, elapsed: u64) -> Both {
+        let mut both = Both::new(tag);
+        both.state()[6..].copy_from_slice(&[heard, elapsed]);
+        both.reference = both.reference.with_counts(heard, elapsed);
+        both.check_counts();
+        both
+    }
+
     fn state(&mut self) -> &mut State {
         (&mut self.numbers[2..10]).try_into().unwrap()
     }
@@ -36,12 +46,13 @@ impl Both {
     fn step(&mut self, bucket: &[u8]) -> Answer {
         self.hear(bucket).0
     }
-}
 
-impl Hears for Both {
-    fn hear(&mut self, bucket: &[u8]) -> (Answer, u64, u64) {
-        let before = *self.state();
-        let (next, answer, first, count) = self.reference.step(bucket);
+    /// What the reference handed back, and what the library did.
+    fn compare(
+        &mut self,
+        (next, answer, first, count): (Listener, Answer, u64, u64),
+        call: impl Fn(&mut State) -> Step,
+    ) -> (Answer, u64, u64) {
         self.reference = next;
         let (kind, value) = match answer {
             Answer::Doze(distance) => (1, distance),
@@ -49,15 +60,33 @@ impl Hears for Both {
             Answer::Absent => (3, 0),
             Answer::Refused(number) => (4, number),
         };
-        let given = bucket.to_vec();
-        let step = calls::step(self.state(), &given);
+        let before = *self.state();
+        let step = call(self.state());
         assert_eq!(step, Step { answer: kind, value, first, count });
-        assert!(given == bucket, "the bucket was touched");
-        if value == 14 && kind == 4 {
+        if answer == Answer::Refused(14) {
             assert_eq!(*self.state(), before);
         }
         self.check_counts();
         (answer, first, count)
+    }
+}
+
+impl Hears for Both {
+    fn hear(&mut self, bucket: &[u8]) -> (Answer, u64, u64) {
+        let given = bucket.to_vec();
+        let answer = self.compare(self.reference.step(bucket), |state| calls::step(state, &given));
+        assert!(given == bucket, "the bucket was touched");
+        answer
+    }
+
+    fn lose(&mut self) -> (Answer, u64, u64) {
+        let answer = self.compare(self.reference.lost(), calls::lost);
+        if answer.0 != Answer::Refused(14) {
+            // But for its counts it is a listener that was just started.
+            let (tag, (heard, elapsed)) = (self.state()[0], self.counts());
+            assert_eq!(self.numbers, Both::with_counts(tag, heard, elapsed).numbers);
+        }
+        answer
     }
 
     fn counts(&self) -> (u64, u64) {
@@ -76,6 +105,26 @@ fn bounds_of_8_to_10() {
     hear_bounds(Both::new);
 }
 
+#[test]
+fn lost_buckets() {
+    losses::hear_unchanged(Both::new);
+}
+
+#[test]
+fn lost_buckets_of_changing_lists() {
+    losses::hear_changing(Both::new);
+}
+
+#[test]
+fn answers_to_lost_buckets() {
+    losses::hear_ways(Both::new);
+}
+
+#[test]
+fn counts_stop() {
+    losses::hear_near_stop(Both::with_counts);
+}
+
 /// The step of a doze, then on round the image.
 fn next_place(place: usize, answer: Answer, buckets: usize) -> usize {
     match answer {
@@ -84,36 +133,30 @@ fn next_place(place: usize, answer: Answer, buckets: usize) -> usize {
     }
 }
 
-/// Hearings on the awaited bucket or another one, over damaged images too, and
-/// on after the end.
+/// Hearings on the awaited bucket, another or a lost one, over damaged images too,
+/// and on after the end.
 #[test]
 fn hearings() {
     let random = &mut Random::new(1);
-    let mut refused = [0; 15];
+    // Buckets, and lost ones, that were refused.
+    let (mut refused, mut lost) = ([0; 15], 0);
     for _ in 0..30_000 {
         let image = damaged_cycle(random, 20, 3);
-        let buckets = image.len() / 240;
-        if buckets == 0 {
-            continue;
-        }
-        let mut place = random.below(buckets as u64) as usize;
         let mut both = Both::new(random.below(24));
-        for _ in 0..14 {
-            if random.below(12) == 0 {
-                place = random.below(buckets as u64) as usize;
+        losses::wander(random, &image, |bucket| {
+            let (answer, ..) = both.give(bucket);
+            match answer {
+                Answer::Refused(_) if bucket.is_none() => lost += 1,
+                Answer::Refused(number) => refused[number as usize] += 1,
+                _ => {}
             }
-            let length = if random.below(50) == 0 { random.below(250) as usize } else { 240 };
-            let bucket = &image[240 * place..];
-            let answer = both.step(&bucket[..length.min(bucket.len())]);
-            place = next_place(place, answer, buckets);
-            if let Answer::Refused(number) = answer {
-                refused[number as usize] += 1;
-            }
-        }
+            answer
+        });
     }
     for number in [8, 9, 10, 14] {
         assert!(refused[number] > 100, "{refused:?}");
     }
+    assert!(lost > 100, "{lost}");
 }
 
 /// Each byte of a bucket of every kind, altered to each of 256, heard at
@@ -179,32 +222,90 @@ fn any_length() {
 fn any_state() {
     let random = &mut Random::new(4);
     let image = image_of(&list(random, 20, 1), [2, 2, 1, 1]);
-    let buckets = (image.len() / 240) as u64;
+    let buckets = image.len() / 240;
+    // Doze, found, absent and refused.
+    let mut seen = [0; 5];
     for round in 0..200_000 {
-        let place = random.below(buckets) as usize;
-        let mut bucket = image[240 * place..][..240].to_vec();
-        if random.below(4) == 0 {
-            alter(random, &mut bucket);
-        }
-        // Any numbers, or a listener's with some of them altered.
+        let mut place = random.below(buckets as u64) as usize;
+        // Any numbers, or those of a listener on its way with some of them altered.
         let mut state: State = std::array::from_fn(|_| any_number(random));
         if round % 2 == 0 {
             calls::start(&mut state, random.below(20));
-            for _ in 0..random.below(3) {
-                calls::step(&mut state, &image[240 * random.below(buckets) as usize..][..240]);
+            for _ in 0..random.below(8) {
+                let step = calls::step(&mut state, &image[240 * place..][..240]);
+                place = (place + step.value as usize) % buckets;
             }
             for _ in 0..1 + random.below(3) {
                 state[random.below(8) as usize] = any_number(random);
             }
         }
         for _ in 0..3 {
-            calls::heard(&state);
-            calls::elapsed(&state);
-            let step = calls::step(&mut state, &bucket);
-            assert!((1..=4).contains(&step.answer), "{step:?}");
-            assert!(step.first + step.count <= 8, "{step:?}");
+            let mut bucket = image[240 * place..][..240].to_vec();
+            if random.below(4) == 0 {
+                alter(random, &mut bucket);
+            }
+            let lost = lose_any(state);
+            let step = step_any(&mut state, &bucket);
+            seen[step.answer as usize] += 1;
+            if random.below(4) == 0 {
+                state = lost;
+            }
+            place = (place + step.value as usize) % buckets;
         }
     }
+    assert!(seen[1..].iter().all(|&times| times > 100), "{seen:?}");
+}
+
+/// The numbers of a state that tell whether it has ended, and the doze to the
+/// bucket at hand; those of the counts stand last.
+const PHASE: usize = 1;
+const DOZE: usize = 5;
+
+/// Both counts of a state, and what they are with one bucket more.
+fn counts_of(state: &State) -> [(u64, u64); 2] {
+    let (heard, elapsed) = (calls::heard(state), calls::elapsed(state));
+    assert_eq!([heard, elapsed], state[6..]);
+    [(heard, elapsed), (stopped(heard, 1), stopped(elapsed, state[DOZE]))]
+}
+
+/// Any state is given a lost bucket; returns the state after it.
+fn lose_any(before: State) -> State {
+    let [_, (heard, elapsed)] = counts_of(&before);
+    let mut state = before;
+    let step = calls::lost(&mut state);
+    let (answer, value, after) = match before[PHASE] {
+        0..4 => (calls::STEP_DOZE, 1, [before[0], 0, 0, 0, 0, 1, heard, elapsed]),
+        _ => (calls::STEP_REFUSED, 14, before),
+    };
+    assert_eq!(step, Step { answer, value, first: 0, count: 0 }, "{before:?}");
+    assert_eq!(state, after, "{before:?}");
+    state
+}
+
+/// Any state is given a bucket. 14 is the answer of an ended one alone, 8 to 10 leave
+/// the counts as they are, and no answer hangs on the counts.
+fn step_any(state: &mut State, bucket: &[u8]) -> Step {
+    let before = *state;
+    let [counts, counts_with] = counts_of(&before);
+    let step = calls::step(state, bucket);
+    assert!(step.first + step.count <= 8, "{before:?}");
+    let mut small = before;
+    small[6..].fill(0);
+    assert_eq!(calls::step(&mut small, bucket), step, "{before:?}");
+    assert_eq!(small[..6], state[..6], "{before:?}");
+    let ended = before[PHASE] >= 4;
+    match step.answer {
+        calls::STEP_DOZE..=calls::STEP_ABSENT => {
+            assert!(!ended && counts_of(state)[0] == counts_with, "{before:?}");
+        }
+        calls::STEP_REFUSED if ended => assert_eq!((step.value, *state), (14, before)),
+        calls::STEP_REFUSED => {
+            assert!((8..=10).contains(&step.value), "{before:?} {step:?}");
+            assert_eq!(counts_of(state)[0], counts, "{before:?}");
+        }
+        _ => panic!("{before:?} {step:?}"),
+    }
+    step
 }
 
 fn any_number(random: &mut Random) -> u64 {

@@ -54,6 +54,29 @@ fn answers_and_counts() {
     assert_eq!((listener.heard(), listener.elapsed()), (0, 0));
 }
 
+/// The bucket with the tag's last line is lost: what was taken is void, the next
+/// bucket is the tune-in, and the counts run on.
+#[test]
+fn lost_buckets() {
+    let image = image_of(&list_of(&[3, 5, 5, 8, 9]), [2, 1, 1, 1]);
+    let bucket = |position: usize| &image[BUCKET * position..][..BUCKET];
+    let mut listener = Listener::new(5);
+    let answers = [0, 8, 0, 1, 2].map(|position| listener.step(bucket(position)).0);
+    assert_eq!(answers, [8, 4, 1, 1, 3].map(Answer::Doze));
+    assert_eq!(listener.step(bucket(5)), (Answer::Doze(1), 0..1));
+    assert_eq!((listener.heard(), listener.elapsed()), (6, 18));
+    assert_eq!(listener.lost(), Answer::Doze(1));
+    assert_eq!((listener.heard(), listener.elapsed()), (7, 19));
+    let answers = [7, 8, 0, 1, 2].map(|position| listener.step(bucket(position)).0);
+    assert_eq!(answers, [1, 4, 1, 1, 3].map(Answer::Doze));
+    let answers = [5, 6].map(|position| listener.step(bucket(position)));
+    assert_eq!(answers, [(Answer::Doze(1), 0..1), (Answer::Found, 0..1)]);
+    let ended = listener;
+    assert_eq!(listener.lost(), Answer::Refused(Refusal { number: 14, place: 0 }));
+    assert_eq!(listener, ended);
+    assert_eq!((listener.heard(), listener.elapsed()), (14, 31));
+}
+
 /// A refusal is an error that says number, place and condition.
 #[test]
 fn refusals_in_words() {

@@ -14,6 +14,6 @@ void *memcpy(void *to, const void *from, size_t length) {
 uint64_t listens(struct pansdaoh_listener *listener, const uint8_t *bucket, size_t length) {
     pansdaoh_start(listener->state, 5);
     return pansdaoh_step(listener->state, bucket, length).answer +
-           pansdaoh_heard(listener->state) + pansdaoh_elapsed(listener->state) +
-           pansdaoh_line(bucket, length, 0).tare;
+           pansdaoh_lost(listener->state).answer + pansdaoh_heard(listener->state) +
+           pansdaoh_elapsed(listener->state) + pansdaoh_line(bucket, length, 0).tare;
 }

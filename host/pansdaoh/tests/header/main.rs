@@ -117,11 +117,13 @@ fn code_size() {
     compiler.args(["-Os", "-ffreestanding", "-fno-asynchronous-unwind-tables", "-nostdlib"]);
     compiler.args(["-static", "-Wl,-e,listens", "-Wl,--gc-sections"]);
     let listens = size(&link(&mut compiler, "listens.c", "listens"));
-    assert!(listens <= claimed("(start, step, heard, elapsed, line) less than "), "{listens}");
+    let calls = "(start, step, lost, heard, elapsed, line) less than ";
+    assert!(listens <= claimed(calls), "{listens}");
     assert!(listens < whole / 2, "{listens} of {whole}");
 }
 
-/// Each figure is at least what was measured, and no more than four times that.
+/// Each figure is at least what was measured, and no more than four times that;
+/// lost has no figure but needs less than step.
 #[test]
 fn stack() {
     let mut compiler = c_compiler();
@@ -129,11 +131,13 @@ fn stack() {
     compiler.args(["-std=gnu11", "-O2", "-Wl,-z,now"]);
     let figures = output(&mut Command::new(link(&mut compiler, "stack.c", "stack")));
     let calls: Vec<&str> = figures.lines().map(|line| line.split(' ').next().unwrap()).collect();
-    let all = ["build", "size", "arrive", "take_out", "read_back", "lookup", "step", "line"];
+    let all =
+        ["build", "size", "arrive", "take_out", "read_back", "lookup", "step", "lost", "line"];
     assert_eq!(calls, all);
     for line in figures.lines() {
         let numbers: Vec<u64> = line.split(' ').skip(1).map(|word| word.parse().unwrap()).collect();
         let (measured, claimed) = (numbers[0], numbers[1]);
-        assert!(measured <= claimed && claimed <= 4 * measured, "{line}");
+        let most = if line.starts_with("lost ") { u64::MAX } else { 4 * measured };
+        assert!(measured <= claimed && claimed <= most, "{line}");
     }
 }

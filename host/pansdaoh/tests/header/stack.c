@@ -1,7 +1,8 @@
 /*
  * Prints for each call the stack that it took, at most, over the deepest trees
- * and others, and the most that the header allows. Each call runs on a stack of
- * its own that was filled with one byte before; what is changed was taken.
+ * and others, and the most that the header allows: for lost, what step took. Each
+ * call runs on a stack of its own that was filled with one byte before; what is
+ * changed was taken.
  */
 #include "pansdaoh.h"
 
@@ -58,6 +59,10 @@ static void call_step(void) {
     step = pansdaoh_step(listener.state, image + place * PANSDAOH_BUCKET, PANSDAOH_BUCKET);
 }
 
+static void call_lost(void) {
+    step = pansdaoh_lost(listener.state);
+}
+
 static void call_line(void) {
     line = pansdaoh_line(image + place * PANSDAOH_BUCKET, PANSDAOH_BUCKET, step.first);
 }
@@ -80,12 +85,16 @@ static void measure(void (*call)(void), size_t *most) {
 }
 
 static size_t build_stack, size_stack, arrive_stack, take_out_stack;
-static size_t read_back_stack, lookup_stack, step_stack, line_stack;
+static size_t read_back_stack, lookup_stack, step_stack, lost_stack, line_stack;
 
 /* A hearing to its end; 0 if it ends as the lookup does. */
 static int hear(uint64_t first_place) {
     place = first_place;
     measure(call_lookup, &lookup_stack);
+    pansdaoh_start(listener.state, tag);
+    measure(call_lost, &lost_stack);
+    if (step.answer != PANSDAOH_STEP_DOZE || pansdaoh_heard(listener.state) != 1)
+        return 1;
     pansdaoh_start(listener.state, tag);
     do {
         measure(call_step, &step_stack);
@@ -94,8 +103,11 @@ static int hear(uint64_t first_place) {
             return 1;
         place = (place + step.value) % built.count;
     } while (step.answer == PANSDAOH_STEP_DOZE);
-    return found.number != 0 || step.answer == PANSDAOH_STEP_REFUSED ||
-           pansdaoh_heard(listener.state) != found.heard;
+    if (found.number != 0 || step.answer == PANSDAOH_STEP_REFUSED ||
+        pansdaoh_heard(listener.state) != found.heard)
+        return 1;
+    measure(call_lost, &lost_stack);
+    return step.value != PANSDAOH_REFUSED_ENDED;
 }
 
 /* The first line is taken out and arrives again; 0 if the cycle is as it was. */
@@ -152,6 +164,7 @@ int main(void) {
     printf("read_back %zu %d\n", read_back_stack, PANSDAOH_READ_BACK_STACK);
     printf("lookup %zu %d\n", lookup_stack, PANSDAOH_LOOKUP_STACK);
     printf("step %zu %d\n", step_stack, PANSDAOH_STEP_STACK);
+    printf("lost %zu %zu\n", lost_stack, step_stack);
     printf("line %zu %d\n", line_stack, PANSDAOH_LINE_STACK);
     return 0;
 }

@@ -2,7 +2,7 @@
  * Builds list S of the sample yard with r 1 and prints for tag 5, which lies in
  * two data buckets, each tune-in, heard, elapsed and lines. The cycle is held
  * against its size and against that of a list in which a line came and went, each
- * lookup against a listener's own steps.
+ * lookup against a listener's own steps, with each of its buckets lost in turn too.
  */
 #include "pansdaoh.h"
 
@@ -45,6 +45,37 @@ static int compare(uint64_t buckets, uint64_t tag, uint64_t place, struct pansda
            pansdaoh_elapsed(listener.state) != found.elapsed || matched != found.lines;
 }
 
+/*
+ * Steps a listener whose radio loses one bucket, that behind so many others; 0 if it
+ * still gets what the lookup got.
+ */
+static int lose_one(uint64_t buckets, uint64_t tag, uint64_t tune_in, uint64_t others,
+                    struct pansdaoh_found found) {
+    struct pansdaoh_listener listener;
+    struct pansdaoh_step_answer step;
+    uint64_t place = tune_in, matched = 0, heard = 0;
+    pansdaoh_start(listener.state, tag);
+    do {
+        if (heard++ == others) {
+            step = pansdaoh_lost(listener.state);
+            /* What was taken is void. */
+            matched = 0;
+        } else {
+            const uint8_t *bucket = image + PANSDAOH_BUCKET * place;
+            step = pansdaoh_step(listener.state, bucket, PANSDAOH_BUCKET);
+            matched += named(bucket, step, tag);
+        }
+        place = (place + step.value) % buckets;
+    } while (step.answer == PANSDAOH_STEP_DOZE);
+    if (step.answer != PANSDAOH_STEP_FOUND || matched != found.lines ||
+        pansdaoh_heard(listener.state) != heard || heard <= others + 1 ||
+        pansdaoh_elapsed(listener.state) + tune_in > 4 * buckets)
+        return 1;
+    step = pansdaoh_lost(listener.state);
+    return step.answer != PANSDAOH_STEP_REFUSED || step.value != PANSDAOH_REFUSED_ENDED ||
+           pansdaoh_heard(listener.state) != heard;
+}
+
 /* A line comes and goes in list S; 0 if list and cycle are what they were. */
 static int come_and_go(const uint8_t *list, size_t length, uint64_t buckets) {
     static const char LINE[] = "         7     0   0     0\n";
@@ -78,7 +109,7 @@ int main(void) {
     size_t image_length = PANSDAOH_BUCKET * built.count;
     struct pansdaoh_answer read =
         pansdaoh_read_back(image, image_length, 2, 1, 1, 1, lines, sizeof lines);
-    uint64_t tune_in;
+    uint64_t tune_in, others;
     if (built.number != 0 || read.number != 0 || read.count != 5 || memcmp(lines, list, length))
         return 1;
     if (size.number != 0 || size.n != built.count || size.bytes != image_length)
@@ -92,6 +123,9 @@ int main(void) {
             return 1;
         if (found.heard > size.heard)
             return 1;
+        for (others = 0; others < found.heard; others++)
+            if (lose_one(built.count, 5, tune_in, others, found))
+                return 1;
         printf("%6u%6u%6u%6u\n", (unsigned)tune_in, (unsigned)found.heard,
                (unsigned)found.elapsed, (unsigned)found.lines);
     }

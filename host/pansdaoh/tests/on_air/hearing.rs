@@ -14,27 +14,48 @@ fn looked(image: &[u8], tag: u64, tune_in: u64) -> Looked {
 
 /// What a listener answers to each bucket, the lookup saying the same.
 pub fn hearing(image: &[u8], tag: u64, tune_in: u64) -> String {
-    let (text, ended) = heard([image, image], tag, tune_in, "");
+    let (text, ended) = heard([image, image], tag, tune_in, None, "");
     assert_eq!(looked(image, tag, tune_in), ended);
+    text
+}
+
+/// The same where a bucket is lost, that which comes behind so many others.
+pub fn hearing_with_loss(image: &[u8], tag: u64, tune_in: u64, lost: u64) -> String {
+    let (text, ended) = heard([image, image], tag, tune_in, Some(lost), "");
+    let looked = looked(image, tag, tune_in);
+    assert_eq!((looked.found, looked.lines), (ended.found, ended.lines));
     text
 }
 
 /// The same where another list comes with the next cycle.
 pub fn changed(old: &[u8], new: &[u8], tag: u64, tune_in: u64) -> String {
     let next = format!("next cycle, N {}\n", new.len() / BUCKET);
-    heard([old, new], tag, tune_in, &next).0
+    heard([old, new], tag, tune_in, None, &next).0
 }
 
 /// The answers over two cycles, and how they ended; `next` is said between them.
-fn heard(air: [&[u8]; 2], tag: u64, tune_in: u64, next: &str) -> (String, Looked) {
+fn heard(
+    air: [&[u8]; 2],
+    tag: u64,
+    tune_in: u64,
+    lost: Option<u64>,
+    next: &str,
+) -> (String, Looked) {
     let (mut listener, mut place, mut lines) = (Listener::new(tag), tune_in, 0);
     let (mut image, mut text) = (air[0], format!("tag {tag}, tune-in {tune_in}\n"));
     let found = loop {
-        let bucket = bucket(image, place);
-        let (answer, matching) = listener.step(bucket);
-        lines += matching.clone().count() as u64;
-        let taken: String = matching.map(|line| format!("line {line}, ")).collect();
-        let _ = write!(text, "bucket {place:>2}, {}: {taken}", letter(bucket));
+        let answer = if lost == Some(listener.heard()) {
+            lines = 0;
+            let _ = write!(text, "bucket {place:>2}, lost: ");
+            listener.lost()
+        } else {
+            let bucket = bucket(image, place);
+            let (answer, matching) = listener.step(bucket);
+            lines += matching.clone().count() as u64;
+            let taken: String = matching.map(|line| format!("line {line}, ")).collect();
+            let _ = write!(text, "bucket {place:>2}, {}: {taken}", letter(bucket));
+            answer
+        };
         match answer {
             Answer::Doze(distance) => {
                 let _ = writeln!(text, "doze by {distance}");

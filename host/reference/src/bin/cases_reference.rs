@@ -45,7 +45,8 @@ fn answer(letter: u8, numbers: Numbers, body: &[u8]) -> String {
         b'B' => counted(build, numbers, body),
         b'R' => counted(read_back, numbers, body),
         b'L' => looked(numbers, body),
-        b'H' => heard(numbers, body),
+        b'H' => heard(numbers[0], body.chunks(numbers[1] as usize).map(Some)),
+        b'Q' => heard(numbers[0], with_losses(body, numbers[1] as usize)),
         b'F' => sized(numbers, body),
         b'A' => changed(arrive, numbers, body),
         b'T' => changed(take_out, numbers, body),
@@ -77,11 +78,31 @@ fn looked([tag, tune_in, length, ..]: Numbers, body: &[u8]) -> String {
     format!("{text} {}\n", hash(&buffer))
 }
 
-fn heard([tag, length, ..]: Numbers, body: &[u8]) -> String {
+/// The body of Q: "for each bucket the letter B and its bytes, or the letter X
+/// alone for one lost", which is None.
+fn with_losses(mut body: &[u8], length: usize) -> impl Iterator<Item = Option<&[u8]>> {
+    std::iter::from_fn(move || {
+        let (letter, rest) = body.split_first()?;
+        let bytes = match letter {
+            b'B' => length.min(rest.len()),
+            b'X' => 0,
+            _ => panic!("no such bucket: {}", *letter as char),
+        };
+        let (bucket, rest) = rest.split_at(bytes);
+        body = rest;
+        Some((*letter == b'B').then_some(bucket))
+    })
+}
+
+/// One listener given buckets in turn, None for one lost.
+fn heard<'a>(tag: u64, buckets: impl Iterator<Item = Option<&'a [u8]>>) -> String {
     let mut listener = Listener::new(tag);
     let mut answers = String::new();
-    for bucket in body.chunks(length as usize) {
-        let (next, answer, first, count) = listener.step(bucket);
+    for bucket in buckets {
+        let (next, answer, first, count) = match bucket {
+            Some(bytes) => listener.step(bytes),
+            None => listener.lost(),
+        };
         listener = next;
         let (kind, value) = match answer {
             Answer::Doze(distance) => (1, distance),

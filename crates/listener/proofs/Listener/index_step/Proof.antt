@@ -59,20 +59,20 @@ entry-held c = c .entry-from .ensures
 doze-by-requires : tie.Need-doze-by-requires
 doze-by-requires c κs =
     let s = c .before .before in
-    let near-by = first-near (s .args .self .tag) (s .args .x .blank) (pairsHeld (s .args .x)) (s .pre .1 .1 .pairsNear) in
-    (s .pre .0, (s .pre .1 .0, omega (arith, c .before .first-pair .ensures, near-by)))
+    let near-by = first-near (s .args .self .tag) (s .args .x .blank) (pairsHeld (s .args .x)) (s .pre .1 .pairsNear) in
+    (s .pre .0, omega (arith, c .before .first-pair .ensures, near-by))
 
 doze-by-requires-2 : tie.Need-doze-by-requires-2
 doze-by-requires-2 c κs =
     let s = start (c .before) in
-    let held-near = every-drop near 1 (pairsHeld (s .args .x)) (s .pre .1 .1 .pairsNear) in
-    (s .pre .0, (s .pre .1 .0, omega (arith, below-held (c .before), chosen-near (below (s .args .self .tag)) (drop 1 (pairsHeld (s .args .x))) held-near)))
+    let held-near = every-drop near 1 (pairsHeld (s .args .x)) (s .pre .1 .pairsNear) in
+    (s .pre .0, omega (arith, below-held (c .before), chosen-near (below (s .args .self .tag)) (drop 1 (pairsHeld (s .args .x))) held-near))
 
 doze-by-requires-3 : tie.Need-doze-by-requires-3
 doze-by-requires-3 c κs =
     let s = start (later (c .before)) in
-    let near-by = chosen-near (reached (s .args .self .tag)) (entriesHeld (s .args .x)) (s .pre .1 .1 .entriesNear) in
-    (s .pre .0, (s .pre .1 .0, omega (arith, entry-held (c .before), near-by)))
+    let near-by = chosen-near (reached (s .args .self .tag)) (entriesHeld (s .args .x)) (s .pre .1 .entriesNear) in
+    (s .pre .0, omega (arith, entry-held (c .before), near-by))
 
 -- ---- the answers
 
@@ -87,7 +87,7 @@ by-later :
 unfolding dozesUnless0
 by-later c =
     let s = start c in
-    by-three (s .args .self) (s .args .h) (s .args .x) (s .pre .1 .1)
+    by-three (s .args .self) (s .args .h) (s .args .x) (s .pre .1)
     ∙ rw (← first c .first-pair .ensures, eq-eqb _ 0 (c .before .before .before .if1 .left), ← below-held c)
 
 by-entry :
@@ -104,7 +104,7 @@ returns c =
     let s = c .before .before .before in
     c .doze-by .ensures (indexOf (s .args .x)) ∙
     sym
-    (by-three (s .args .self) (s .args .h) (s .args .x) (s .pre .1 .1) ∙
+    (by-three (s .args .self) (s .args .h) (s .args .x) (s .pre .1) ∙
     rw (← c .before .before .first-pair .ensures, ne-eqb _ 0 (c .before .if1 .taken)))
 
 returns-2 : tie.Need-returns-2
@@ -130,10 +130,10 @@ index-step-spec =
     (λ c κs. search needs)
     doze-by-requires
     returns
-    (λ c κs. c .before .before .before .before .pre .1 .1 .fewPairs)
+    (λ c κs. c .before .before .before .before .pre .1 .fewPairs)
     doze-by-requires-2
     returns-2
-    (λ c κs. start (c .before .before .before) .pre .1 .1 .fewEntries)
+    (λ c κs. start (c .before .before .before) .pre .1 .fewEntries)
     doze-by-requires-3
     returns-3
     (λ c κs. search needs)

@@ -2,8 +2,7 @@
 -- Assumes nothing.
 use mathlib.Core.Path.{sym, _∙_}
 use borrow.Author.Needs.{needs}
-use borrow.Author.Tests.{not-true, not-false}
-use Rattle.listener.proofs.Steps.States.{counts, step-ended, step-unfit, step-read}
+use Rattle.listener.proofs.Steps.States.{step-ended, step-read}
 use Rattle.listener.proofs.Steps.Told.{step-tells}
 use Rattle.listener.proofs.Listener.step.Statement.{statement}
 use Rattle.listener.proofs.Listener.step.Tie as tie
@@ -16,33 +15,19 @@ returns c =
     sym
     (step-ended (s .args .self) (s .args .bucket .now) (sym (c .before .before .is-ended .ensures) ∙ c .before .if1 .taken)))
 
-returns-2 : tie.Need-returns-2
-returns-2 c =
-    let s = c .before .before .before .before .before .before in
-    step-tells
-    (c .refused-ended2 .ensures ∙
-    sym
-    (step-unfit (s .args .self) (s .args .bucket .now)
-    (sym (c .before .before .before .before .is-ended .ensures) ∙ c .before .before .before .if1 .left)
-    (sym (c .before .before .counts-fit .ensures) ∙ not-true (c .before .before .counts-fit .result) (c .before .if2 .taken))))
-
 take-reading-requires : tie.Need-take-reading-requires
 take-reading-requires c κs =
-    let s = c .before .before .before .before .before .before in (
-      counts (s .args .self)
-          (sym (c .before .before .counts-fit .ensures) ∙ not-false (c .before .before .counts-fit .result) (c .before .if2 .left)),
-      record { bytes = s .args .bucket .now; is = c .read-bucket .ensures },
-    )
+    let s = c .before .before .before .before in
+    record { bytes = s .args .bucket .now; is = c .read-bucket .ensures }
 
-returns-3 : tie.Need-returns-3
-returns-3 c =
-    let s = c .before .before .before .before .before .before .before in
+returns-2 : tie.Need-returns-2
+returns-2 c =
+    let s = c .before .before .before .before .before in
     step-tells
     (c .take-reading .ensures (s .args .bucket .now) (c .before .read-bucket .ensures) ∙
     sym
     (step-read (s .args .self) (s .args .bucket .now)
-    (sym (c .before .before .before .before .before .is-ended .ensures) ∙ c .before .before .before .before .if1 .left)
-    (sym (c .before .before .before .counts-fit .ensures) ∙ not-false (c .before .before .before .counts-fit .result) (c .before .before .if2 .left))))
+    (sym (c .before .before .before .is-ended .ensures) ∙ c .before .before .if1 .left)))
 
 pub step-spec : {M : Type 1} → statement M
 step-spec =
@@ -50,8 +35,6 @@ step-spec =
     (tie.spec
     (λ c κs. search needs) (λ c κs. search needs)
     returns
-    (λ c κs. search needs) (λ c κs. search needs)
-    returns-2
     (λ c κs. search needs)
     take-reading-requires
-    returns-3)
+    returns-2)

@@ -10,14 +10,14 @@ use Rattle.listener.proofs.Listener.take_reading.Tie as tie
 take-index-requires : tie.Need-take-index-requires
 take-index-requires c κs =
     let s = c .before .before .before .before in
-    let i = index-read (s .pre .1 .bytes) (s .args .r) (s .pre .1 .is) (c .before .enum-told .given .1) in
-    (s .pre .0, (i .head, i .index))
+    let i = index-read (s .pre .bytes) (s .args .r) (s .pre .is) (c .before .enum-told .given .1) in
+    (i .head, i .index)
 
 take-data-requires : tie.Need-take-data-requires
 take-data-requires c κs =
     let s = c .before .before .before .before in
-    let i = data-read (s .pre .1 .bytes) (s .args .r) (s .pre .1 .is) (c .before .enum-told2 .given .1) in
-    (s .pre .0, (i .head, (i .near, i .few)))
+    let i = data-read (s .pre .bytes) (s .args .r) (s .pre .is) (c .before .enum-told2 .given .1) in
+    (i .head, (i .near, i .few))
 
 returns : tie.Need-returns
 returns c bytes e =
