@@ -72,7 +72,9 @@ module _ (sent strays : ℕ → List ℕ) where
   away anywhere a h = refl
 
   -- behind the end none are named
-  none-behind : (s : Listener) (w : Supply) (bytes : List ℕ) (m : ℕ) (a : Answer) → step s bytes .answer ≡ a → isEnd a ≡ true → linesGot (stepsFrom sent strays (step s bytes .listener) (onward w a) m) ≡ []
+  none-behind :
+      (s : Listener) (w : Supply) (bytes : List ℕ) (m : ℕ) (a : Answer) → step s bytes .answer ≡ a → isEnd a ≡ true →
+      linesGot (stepsFrom sent strays (step s bytes .listener) (onward w a) m) ≡ []
   none-behind s w bytes m a e h =
       rw (away w a h) (stays-unmarked (step s bytes .listener) (over-step s bytes (ap isEnd e ∙ h)) m .no-lines)
 
