@@ -46,11 +46,12 @@ extern "C" {
  * start, and such buckets are refused (8). From 0.3 on a list's numbers may have
  * leading zeros, and a list read back need not be the bytes that were built. 0.3.1
  * added the calls that change a list in its buffer, and the refusals 15 and 16. 0.3.2
- * added pansdaoh_lost; a listener's counts stop at 4,294,967,295.
+ * added pansdaoh_lost; a listener's counts stop at 4,294,967,295. 0.3.3 added
+ * pansdaoh_mean, and the refusal 17.
  */
 #define PANSDAOH_VERSION_MAJOR 0
 #define PANSDAOH_VERSION_MINOR 3
-#define PANSDAOH_VERSION_PATCH 2
+#define PANSDAOH_VERSION_PATCH 3
 
 #define PANSDAOH_LINE 27           /* bytes of a list line, its newline included */
 #define PANSDAOH_BUCKET 240        /* bytes of a bucket */
@@ -93,7 +94,9 @@ enum pansdaoh_refusal {
     /* the line to take out is not in the list */
     PANSDAOH_REFUSED_NOT_IN_LIST = 15,
     /* the list has 40,000 lines or its buffer no place for one more */
-    PANSDAOH_REFUSED_NO_PLACE = 16
+    PANSDAOH_REFUSED_NO_PLACE = 16,
+    /* the list has no line */
+    PANSDAOH_REFUSED_NO_LINE = 17
 };
 
 /* What building and reading back return. */
@@ -214,6 +217,37 @@ struct pansdaoh_change_answer pansdaoh_take_out(uint8_t *list, size_t list_lengt
                                                 size_t out_length);
 
 #define PANSDAOH_TAKE_OUT_STACK 12288 /* bytes of stack, at most */
+
+/* What averaging returns. If refused, all behind the place is 0. */
+struct pansdaoh_mean_answer {
+    uint64_t number;    /* 0, or the number of the refusal */
+    uint64_t place;     /* of the refusal, else 0 */
+    uint64_t sum;       /* elapsed of all hearings, added */
+    uint64_t divisor;   /* how many hearings: N x T, at least 1 */
+    uint64_t quotient;  /* the sum divided by the divisor, rounded down */
+    uint64_t remainder; /* what is left of the sum, below the divisor */
+};
+
+/*
+ * The mean wait of a list's tags, by which yards and settings are compared: the
+ * mean of elapsed over the hearings of its T different tags, each of them from each
+ * of the N buckets of its cycle as tune-in. The list stays as it is throughout, and
+ * no bucket is lost: these are the hearings that pansdaoh_lookup runs over its image.
+ *
+ * The mean is quotient + remainder / divisor buckets, exactly. The sum is
+ * quotient x divisor + remainder, and at most 2N x N x T. Nothing is built here, and
+ * no hearing is run: the work is linear in the list's length.
+ *
+ *   list    as for building, leading zeros or not
+ *   n, p, layout, copies
+ *           the settings, as for building
+ *
+ * Refused by 1 to 6 as building is, in this order, then by 17.
+ */
+struct pansdaoh_mean_answer pansdaoh_mean(const uint8_t *list, size_t list_length, uint64_t n,
+                                          uint64_t p, uint64_t layout, uint64_t copies);
+
+#define PANSDAOH_MEAN_STACK 4096 /* bytes of stack, at most */
 
 /*
  * Writes the list that builds this image under these settings to out and

@@ -13,6 +13,7 @@ use super::requests::Numbers;
 use cycle::Built;
 use cycle::ReadBack;
 use cycle::Sized;
+use listener::Averaged;
 use listener::Looked;
 
 // B: building.
@@ -91,6 +92,15 @@ fn size(numbers: &Numbers, body: &[u8]) -> bool {
     }
 }
 
+// M: the mean wait.
+fn mean(numbers: &Numbers, body: &[u8]) -> bool {
+    let averaged = listener::mean::mean(body, numbers[0], numbers[1], numbers[2], numbers[3]);
+    match averaged {
+        Averaged::Mean(w) => say(&[0, 0, w.sum, w.divisor, w.quotient, w.remainder]),
+        Averaged::Refused(number, place) => say(&[number, place, 0, 0, 0, 0]),
+    }
+}
+
 // The length of the lent buffer.
 fn room(letter: u8, numbers: &Numbers) -> u64 {
     match letter {
@@ -109,7 +119,8 @@ fn call(letter: u8, numbers: &Numbers, body: &mut [u8], lent: &mut [u8]) -> bool
         b'H' | b'Q' => hearing(letter, numbers, body),
         b'F' => size(numbers, body),
         b'A' | b'T' => serve_change(letter, numbers, body, lent),
-        _ => stop(b"error: a letter is none of B, R, L, H, F, A, T, Q\n"),
+        b'M' => mean(numbers, body),
+        _ => stop(b"error: a letter is none of B, R, L, H, F, A, T, Q, M\n"),
     }
 }
 

@@ -9,3 +9,4 @@ pub mod Buckets
 pub mod Building
 pub mod ReadingBack
 pub mod Changing
+pub mod Waiting

@@ -9,6 +9,7 @@ pub mod LeadingZeros
 pub mod Judging
 pub mod Size
 pub mod Changes
+pub mod Waits
 pub mod ComingAndGoing
 pub mod Skips
 pub mod Inner

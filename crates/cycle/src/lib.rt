@@ -1,5 +1,5 @@
-// Tree, layouts and cycle: document 01, "The tree", with document 02, C-11 to C-14; judging, sizing, building, changing a list
-// and reading back.
+// Tree, layouts and cycle: document 01, "The tree", with document 02, C-11 to C-14 and C-17; judging, sizing, building, changing
+// a list, reading back, and the waits of a list's tags.
 //
 // A list goes through these files in this order; each answers to the definition named, under specs/, and its laws are in the
 // folder named, under proofs/.
@@ -16,6 +16,7 @@
 //   build      the image, segment by segment: Building.build, Cycle.image. Laws: Building
 //   changes    a line that arrives in a list or is taken out of it, and the changed list's image: Changes.arrive, Changes.takeOut.
 //              Laws: Changing
+//   waits      what each tag of a list adds to the mean wait, by the places of its buckets: Waits.waits. Laws: Waiting
 //
 // and an image goes back by
 //
@@ -32,6 +33,7 @@ mod places;
 pub mod read_back;
 mod segments;
 pub mod size;
+pub mod waits;
 
 use buckets::Bucket;
 use buckets::Line;
@@ -79,6 +81,19 @@ pub struct Counts {
 // What a change of a list answers: its counts now, or a refusal's number and place.
 pub enum Changed {
     Cycle(Counts),
+    Refused(u64, u64),
+}
+
+// N, the number of different tags of a list, and their waits over all tune-ins, added.
+pub struct WaitSum {
+    pub n: u64,
+    pub tags: u64,
+    pub sum: u64,
+}
+
+// What adding the waits of a list's tags answers: their sum, or a refusal's number and place.
+pub enum Waited {
+    Sum(WaitSum),
     Refused(u64, u64),
 }
 

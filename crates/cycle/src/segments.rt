@@ -10,7 +10,8 @@ ghost use Prim.Native.Nat.{_+_, _-_, _*_, _<_};
 ghost use lib.ListN.{length};
 ghost use Rattle.columns.specs.Lists.{joined, range};
 ghost use Rattle.buckets.specs.declared.Line.{Line};
-ghost use Rattle.cycle.specs.Layouts.{pathTop, distributedSegment};
+ghost use Rattle.cycle.specs.Layouts.{pathTop, distributedSegment, wholeSegment};
+ghost use Rattle.cycle.specs.Waits.{segmentStart};
 ghost use Rattle.cycle.specs.Judging.{treeAt};
 ghost use Rattle.cycle.specs.Inner.Held.{planOf, Ready, HoldsSegment, segmentCount};
 
@@ -54,6 +55,25 @@ pub fn distributed_start(f: Figures, b: u64) -> u64
     ensures { λ r. ⌜ r ≡ length (joined (distributedSegment (planOf f [])) (range 0 b)) ⌝ }
 {
     b * (f.span + f.full) + paths_before(f, b)
+}
+
+// The position of part i of layout 2.
+fn whole_start(f: Figures, i: u64) -> u64
+    requires { ⌜ Ready f × (f .layout ≡ 2) × (i < f .copies) ⌝ }
+    ensures { λ r. ⌜ r ≡ length (joined (wholeSegment (planOf f [])) (range 0 i)) ⌝ }
+{
+    i * f.last + i * f.d / f.copies
+}
+
+// The position where the segment of data bucket q starts.
+pub fn segment_start(f: Figures, q: u64) -> u64
+    requires { ⌜ Ready f × (q < f .d) ⌝ }
+    ensures { λ r. ⌜ r ≡ segmentStart (planOf f []) q ⌝ }
+{
+    if f.layout == 1 {
+        return distributed_start(f, q / f.span);
+    }
+    whole_start(f, ((q + 1) * f.copies - 1) / f.d)
 }
 
 // The index buckets of the tree of segment b of layout 1.

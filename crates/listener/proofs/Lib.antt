@@ -9,3 +9,5 @@ pub mod Demand3
 pub mod NoneLost
 pub mod EndPlace
 pub mod HeardLimit
+pub mod Means
+pub mod ExactMean

@@ -18,3 +18,4 @@ pub mod SegmentStart
 pub mod TuneIn
 pub mod Segments
 pub mod TwoCycles
+pub mod TagBuckets

@@ -9,11 +9,11 @@ use mathlib.Core.Bool.{Bool}
 use mathlib.Core.Option.{some}
 use mathlib.Core.List.{List, [], _∷_}
 use lib.Dec.{leb, ltb}
-use lib.ListN.{drop, getD}
-use Rattle.columns.specs.Lists.{pick, only, lastOr, range, least}
+use lib.ListN.{drop}
+use Rattle.columns.specs.Lists.{pick, least}
 use Rattle.buckets.specs.ListLine.{listLines}
 use Rattle.cycle.specs.Tree.{Settings, Plan, plan, lastTag}
-use Rattle.cycle.specs.Layouts.{slot, slots}
+use Rattle.cycle.specs.Layouts.{slots}
 use Rattle.cycle.specs.Cycle.{toNext, toNextSegment, cycleSize}
 use Rattle.cycle.specs.Cycle.{firstPlace}
 use Rattle.cycle.specs.Building
@@ -63,13 +63,3 @@ EveryEnd =
     (m : ℕ) (strays : ℕ → List ℕ) (e : End) → endOf (hearing (repeated (build s list room .output) n) strays tag tune m) ≡ some e →
     tune + elapsedIn (hearing (repeated (build s list room .output) n) strays tag tune m) ≡
     endPlace (plan s (listLines list)) tag tune + 1
-
--- ---- by segments
-
--- a segment starts at place x
-unfoldable pub startsAt : Plan → ℕ → Bool
-startsAt t x = getD (slots t) x (slot 0 0) .starts
-
--- the start of data bucket q's segment: the last one before it
-unfoldable pub segmentStart : Plan → ℕ → ℕ
-segmentStart t q = lastOr 0 (only (startsAt t) (range 0 (position t q)))

@@ -6,11 +6,13 @@ pub mod Demand3
 pub mod OnAir
 pub mod Lost
 pub mod EndPlace
+pub mod Mean
 pub mod HeardLimit
 pub mod SampleYard
 pub mod Readings
 pub mod ChangedList
 pub mod LostTable
+pub mod MeanTable
 pub mod State
 pub mod Started
 pub mod Inner

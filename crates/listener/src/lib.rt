@@ -1,7 +1,8 @@
-// The listener and the lookup: document 01, "The listener", with document 02, C-12 and C-16.
+// The listener, the lookup and the mean wait: document 01, "The listener", with document 02, C-12, C-16 and C-17.
 mod choose;
 mod hearing;
 pub mod lookup;
+pub mod mean;
 pub mod run;
 mod state;
 mod step;
@@ -70,5 +71,19 @@ pub enum Looked {
         heard: u64,
         elapsed: u64,
     },
+    Refused(u64, u64),
+}
+
+// A mean wait: the sum of elapsed, the number of hearings added, and the sum divided by it, with the remainder.
+pub struct MeanWait {
+    pub sum: u64,
+    pub divisor: u64,
+    pub quotient: u64,
+    pub remainder: u64,
+}
+
+// What averaging answers: the mean wait, or a refusal's number and place.
+pub enum Averaged {
+    Mean(MeanWait),
     Refused(u64, u64),
 }

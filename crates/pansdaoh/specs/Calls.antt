@@ -14,10 +14,12 @@ use Rattle.cycle.specs.Building as building
 use Rattle.cycle.specs.Changes as changing
 use Rattle.cycle.specs.ReadingBack as readingBack
 use Rattle.cycle.specs.Size as sizing
+use Rattle.listener.specs.declared.Averaged.{Averaged}
 use Rattle.listener.specs.declared.Looked.{Looked}
 use Rattle.listener.specs.declared.Stepped.{Stepped}
 use Rattle.listener.specs.Lookup as lookups
 use Rattle.listener.specs.Listener as listening
+use Rattle.listener.specs.Mean as averaging
 use Rattle.listener.specs.State.{saved, restored}
 use Rattle.listener.specs.declared.Answer.{Answer}
 use Rattle.listener.specs.declared.Answer.the-variants.{Doze, Found, Absent, Refused}
@@ -27,6 +29,7 @@ use Rattle.pansdaoh.specs.declared.StepAnswer.{StepAnswer}
 use Rattle.pansdaoh.specs.declared.LineAnswer.{LineAnswer}
 use Rattle.pansdaoh.specs.declared.SizeAnswer.{SizeAnswer}
 use Rattle.pansdaoh.specs.declared.ChangeAnswer.{ChangeAnswer}
+use Rattle.pansdaoh.specs.declared.MeanAnswer.{MeanAnswer}
 
 -- number, place and count, 0 where there is none: "every count in that result 0"
 unfoldable pub answerOf : List ℕ → CountAnswer
@@ -123,3 +126,19 @@ changeOf a =
 -- the answer of a change
 unfoldable pub changeAnswer : Changed → ChangeAnswer
 changeAnswer r = changeOf (changing.numbers r)
+
+-- a mean wait, by its numbers
+unfoldable pub meanOf : List ℕ → MeanAnswer
+meanOf a =
+    record {
+      number = getD a 0 0;
+      place = getD a 1 0;
+      sum = getD a 2 0;
+      divisor = getD a 3 0;
+      quotient = getD a 4 0;
+      remainder = getD a 5 0;
+    }
+
+-- the answer of averaging
+unfoldable pub meanAnswer : Averaged → MeanAnswer
+meanAnswer r = meanOf (averaging.numbers r)

@@ -1,5 +1,6 @@
-// The calls for C and Rust: building, sizing, a line that arrives in a list or is taken out of it, reading back, a lookup, a
-// listener whose state is eight numbers that the caller keeps, given a bucket or told of a lost one, and the lines of a bucket.
+// The calls for C and Rust: building, sizing, a line that arrives in a list or is taken out of it, the mean wait, reading back,
+// a lookup, a listener whose state is eight numbers that the caller keeps, given a bucket or told of a lost one, and the lines
+// of a bucket.
 // Each takes any input. A lent buffer keeps every byte that the output does not cover, and all of them on a refusal.
 use buckets::BucketLine;
 use buckets::bucket_line;
@@ -11,10 +12,12 @@ use cycle::build;
 use cycle::changes;
 use cycle::read_back;
 use cycle::size;
+use listener::Averaged;
 use listener::Listener;
 use listener::Looked;
 use listener::Stepped;
 use listener::lookup;
+use listener::mean;
 ghost use mathlib.Core.Path.{_≡_};
 ghost use Prim.Native.Nat.{ℕ};
 ghost use mathlib.Core.List.{[], _∷_};
@@ -30,8 +33,9 @@ ghost use Rattle.cycle.specs.ReadingBack.{readBack};
 ghost use Rattle.cycle.specs.Size;
 ghost use Rattle.listener.specs.Listener.{start};
 ghost use Rattle.listener.specs.Lookup;
+ghost use Rattle.listener.specs.Mean;
 ghost use Rattle.listener.specs.State.{saved, restored};
-ghost use Rattle.pansdaoh.specs.Calls.{builtAnswer, readBackAnswer, lookedAnswer, stepAnswer, stepFrom, lostFrom, wasEnded, stateAfter, lineAnswer, sizeAnswer, changeAnswer};
+ghost use Rattle.pansdaoh.specs.Calls.{builtAnswer, readBackAnswer, lookedAnswer, stepAnswer, stepFrom, lostFrom, wasEnded, stateAfter, lineAnswer, sizeAnswer, changeAnswer, meanAnswer};
 
 // A refusal's number (0: not refused) and place, and the number of buckets built or of lines read back.
 #[repr(C)]
@@ -97,6 +101,18 @@ pub struct ChangeAnswer {
     pub d: u64,
     pub k: u64,
     pub n: u64,
+}
+
+// A refusal's number (0: not refused) and place; the sum of elapsed over all tune-ins and all different tags, the number of these
+// hearings, and the sum divided by it, with the remainder.
+#[repr(C)]
+pub struct MeanAnswer {
+    pub number: u64,
+    pub place: u64,
+    pub sum: u64,
+    pub divisor: u64,
+    pub quotient: u64,
+    pub remainder: u64,
 }
 
 // Building's answer as numbers.
@@ -313,6 +329,30 @@ fn change_answer(changed: Changed) -> ChangeAnswer
     }
 }
 
+// The answer of averaging as numbers.
+fn mean_answer(averaged: Averaged) -> MeanAnswer
+    ensures { λ r. ⌜ r ≡ meanAnswer averaged ⌝ }
+{
+    match averaged {
+        Averaged::Mean(w) => MeanAnswer {
+            number: 0,
+            place: 0,
+            sum: w.sum,
+            divisor: w.divisor,
+            quotient: w.quotient,
+            remainder: w.remainder,
+        },
+        Averaged::Refused(number, place) => MeanAnswer {
+            number: number,
+            place: place,
+            sum: 0,
+            divisor: 0,
+            quotient: 0,
+            remainder: 0,
+        },
+    }
+}
+
 // The dimensions of the cycle of so many lines, for a tag in c data buckets.
 #[no_mangle]
 pub extern "C" fn pansdaoh_size(
@@ -401,6 +441,15 @@ pub extern "C" fn pansdaoh_take_out(
 {
     let changed = changes::take_out(list, lines, line, n, p, layout, copies, out);
     change_answer(changed)
+}
+
+// The mean wait over all tune-ins and all different tags of a list, with its remainder.
+#[no_mangle]
+pub extern "C" fn pansdaoh_mean(list: &[u8], n: u64, p: u64, layout: u64, copies: u64) -> MeanAnswer
+    ensures { λ r. ⌜ r ≡ meanAnswer (Mean.mean (settings n p layout copies) (now (list .entry))) ⌝ }
+{
+    let averaged = mean::mean(list, n, p, layout, copies);
+    mean_answer(averaged)
 }
 
 // Reads the list that an image was built from back into the front of out.

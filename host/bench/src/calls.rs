@@ -19,6 +19,10 @@ pub trait Calls {
     fn take_out(list: &mut [u8], lines: u64, line: &[u8], s: Settings, out: &mut [u8]) -> u64;
     /// Returns the buckets of the cycle of so many lines.
     fn size(lines: u64, settings: Settings) -> u64;
+    /// Judges a list alone: builds it into no room at all.
+    fn judge(list: &[u8], settings: Settings);
+    /// Returns the quotient of the mean wait.
+    fn mean(list: &[u8], settings: Settings) -> u64;
     /// Returns the lines read.
     fn read_back(image: &[u8], settings: Settings, out: &mut [u8]) -> u64;
     /// Returns the buckets heard.
@@ -54,6 +58,16 @@ impl Calls for Library {
         let size = library::size(lines, n, p, layout, copies, 1);
         assert_eq!(size.number, 0);
         size.n
+    }
+
+    fn judge(list: &[u8], [n, p, layout, copies]: Settings) {
+        assert_eq!(library::build(list, n, p, layout, copies, &mut []).number, 7);
+    }
+
+    fn mean(list: &[u8], [n, p, layout, copies]: Settings) -> u64 {
+        let mean = library::mean(list, n, p, layout, copies);
+        assert_eq!(mean.number, 0);
+        mean.quotient
     }
 
     fn read_back(image: &[u8], [n, p, layout, copies]: Settings, out: &mut [u8]) -> u64 {
@@ -107,6 +121,15 @@ impl Calls for Reference {
 
     fn size(lines: u64, [n, p, layout, copies]: Settings) -> u64 {
         reference::size(lines, n, p, layout, copies, 1).unwrap().n
+    }
+
+    fn judge(list: &[u8], [n, p, layout, copies]: Settings) {
+        let refused = reference::build(list, n, p, layout, copies, &mut []).unwrap_err();
+        assert_eq!(refused.number, 7);
+    }
+
+    fn mean(list: &[u8], [n, p, layout, copies]: Settings) -> u64 {
+        reference::mean(list, n, p, layout, copies).unwrap().quotient
     }
 
     fn read_back(image: &[u8], [n, p, layout, copies]: Settings, out: &mut [u8]) -> u64 {

@@ -61,9 +61,10 @@ impl Yard {
     /// One round of a call; returns the buckets it built, read or heard. `step`
     /// goes through whole hearings; a line arrives before all others, and the first
     /// is taken out; `line` reads the first line of each bucket. For `size` it returns
-    /// how often the cycle was sized.
+    /// how often the cycle was sized, for `judge` and `mean` the lines of the list.
     pub fn round<C: Calls>(&mut self, call: &str) -> u64 {
         let buckets = (self.image.len() / BUCKET) as u64;
+        let lines = (self.list.len() / LINE) as u64;
         let image = black_box(&self.image[..]);
         let hearings = self.hearings.iter();
         match call {
@@ -72,10 +73,16 @@ impl Yard {
             }
             "arrive" => self.change(C::arrive, printed_line(0, 8_000, 100, 100_000).into()),
             "take_out" => self.change(C::take_out, self.list[..LINE].into()),
-            "size" => {
-                let lines = (self.list.len() / LINE) as u64;
-                (0..SIZINGS).filter(|_| C::size(black_box(lines), self.settings) == buckets).count()
-                    as u64
+            "size" => (0..SIZINGS)
+                .filter(|_| C::size(black_box(lines), self.settings) == buckets)
+                .count() as u64,
+            "judge" => {
+                C::judge(black_box(&self.list), self.settings);
+                lines
+            }
+            "mean" => {
+                black_box(C::mean(black_box(&self.list), self.settings));
+                lines
             }
             "line" => {
                 let tags = image.chunks_exact(BUCKET).map(|bucket| C::line(bucket, 0));

@@ -57,6 +57,24 @@ pub struct Change {
     pub n: u64,
 }
 
+/// What averaging returns. If refused, all behind the place is 0.
+#[repr(C)]
+#[derive(Clone, Copy, Debug, PartialEq, Eq)]
+pub struct Mean {
+    /// 0, or the number of the refusal.
+    pub number: u64,
+    /// The refusal's place.
+    pub place: u64,
+    /// Elapsed of all hearings, added.
+    pub sum: u64,
+    /// How many hearings there are.
+    pub divisor: u64,
+    /// The sum divided by their number.
+    pub quotient: u64,
+    /// What is left of the sum.
+    pub remainder: u64,
+}
+
 /// What a lookup returns.
 #[repr(C)]
 #[derive(Clone, Copy, Debug, PartialEq, Eq)]

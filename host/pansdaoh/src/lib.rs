@@ -1,7 +1,7 @@
 //! Tare lists on air: building a list into a cycle of buckets, sizing a cycle
-//! before there is a list, lines that arrive in a list or are taken out of it,
-//! reading a cycle back to its list, a listener that picks out the lines of one
-//! tag, and a lookup that runs it over an image.
+//! before there is a list, lines that arrive in a list or are taken out of it, the
+//! mean wait of a list's tags, reading a cycle back to its list, a listener that
+//! picks out the lines of one tag, and a lookup that runs it over an image.
 //!
 //! The work is done by the static library `pansdaoh`. [`calls`] has its calls
 //! as they are; the functions here turn a refusal into an error, a [`Refusal`].
@@ -63,6 +63,19 @@ pub struct Changed {
     pub k: u64,
     /// N, the buckets of the cycle.
     pub n: u64,
+}
+
+/// A mean wait: elapsed over all N tune-ins and all T different tags of a list.
+#[derive(Clone, Copy, Debug, PartialEq, Eq)]
+pub struct Mean {
+    /// Elapsed of all these hearings, added.
+    pub sum: u64,
+    /// Their number, N × T, at least 1.
+    pub divisor: u64,
+    /// The sum divided by it.
+    pub quotient: u64,
+    /// What is left of the sum, below the divisor.
+    pub remainder: u64,
 }
 
 /// What a lookup returns.
@@ -132,6 +145,16 @@ pub fn take_out(
 ) -> Result<Changed, Refusal> {
     let Settings { n, p, layout, copies } = settings;
     changed(calls::take_out(list, lines, line, [n, p, layout, copies], out))
+}
+
+/// The mean wait in the cycle of a list, whose numbers may have leading zeros, sent
+/// again and again and without a loss; nothing is built.
+pub fn mean(list: &[u8], settings: Settings) -> Result<Mean, Refusal> {
+    let Settings { n, p, layout, copies } = settings;
+    let mean = calls::mean(list, n, p, layout, copies);
+    accepted(mean.number, mean.place)?;
+    let calls::Mean { sum, divisor, quotient, remainder, .. } = mean;
+    Ok(Mean { sum, divisor, quotient, remainder })
 }
 
 /// Writes the list that builds this image, without leading zeros, into `out` and

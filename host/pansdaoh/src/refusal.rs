@@ -31,6 +31,7 @@ impl Refusal {
             14 => "bucket given to an ended listener",
             15 => "the line to take out is not in the list",
             16 => "the list has 40,000 lines or its buffer no place for one more",
+            17 => "the list has no line",
             _ => "no such number",
         }
     }

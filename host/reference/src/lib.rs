@@ -3,7 +3,8 @@
 //! out the lines of one tag, and a lookup runs it over an image. From document
 //! 02: a cycle's figures are told before there is a list (C-11), the list may
 //! change between cycles (C-12), its numbers may have leading zeros (C-13), lines
-//! arrive in it or are taken out of it (C-14), and buckets may be lost (C-16).
+//! arrive in it or are taken out of it (C-14), buckets may be lost (C-16), and the
+//! mean wait is told (C-17).
 #![forbid(unsafe_code)]
 
 pub mod air;
@@ -17,10 +18,12 @@ pub mod line;
 mod listener;
 pub mod literal;
 mod lookup;
+mod mean;
 mod print;
 mod read_back;
 mod size;
 pub mod skips;
+pub mod waits;
 pub mod yards;
 pub mod zeros;
 
@@ -30,6 +33,7 @@ pub use change::{arrive, take_out, Changed};
 pub use line::{blanked, LINE};
 pub use listener::{Answer, Listener};
 pub use lookup::{lookup, Looked};
+pub use mean::{mean, Mean};
 pub use read_back::read_back;
 pub use size::{size, Size};
 

@@ -125,9 +125,15 @@ impl Listener {
         let bytes: &[u8; BUCKET] = bytes.try_into().map_err(|_| 8u64)?;
         let mut bucket = Bucket::default();
         bucket.read(bytes).ok_or(8u64)?;
+        self.take(&bucket)
+    }
+
+    /// The same for a bucket that was read: 9 and 10, else the step.
+    #[inline(always)]
+    pub(crate) fn take(self, bucket: &Bucket) -> Result<(Listener, Answer, u64, u64), u64> {
         let past_start = match self.state {
             State::Dozing(awaited) => {
-                if !awaited.is(&bucket) {
+                if !awaited.is(bucket) {
                     return Err(9);
                 }
                 awaited.past_start
@@ -139,9 +145,9 @@ impl Listener {
             // starts a segment."
             (Move::Doze(bucket.to_segment, Letter::Index), 0, 0)
         } else if bucket.is_index {
-            (choose(self.tag, &bucket), 0, 0)
+            (choose(self.tag, bucket), 0, 0)
         } else {
-            collect(self.tag, &bucket)
+            collect(self.tag, bucket)
         };
         let mut next = self.counted(State::Ended);
         let answer = match chosen {

@@ -1,7 +1,9 @@
 //! The paper once more, word for word and slow: only for tests, to hold the
 //! fast version against.
 
-use crate::{Answer, Changed, Refusal, Settings, Size};
+use std::collections::BTreeSet;
+
+use crate::{Answer, Changed, Mean, Refusal, Settings, Size};
 
 const TAG_RANGE: std::ops::RangeInclusive<u64> = 0..=4_294_967_295;
 
@@ -742,4 +744,24 @@ pub fn lookup(
         return Err(refused(7));
     }
     Ok((found, listener.heard(), listener.elapsed(), lines))
+}
+
+/// The mean wait: "take elapsed over all N tune-ins and all different tags of the
+/// list, add them", each from its own hearing; 17 "comes after 6".
+pub fn mean(list: &[u8], n: u64, p: u64, layout: u64, copies: u64) -> Result<Mean, Refusal> {
+    let image = build(list, n, p, layout, copies, usize::MAX)?;
+    let tags: BTreeSet<u64> = parse_list(list)?.iter().map(|line| line[0]).collect();
+    if tags.is_empty() {
+        return Err(Refusal { number: 17, place: 0 });
+    }
+    let buckets = (image.len() / 240) as u64;
+    let mut sum = 0;
+    for &tag in &tags {
+        for tune_in in 0..buckets {
+            let (_, _, elapsed, _) = lookup(&image, tag, tune_in, usize::MAX)?;
+            sum += elapsed;
+        }
+    }
+    let divisor = buckets * tags.len() as u64;
+    Ok(Mean { sum, divisor, quotient: sum / divisor, remainder: sum % divisor })
 }

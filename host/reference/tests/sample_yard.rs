@@ -5,7 +5,8 @@ mod common;
 use common::{build_into, change_into, lookup_into, read_back_into};
 use reference::generate::{line, list_of};
 use reference::skips::Given;
-use reference::{arrive, size, take_out, Answer, Changed, Listener, Looked, Refusal, Size};
+use reference::{arrive, mean, size, take_out};
+use reference::{Answer, Changed, Listener, Looked, Mean, Refusal, Size};
 
 const S: [u64; 5] = [3, 5, 5, 8, 9];
 const ROOM: usize = 240 * 100;
@@ -115,6 +116,23 @@ fn skips() {
     assert_eq!(changed, Changed { lines: 5, d: 5, k: 3, n: 12 });
     let parts = [&list_of(&[3, 5])[..], new.as_bytes(), &list_of(&[8, 9])];
     assert!(*list == [&parts.concat()[..], &[b' '; 27], b"..."].concat());
+}
+
+/// Of list S: with r 1 tag 5 adds what the table has, 162, and tags 3, 8 and 9 add
+/// 138, 174 and 126.
+#[test]
+fn mean_wait() {
+    let averaged = |tags: &[u64], layout, copies| mean(&list_of(tags), 2, 1, layout, copies);
+    for (layout, copies, [sum, divisor, quotient, remainder]) in [
+        (1, 0, [671, 11 * 4, 15, 11]),
+        (1, 1, [138 + 162 + 174 + 126, 12 * 4, 12, 24]),
+        (2, 2, [1_275, 17 * 4, 18, 51]),
+    ] {
+        let wait = Mean { sum, divisor, quotient, remainder };
+        assert_eq!(averaged(&S, layout, copies), Ok(wait));
+    }
+    assert_eq!(averaged(&S, 1, 3), refused(5));
+    assert_eq!(averaged(&[], 1, 0), refused(17));
 }
 
 #[test]

@@ -1,9 +1,9 @@
 -- The first number that passes a test: the laws of `least`.
 -- Assumes nothing.
-use mathlib.Core.Path.{_≡_, refl, _∙_, ap}
+use mathlib.Core.Path.{_≡_, refl, sym, _∙_, ap}
 use mathlib.Core.Logic.{⊎-elim}
 use Prim.Native.Nat.{ℕ, zero, suc, _+_, _≤_, _<_}
-use mathlib.Core.Bool.{Bool, true, false}
+use mathlib.Core.Bool.{Bool, true, false, true≢false}
 use native.Mathlib.Omega.{arith}
 use Rattle.columns.specs.Lists.{pick, least}
 use Rattle.cycle.proofs.Basics.Ranges.{le-or-lt}
@@ -50,3 +50,24 @@ least-passes (suc c) i f l = by (f i) refl (least-passes c (suc i) f) l
         pick b i (least c (suc i) f) < i + suc c → f (pick b i (least c (suc i) f)) ≡ true
     by true e k l = e
     by false e k l = k (omega arith)
+
+-- the one that passes, with none before it
+pub least-is :
+    (c i : ℕ) (f : ℕ → Bool) (z : ℕ) → i ≤ z → z < i + c → f z ≡ true → ((x : ℕ) → i ≤ x → x < z → f x ≡ false) → least c i f ≡ z
+least-is zero i f z h l e n = absurd (omega arith)
+least-is (suc c) i f z h l e n = by (f i) refl (least-is c (suc i) f z)
+  where
+    by :
+        (b : Bool) → f i ≡ b →
+        (suc i ≤ z → z < suc i + c → f z ≡ true → ((x : ℕ) → suc i ≤ x → x < z → f x ≡ false) → least c (suc i) f ≡ z) →
+        pick b i (least c (suc i) f) ≡ z
+    by true t more =
+        ⊎-elim
+        (λ (k : z ≤ i). omega arith)
+        (λ (k : i < z). absurd (true≢false (sym t ∙ n i (omega arith) k)))
+        (le-or-lt z i)
+    by false t more =
+        ⊎-elim
+        (λ (k : z ≤ i). let same : z ≡ i = omega arith in absurd (true≢false (sym e ∙ ap f same ∙ t)))
+        (λ (k : i < z). more k (omega arith) e (λ x u v. n x (omega arith) v))
+        (le-or-lt z i)

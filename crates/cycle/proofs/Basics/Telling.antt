@@ -8,6 +8,7 @@ use Rattle.cycle.specs.ReadingBack as readingBack
 use Rattle.cycle.specs.Judging as judging
 use Rattle.cycle.specs.Size as sizing
 use Rattle.cycle.specs.Changes as changes
+use Rattle.cycle.specs.Waits as waits
 use Rattle.cycle.specs.declared.Figures.{Figures}
 use Rattle.cycle.specs.declared.Built.{Built}
 use Rattle.cycle.specs.declared.Built.the-variants.{Cycle as BuiltCycle, Refused as BuiltRefused}
@@ -21,6 +22,9 @@ use Rattle.cycle.specs.declared.Sized.the-variants.{Cycle as SizedCycle,
 use Rattle.cycle.specs.declared.Counts.{Counts}
 use Rattle.cycle.specs.declared.Changed.{Changed}
 use Rattle.cycle.specs.declared.Changed.the-variants.{Cycle as ChangedCycle, Refused as ChangedRefused}
+use Rattle.cycle.specs.declared.WaitSum.{WaitSum}
+use Rattle.cycle.specs.declared.Waited.{Waited}
+use Rattle.cycle.specs.declared.Waited.the-variants.{Sum, Refused as WaitedRefused}
 
 pub built-told : (a b : Built) → building.numbers a ≡ building.numbers b → a ≡ b
 built-told (BuiltCycle n) (BuiltCycle m) h = cc
@@ -96,3 +100,16 @@ changed-told (ChangedCycle x) (ChangedCycle y) h = ap ChangedCycle (counts-told 
 changed-told (ChangedCycle x) (ChangedRefused number place) h = let z : _≡_ {A = ℕ} 0 1 = cc in absurd (omega arith)
 changed-told (ChangedRefused number place) (ChangedCycle x) h = let z : _≡_ {A = ℕ} 0 1 = cc in absurd (omega arith)
 changed-told (ChangedRefused number place) (ChangedRefused other there) h = cc
+
+pub waited-told : (a b : Waited) → waits.numbers a ≡ waits.numbers b → a ≡ b
+waited-told (Sum x) (Sum y) h = ap Sum (sums-told x y h)
+  where
+    sums-told : (x y : WaitSum) → waits.numbers (Sum x) ≡ waits.numbers (Sum y) → x ≡ y
+    sums-told x y h =
+        let n : x .n ≡ y .n = cc in
+        let tags : x .tags ≡ y .tags = cc in
+        let sum : x .sum ≡ y .sum = cc in
+        λ i. record { n = n i; tags = tags i; sum = sum i }
+waited-told (Sum x) (WaitedRefused number place) h = let z : _≡_ {A = ℕ} 0 1 = cc in absurd (omega arith)
+waited-told (WaitedRefused number place) (Sum y) h = let z : _≡_ {A = ℕ} 0 1 = cc in absurd (omega arith)
+waited-told (WaitedRefused number place) (WaitedRefused other there) h = cc

@@ -2,12 +2,13 @@
 -- Assumes nothing.
 use mathlib.Core.Path.{_≡_, _∙_}
 use Prim.Native.Nat.{ℕ, suc, _+_, _-_, _*_, _/_, _^_, _≤_, _<_, min}
-use native.Mathlib.Nat.{suc-mul, mul-add, mul-comm, mul-le-mul-left, mul-le-mul-right, div-mul-le-self, lt-div-mul-add, le-div-iff-mul-le, div-lt-iff-lt-mul, lt-of-mul-lt-mul-right}
+use native.Mathlib.Nat.{suc-mul, mul-add, mul-comm, mul-le-mul, mul-le-mul-left, mul-le-mul-right, div-mul-le-self, lt-div-mul-add, le-div-iff-mul-le, div-lt-iff-lt-mul, lt-of-mul-lt-mul-right}
 use native.Mathlib.Numerals.{add-one}
 use native.Mathlib.Decide.{ℕ-discrete}
 use native.Mathlib.Omega.{arith}
 use mathlib.Core.List.{[]}
 use lib.ListN.{length}
+use Rattle.buckets.specs.Lengths.{linesMost}
 use Rattle.cycle.specs.Tree.{Plan}
 use Rattle.cycle.specs.Layouts.{path, pathTop}
 use Rattle.cycle.specs.declared.Figures.{Figures}
@@ -29,6 +30,8 @@ module _ (f : Figures) (q : ℕ) (ready : Ready f) (inside : q < f .d) where
 
   pub record InBlock (b : ℕ) : Type 0 where
     pub among : b < segmentCount (planOf f [])
+    pub from : b * f .n ^ (f .k - f .copies) ≤ q
+    pub to : q < min (f .d) ((b + 1) * f .n ^ (f .k - f .copies))
     pub low : b ≤ q
     pub is :
         firstPlace (planOf f []) (f .k + 1) q
@@ -62,14 +65,24 @@ module _ (f : Figures) (q : ℕ) (ready : Ready f) (inside : q < f .d) where
       let climb : climbs (f .n) (f .copies) (b + 1) ≡ climbs (f .n) (f .copies) b + (f .copies + 1 - pathTop (f .n) (f .copies) b) =
       rw (add-one b) (climbs-next (f .n) (k .pos) (f .copies) b) in
       let room = laid-fits t (blockAt f b) (path t b) (treeAt t e b) (b * m) (min (f .d) ((b + 1) * m)) l in
-      record { among = among; low = omega arith; is = first ∙ omega arith; ends = omega (arith, ready .size-is) }
+      record { among = among; from = from; to = omega arith; low = omega arith; is = first ∙ omega arith; ends = omega (arith, ready .size-is) }
 
   -- ---- layout 2: i is the number of the part
 
   pub record InPart (i : ℕ) : Type 0 where
     pub among : i < f .copies
+    pub from : partFrom f i ≤ q
+    pub to : q < partFrom f (suc i)
     pub is : firstPlace (planOf f []) (f .k + 1) q ≡ q + (i + 1) * wholeTree f
     pub ends : firstPlace (planOf f []) (f .k + 1) q < f .size
+
+  -- the product that is divided for i
+  pub part-product :
+      (f .layout ≡ 1 → ⊥) → (1 ≤ (q + 1) * f .copies) × ((q + 1) * f .copies ≤ linesMost * linesMost)
+  part-product other =
+      let p : Parts f = parts f (ready .shaped) other (ready .copies-fit) in
+      let low : 1 * 1 ≤ (q + 1) * f .copies = mul-le-mul {n₁ = 1} {m₁ = 1} (omega arith) (p .parted) in
+      (omega arith, mul-le-mul {n₂ = linesMost} {m₂ = linesMost} (omega (arith, p .some)) (p .few))
 
   pub data-in-part : (f .layout ≡ 1 → ⊥) → InPart (((q + 1) * f .copies - 1) / f .d)
   unfolding planOf
@@ -97,7 +110,7 @@ module _ (f : Figures) (q : ℕ) (ready : Ready f) (inside : q < f .d) where
       (partFrom f (suc i)) q (l .data-stands) first last in
       let sum : (i + 1) * wholeTree f ≡ i * wholeTree f + wholeTree f = rw (add-one i) (suc-mul i (wholeTree f)) in
       let room = laid-fits t start [] (treeAt t (f .k) 0) (partFrom f i) (partFrom f (suc i)) l in
-      record { among = among; is = place ∙ omega arith; ends = omega (arith, ready .size-is) }
+      record { among = among; from = first; to = last; is = place ∙ omega arith; ends = omega (arith, ready .size-is) }
 
   -- within the cycle, in either layout
   pub data-ends : firstPlace (planOf f []) (f .k + 1) q < f .size

@@ -99,6 +99,7 @@ module _ (t : Plan) (sound : Sound t) (one : t .layout ≡ 1) where
       let time : dataCount t before ≡ b * blockWide t = block-time b (omega arith) ∙ whole ∙ ap (λ x. b * x) wide in
       laid t kept before (path t b) (treeAt t (blockHeight t) b) behind (b * blockWide t) (min (t .d) ((b + 1) * blockWide t))
       (slots-blocks t one ∙ split-segments f b (blockCount t) h ∙ ap (λ xs. before ++ (xs ++ behind)) (block-holds b))
+      (tree-some t (blockHeight t) b (omega (arith, fits)))
       (bare-path t b)
       (bare-tree t (blockHeight t) b)
       (quiet-path t sound one b)
@@ -157,6 +158,7 @@ module _ (t : Plan) (sound : Sound t) (other : t .layout ≡ 1 → ⊥) where
       let kept : Keeps t = keeps t sound in
       laid t kept before [] (treeAt t (t .k) 0) behind (partStart t i) (partStart t (suc i))
       (slots-wholes t other ∙ split-segments f i (t .copies) h ∙ ap (λ xs. before ++ (xs ++ behind)) (whole-holds i))
+      (tree-some t (t .k) 0 (sound .levelled))
       refl
       (bare-tree t (t .k) 0)
       refl

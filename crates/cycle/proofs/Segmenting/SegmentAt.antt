@@ -18,13 +18,14 @@ use Rattle.cycle.proofs.Basics.Ranges.{length-range}
 use Rattle.cycle.proofs.Sequences.Pieces.{count-append}
 use Rattle.cycle.proofs.Segmenting.SegmentSizes.{length-segment, length-sent}
 use Rattle.buckets.proofs.ListParts.{map-take}
-use Rattle.cycle.proofs.Segmenting.SegmentBuckets.{bare-append, bare-sent, bare-segment, part-stands, toStart, next-start}
+use Rattle.cycle.proofs.Segmenting.SegmentBuckets.{bare-append, bare-sent, bare-segment, part-stands, toStart, own-start, next-start}
 use Rattle.cycle.proofs.Sequences.LastSent.{count-bare, quiet-take, last-sent}
 
 pub record SegmentAt (t : Plan) (start : ℕ) (p q : List Slot) (first last : ℕ) : Type 0 where
   pub path-stands : StandsAt t start p
   pub tree-stands : StandsAt t (start + length p) q
   pub data-stands : StandsAt t (start + length p + length q) (sent t (range first last))
+  pub own-starts : toNextSegment (drop start (slots t)) ≡ 1
   pub next-starts :
       (x : ℕ) → start ≤ x → x < start + length p + length q + (last - first) →
       toNextSegment (drop (suc x) (slots t)) ≡ start + length p + length q + (last - first) - x
@@ -42,9 +43,9 @@ module _ (t : Plan) (kept : Keeps t) (before p q behind : List Slot) (first last
       ∙ ap (λ x. length q + x) (length-sent t (range first last) ∙ length-range first last))
 
   pub laid :
-      map bare p ≡ p → map bare q ≡ q → dataCount t p ≡ 0 → dataCount t q ≡ 0 → dataCount t before ≡ first →
+      0 < length q → map bare p ≡ p → map bare q ≡ q → dataCount t p ≡ 0 → dataCount t q ≡ 0 → dataCount t before ≡ first →
       toStart behind ≡ 1 → SegmentAt t (length before) p q first last
-  laid bare-p bare-q quiet-p quiet-q sent-first opens =
+  laid tree bare-p bare-q quiet-p quiet-q sent-first opens =
       let data-sent : List Slot = sent t (range first last) in
       let s : ℕ = length before in
       let plain : map bare holds ≡ holds =
@@ -61,6 +62,7 @@ module _ (t : Plan) (kept : Keeps t) (before p q behind : List Slot) (first last
             subst (λ x. StandsAt t x data-sent) place
             (part-stands t before (segment holds) behind splits (p ++ q) data-sent []
             (alike ∙ sym (append-assoc p q data-sent) ∙ ap (λ xs. (p ++ q) ++ xs) (sym (append-nil data-sent)))));
+        own-starts = own-start t before holds behind splits (omega arith);
         next-starts = λ x low high.
             (let y : ℕ = x - s in
             let at : s + y ≡ x = omega arith in

@@ -116,6 +116,16 @@ pub starts-joined :
 starts-joined f each a zero = refl
 starts-joined f each a (suc c) = each a (joined f (span (suc a) c))
 
+-- a segment starts with its first bucket
+pub own-start :
+    (t : Plan) (before xs behind : List Slot) → slots t ≡ before ++ (segment xs ++ behind) → 0 < length xs →
+    toNextSegment (drop (length before) (slots t)) ≡ 1
+unfolding toNextSegment
+own-start t before xs behind splits some =
+    ap (λ zs. toStart (drop (length before) zs)) splits
+    ∙ ap toStart (drop-at before (segment xs ++ behind) (length before) refl)
+    ∙ starts-here xs behind some
+
 pub next-start :
     (t : Plan) (before xs behind : List Slot) → slots t ≡ before ++ (segment xs ++ behind) → map bare xs ≡ xs →
     toStart behind ≡ 1 → (y : ℕ) → y < length xs → toNextSegment (drop (suc (length before + y)) (slots t)) ≡ length xs - y

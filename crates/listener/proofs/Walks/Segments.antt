@@ -15,49 +15,18 @@ use Rattle.columns.specs.Lists.{pick, only, any, lastOr, span}
 use Rattle.cycle.specs.Tree.{Plan}
 use Rattle.cycle.specs.Layouts.{Slot, slot, slots}
 use Rattle.cycle.specs.Cycle.{toNextSegment, cycleSize}
+use Rattle.cycle.specs.Waits.{startsAt, segmentStart}
 use Rattle.cycle.proofs.Basics.Ranges.{le-or-lt}
+use Rattle.cycle.proofs.Basics.Lasts.{Last, last-only}
 use Rattle.cycle.proofs.Lines.DataTags.{AcceptedPlan}
 use Rattle.cycle.proofs.Segmenting.BucketAt.{Place, place-of}
 use Rattle.cycle.proofs.Reach.Distances.{First, first-or-none, some-hit, distance-found}
 use Rattle.cycle.proofs.Sequences.DataOnce.{Counted, counted}
-use Rattle.listener.specs.EndPlace.{target, lastHeard, position, segmentBehind, sentBefore, endFrom, endPlace, startsAt, segmentStart}
+use Rattle.listener.specs.EndPlace.{target, lastHeard, position, segmentBehind, sentBefore, endFrom, endPlace}
 use Rattle.listener.proofs.Walks.Ways.{Spot, here, sentTo, spot-of, spot-here, here-below, further, further-here}
 use Rattle.listener.proofs.Walks.DataRun.{data-position}
 use Rattle.listener.proofs.Walks.Roots.{root, root-here}
 use Rattle.listener.proofs.Walks.EndCases.{position-below, behind-within, behind-round}
-
--- ---- the last number that passes
-
--- z is the last number below b that passes
-pub record Last (f : ℕ → Bool) (b z : ℕ) : Type 0 where
-  pub below : z < b
-  pub passes : f z ≡ true
-  pub none-behind : (x : ℕ) → z < x → x < b → f x ≡ false
-
-pub last-only :
-    (f : ℕ → Bool) (c d a : ℕ) → f d ≡ true → d < a → ((x : ℕ) → d < x → x < a → f x ≡ false) →
-    Last f (a + c) (lastOr d (only f (span a c)))
-last-only f zero d a h l n =
-    record { below = omega arith; passes = h; none-behind = λ x u v. n x u (omega arith) }
-last-only f (suc c) d a h l n = by (f a) refl (last-only f c)
-  where
-    onward : {z : ℕ} → Last f (suc a + c) z → Last f (a + suc c) z
-    onward {z} r = let e : suc a + c ≡ a + suc c = omega arith in subst (λ b. Last f b z) e r
-
-    by :
-        (b : Bool) → f a ≡ b →
-        ((d a : ℕ) → f d ≡ true → d < a → ((x : ℕ) → d < x → x < a → f x ≡ false) →
-        Last f (a + c) (lastOr d (only f (span a c)))) →
-        Last f (a + suc c) (lastOr d (pick b (a ∷ only f (span (suc a) c)) (only f (span (suc a) c))))
-    by true e more = onward (more a (suc a) e (omega arith) (λ x u v. absurd (omega arith)))
-    by false e more =
-        onward
-        (more d (suc a) h (omega arith)
-        (λ x u v.
-        ⊎-elim
-        (λ (k : a ≤ x). let same : x ≡ a = omega arith in ap f same ∙ e)
-        (λ (k : x < a). n x u k)
-        (le-or-lt a x)))
 
 -- ---- the first segment start behind a tune-in
 
@@ -125,7 +94,7 @@ module _ (t : Plan) (a : AcceptedPlan t) where
         (starts-here s ∙ a .keeps .data-starts (g .skipped) (g .hit) (g .behind) (g .splits) (g .passes))
 
     pub start-last : Last (startsAt t) (position t q) (segmentStart t q)
-    unfolding segmentStart root
+    unfolding segmentStart position root
     start-last =
         let first : startsAt t 0 ≡ true = ap (startsAt t) (sym (root-here t a)) ∙ starts-here (root t a) in
         let some : 0 < position t q =

@@ -9,7 +9,7 @@
 #![allow(unsafe_code)]
 #![deny(clippy::undocumented_unsafe_blocks)]
 
-use super::{Answer, Change, Found, Line, Size, State, Step};
+use super::{Answer, Change, Found, Line, Mean, Size, State, Step};
 
 #[link(name = "pansdaoh", kind = "static")]
 extern "C" {
@@ -50,6 +50,14 @@ extern "C" {
         out: *mut u8,
         out_length: usize,
     ) -> Change;
+    fn pansdaoh_mean(
+        list: *const u8,
+        list_length: usize,
+        n: u64,
+        p: u64,
+        layout: u64,
+        copies: u64,
+    ) -> Mean;
     fn pansdaoh_read_back(
         image: *const u8,
         image_length: usize,
@@ -151,6 +159,14 @@ fn change(
     unsafe {
         call(held, held_length, lines, given, given_length, n, p, layout, copies, room, length)
     }
+}
+
+/// The mean wait over all tune-ins and all different tags of a list; refuses by 1
+/// to 6, then by 17.
+#[inline]
+pub fn mean(list: &[u8], n: u64, p: u64, layout: u64, copies: u64) -> Mean {
+    // SAFETY: the list is lent for the call and is only read.
+    unsafe { pansdaoh_mean(list.as_ptr(), list.len(), n, p, layout, copies) }
 }
 
 /// Writes the list of an image, without leading zeros, into `out`; refuses by 1,

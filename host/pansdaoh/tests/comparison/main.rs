@@ -1,6 +1,7 @@
 //! The library against the independent implementation `reference`: the same
 //! numbers, and each byte of the lent buffers.
 
+mod averaging;
 mod building;
 mod changing;
 mod compare;

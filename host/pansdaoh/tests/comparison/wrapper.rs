@@ -85,11 +85,11 @@ fn refusals_in_words() {
         pansdaoh::build(&list_of(&[5, 3]), settings, &mut []).unwrap_err().into();
     assert_eq!(refused.to_string(), "refused by 4, place 1: tag falls");
     let conditions: Vec<&str> =
-        (1..=16).map(|number| Refusal { number, place: 0 }.condition()).collect();
+        (1..=17).map(|number| Refusal { number, place: 0 }.condition()).collect();
     for (i, condition) in conditions.iter().enumerate() {
         assert!(!conditions[..i].contains(condition), "{condition}");
     }
-    for number in [0, 17] {
+    for number in [0, 18] {
         assert_eq!(Refusal { number, place: 0 }.condition(), "no such number");
     }
 }

@@ -70,7 +70,7 @@ fn compiles_and_links() {
 #[test]
 fn refusals() {
     let lines: Vec<&str> = HEADER.lines().map(str::trim).collect();
-    for number in 1..=16 {
+    for number in 1..=17 {
         let named = |line: &&str| {
             line.starts_with("PANSDAOH_REFUSED_")
                 && line.trim_end_matches(',').ends_with(&format!("= {number}"))
@@ -131,8 +131,18 @@ fn stack() {
     compiler.args(["-std=gnu11", "-O2", "-Wl,-z,now"]);
     let figures = output(&mut Command::new(link(&mut compiler, "stack.c", "stack")));
     let calls: Vec<&str> = figures.lines().map(|line| line.split(' ').next().unwrap()).collect();
-    let all =
-        ["build", "size", "arrive", "take_out", "read_back", "lookup", "step", "lost", "line"];
+    let all = [
+        "build",
+        "size",
+        "arrive",
+        "take_out",
+        "mean",
+        "read_back",
+        "lookup",
+        "step",
+        "lost",
+        "line",
+    ];
     assert_eq!(calls, all);
     for line in figures.lines() {
         let numbers: Vec<u64> = line.split(' ').skip(1).map(|word| word.parse().unwrap()).collect();

@@ -23,6 +23,7 @@ static uint64_t n, p, layout, copies, lines, tag, place;
 static struct pansdaoh_answer built, read_back;
 static struct pansdaoh_size_answer size;
 static struct pansdaoh_change_answer changed;
+static struct pansdaoh_mean_answer mean;
 static struct pansdaoh_found found;
 static struct pansdaoh_listener listener;
 static struct pansdaoh_step_answer step;
@@ -44,6 +45,10 @@ static void call_arrive(void) {
 static void call_take_out(void) {
     changed = pansdaoh_take_out(list, lines * PANSDAOH_LINE, lines, given, sizeof given, n, p,
                                 layout, copies, image, sizeof image);
+}
+
+static void call_mean(void) {
+    mean = pansdaoh_mean(list, lines * PANSDAOH_LINE, n, p, layout, copies);
 }
 
 static void call_read_back(void) {
@@ -84,7 +89,7 @@ static void measure(void (*call)(void), size_t *most) {
         *most = sizeof stack - untouched;
 }
 
-static size_t build_stack, size_stack, arrive_stack, take_out_stack;
+static size_t build_stack, size_stack, arrive_stack, take_out_stack, mean_stack;
 static size_t read_back_stack, lookup_stack, step_stack, lost_stack, line_stack;
 
 /* A hearing to its end; 0 if it ends as the lookup does. */
@@ -120,7 +125,10 @@ static int come_and_go(void) {
     return changed.number != 0 || changed.lines != lines || changed.n != built.count;
 }
 
-/* Builds, sizes, changes, reads back, looks up and steps; 0 if nothing was refused. */
+/*
+ * Builds, sizes, changes, averages, reads back, looks up and steps; 0 if nothing was refused, but
+ * the mean of no lines.
+ */
 static int run(const uint64_t settings[5]) {
     uint64_t i;
     n = settings[0];
@@ -134,6 +142,10 @@ static int run(const uint64_t settings[5]) {
     measure(call_build, &build_stack);
     measure(call_size, &size_stack);
     if (lines > 0 && come_and_go())
+        return 1;
+    measure(call_mean, &mean_stack);
+    if (mean.number != (lines > 0 ? 0 : PANSDAOH_REFUSED_NO_LINE) ||
+        mean.divisor != built.count * ((lines + 2) / 3))
         return 1;
     measure(call_read_back, &read_back_stack);
     if (built.number != 0 || size.number != 0 || size.n != built.count || read_back.number != 0)
@@ -161,6 +173,7 @@ int main(void) {
     printf("size %zu %d\n", size_stack, PANSDAOH_SIZE_STACK);
     printf("arrive %zu %d\n", arrive_stack, PANSDAOH_ARRIVE_STACK);
     printf("take_out %zu %d\n", take_out_stack, PANSDAOH_TAKE_OUT_STACK);
+    printf("mean %zu %d\n", mean_stack, PANSDAOH_MEAN_STACK);
     printf("read_back %zu %d\n", read_back_stack, PANSDAOH_READ_BACK_STACK);
     printf("lookup %zu %d\n", lookup_stack, PANSDAOH_LOOKUP_STACK);
     printf("step %zu %d\n", step_stack, PANSDAOH_STEP_STACK);

@@ -2,7 +2,8 @@
  * Builds list S of the sample yard with r 1 and prints for tag 5, which lies in
  * two data buckets, each tune-in, heard, elapsed and lines. The cycle is held
  * against its size and against that of a list in which a line came and went, each
- * lookup against a listener's own steps, with each of its buckets lost in turn too.
+ * lookup against a listener's own steps, with each of its buckets lost in turn too,
+ * and the mean wait against the lookups of all tags.
  */
 #include "pansdaoh.h"
 
@@ -100,6 +101,23 @@ static int come_and_go(const uint8_t *list, size_t length, uint64_t buckets) {
            memcmp(cycle, image, PANSDAOH_BUCKET * buckets);
 }
 
+/* The lookups of all tags of list S; 0 if the mean wait is theirs. */
+static int average(const uint8_t *list, size_t length, uint64_t buckets) {
+    static const uint64_t TAGS[] = {3, 5, 8, 9};
+    size_t tags = sizeof TAGS / sizeof *TAGS, i;
+    struct pansdaoh_mean_answer mean = pansdaoh_mean(list, length, 2, 1, 1, 1);
+    struct pansdaoh_mean_answer none = pansdaoh_mean(list, 0, 2, 1, 1, 0);
+    uint64_t tune_in, sum = 0;
+    for (i = 0; i < tags; i++)
+        for (tune_in = 0; tune_in < buckets; tune_in++)
+            sum += pansdaoh_lookup(image, PANSDAOH_BUCKET * buckets, TAGS[i], tune_in, lines,
+                                   sizeof lines)
+                       .elapsed;
+    return mean.number != 0 || mean.sum != sum || mean.divisor != buckets * tags ||
+           mean.quotient != sum / mean.divisor || mean.remainder != sum % mean.divisor ||
+           none.number != PANSDAOH_REFUSED_NO_LINE || none.divisor != 0;
+}
+
 int main(void) {
     const uint8_t *list = (const uint8_t *)LIST;
     size_t length = sizeof LIST - 1;
@@ -114,7 +132,7 @@ int main(void) {
         return 1;
     if (size.number != 0 || size.n != built.count || size.bytes != image_length)
         return 1;
-    if (come_and_go(list, length, built.count))
+    if (come_and_go(list, length, built.count) || average(list, length, built.count))
         return 1;
     for (tune_in = 0; tune_in < built.count; tune_in++) {
         struct pansdaoh_found found =

@@ -2,7 +2,7 @@
 
 use std::fmt::Write;
 
-use pansdaoh::{build, lookup, Answer, Listener, Looked, BUCKET, LINE};
+use pansdaoh::{build, lookup, mean, Answer, Listener, Looked, Mean, BUCKET, LINE};
 use reference::generate::list_of;
 
 use crate::drawing::letter;
@@ -74,6 +74,25 @@ fn heard(
     let end = if found { "found" } else { "absent" };
     let text = format!("{text}{end}\nheard {heard}, elapsed {elapsed}\n");
     (text, Looked { found, heard, elapsed, lines })
+}
+
+/// The mean waits of list S, with the words about tag 5 and the others.
+pub fn mean_waits() -> String {
+    let one_copy = image(LIST_S.as_bytes(), sample(1, 1));
+    let waits = |tag| (0..12).map(|tune_in| looked(&one_copy, tag, tune_in).elapsed).sum::<u64>();
+    assert_eq!([3, 5, 8, 9].map(waits), [138, 162, 174, 126]);
+    let mut text = String::new();
+    for (layout, copies) in [(1, 0), (1, 1), (1, 2), (2, 2), (2, 5)] {
+        let wait = mean(LIST_S.as_bytes(), sample(layout, copies)).unwrap();
+        let Mean { sum, divisor, quotient, remainder } = wait;
+        let letter = if layout == 1 { "r" } else { "m" };
+        let _ = writeln!(
+            text,
+            "layout {layout}, {letter} {copies}: sum {sum}, divided by {divisor}: {quotient}, \
+             remainder {remainder}"
+        );
+    }
+    text
 }
 
 /// N, or the refusal.

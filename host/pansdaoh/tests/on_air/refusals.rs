@@ -1,6 +1,6 @@
 //! An example of each refusal.
 
-use pansdaoh::{arrive, build, lookup, read_back, take_out};
+use pansdaoh::{arrive, build, lookup, mean, read_back, take_out};
 use pansdaoh::{Answer, Listener, Refusal, Settings, BUCKET, LINE};
 use reference::generate::list_of;
 
@@ -40,6 +40,10 @@ fn changing() -> Examples {
         ("taking a line of tag 4 out of list S", absent),
         ("a line arriving in list S, in a buffer of 135 bytes", full),
     ]
+}
+
+fn averaging() -> Examples {
+    vec![("the mean wait, a list of 0 bytes", mean(b"", sample(1, 0)).unwrap_err())]
 }
 
 fn listening() -> Examples {
@@ -87,10 +91,11 @@ fn reading_back() -> Examples {
 /// The rows of the document's table are these, each number once.
 #[test]
 fn each_refusal_with_its_example() {
-    let mut examples = [building(), changing(), listening(), looking_up(), reading_back()].concat();
+    let calls = [building(), changing(), averaging(), listening(), looking_up(), reading_back()];
+    let mut examples = calls.concat();
     examples.sort_by_key(|(_, refusal)| refusal.number);
     let numbers: Vec<u64> = examples.iter().map(|(_, refusal)| refusal.number).collect();
-    assert_eq!(numbers, (1..=16).collect::<Vec<u64>>());
+    assert_eq!(numbers, (1..=17).collect::<Vec<u64>>());
     let row = |(example, refusal): &(&str, Refusal)| {
         let (number, place) = (refusal.number, refusal.place);
         format!("| {number} | {} | {example} | {place} |", refusal.condition())

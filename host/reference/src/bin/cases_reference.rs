@@ -2,8 +2,8 @@
 
 use std::io::{Read, Write};
 
-use reference::{arrive, build, lookup, read_back, size, take_out};
-use reference::{Answer, Changed, Listener, Looked, Refusal, Settings, Size};
+use reference::{arrive, build, lookup, mean, read_back, size, take_out};
+use reference::{Answer, Changed, Listener, Looked, Mean, Refusal, Settings, Size};
 
 const HEAD: usize = 74;
 const COLUMNS: usize = 12;
@@ -50,6 +50,7 @@ fn answer(letter: u8, numbers: Numbers, body: &[u8]) -> String {
         b'F' => sized(numbers, body),
         b'A' => changed(arrive, numbers, body),
         b'T' => changed(take_out, numbers, body),
+        b'M' => averaged(numbers, body),
         _ => panic!("no such request: {}", letter as char),
     }
 }
@@ -120,6 +121,15 @@ fn sized([n, p, layout, copies, lines, _]: Numbers, body: &[u8]) -> String {
     match size(lines, n, p, layout, copies, number(body)) {
         Ok(Size { k, d, n, bytes, heard }) => format!("0 0 {k} {d} {n} {bytes} {heard}\n"),
         Err(Refusal { number, place }) => format!("{number} {place} 0 0 0 0 0\n"),
+    }
+}
+
+fn averaged([n, p, layout, copies, ..]: Numbers, body: &[u8]) -> String {
+    match mean(body, n, p, layout, copies) {
+        Ok(Mean { sum, divisor, quotient, remainder }) => {
+            format!("0 0 {sum} {divisor} {quotient} {remainder}\n")
+        }
+        Err(Refusal { number, place }) => format!("{number} {place} 0 0 0 0\n"),
     }
 }
 

@@ -2,11 +2,10 @@
 -- Assumes nothing.
 use mathlib.Core.Path.{_≡_, sym, ap, _∙_}
 use Prim.Native.Nat.{_+_, _-_, _*_, _/_, _≤_}
-use native.Mathlib.Nat.{mul-le-mul}
 use native.Mathlib.Omega.{arith}
 use Rattle.cycle.proofs.Segmenting.HeldParts.{wholeTree}
 use Rattle.cycle.proofs.Trees.Readiness.{Parts, parts, whole-last}
-use Rattle.cycle.proofs.Reach.DataHeld.{InPart, data-in-part}
+use Rattle.cycle.proofs.Reach.DataHeld.{InPart, part-product, data-in-part}
 use Rattle.cycle.proofs.places.one_m_data_place.Statement.{statement}
 use Rattle.cycle.proofs.places.one_m_data_place.Tie as tie
 use Rattle.buckets.specs.Lengths.{linesMost}
@@ -23,10 +22,7 @@ found c = data-in-part (c .args .f) (c .args .q) (c .pre .0) (c .pre .2) (λ e. 
 
 -- the product that the code divides
 product : (c : tie.Start) → (1 ≤ (c .args .q + 1) * c .args .f .copies) × ((c .args .q + 1) * c .args .f .copies ≤ linesMost * linesMost)
-product c =
-    let k = known c in
-    let low : 1 * 1 ≤ (c .args .q + 1) * c .args .f .copies = mul-le-mul {n₁ = 1} {m₁ = 1} (omega arith) (k .parted) in
-    (omega arith, mul-le-mul {n₂ = linesMost} {m₂ = linesMost} (omega (arith, k .some)) (k .few))
+product c = part-product (c .args .f) (c .args .q) (c .pre .0) (c .pre .2) (λ e. omega arith)
 
 mul-result : tie.Need-mul-result
 mul-result c =
