@@ -247,7 +247,7 @@ struct pansdaoh_mean_answer {
 struct pansdaoh_mean_answer pansdaoh_mean(const uint8_t *list, size_t list_length, uint64_t n,
                                           uint64_t p, uint64_t layout, uint64_t copies);
 
-#define PANSDAOH_MEAN_STACK 4096 /* bytes of stack, at most */
+#define PANSDAOH_MEAN_STACK 1536 /* bytes of stack, at most */
 
 /*
  * Writes the list that builds this image under these settings to out and

@@ -9,7 +9,7 @@ use Rattle.cycle.specs.declared.Waited.the-variants.{Sum}
 use Rattle.cycle.proofs.Basics.Telling.{waited-told}
 use Rattle.listener.specs.Mean
 use Rattle.listener.specs.declared.Averaged.the-variants.{Mean}
-use Rattle.listener.proofs.Means.Answers.{Divisible, divisible, mean-refused, mean-divided}
+use Rattle.listener.proofs.Means.Answers.{divisible, mean-refused, mean-divided}
 use Rattle.listener.proofs.mean.mean.Statement.{statement}
 use Rattle.listener.proofs.mean.mean.Tie as tie
 
