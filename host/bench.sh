@@ -4,7 +4,7 @@
 # the difference between one round and two, and nanoseconds, the best of several rounds. The growth is that of a bucket's cost
 # from the size before, for library and reference: 1.00 is linear. Then the library's mean wait against its judging of the same
 # list alone, a line, at 10,000 and 40,000 lines.
-# Usage: bench.sh, some four minutes
+# Usage: bench.sh, some six minutes
 set -e
 cd "$(dirname "$0")"
 cargo build --release --offline --locked --quiet -p bench
