@@ -7,7 +7,7 @@ pub mod reader;
 pub mod writer;
 
 // A line's four numbers: tag, tare in kg, material code, weighing number.
-#[derive(Drop)]
+#[derive(Clone, Copy)]
 pub struct Line {
     pub tag: u64,
     pub tare: u64,
@@ -55,7 +55,7 @@ impl Line {
 // A bucket's columns: how many a position or distance and a count have, where the fields of its head start, where control pairs
 // and lines start, where entries start, where its newline stands, and how many bytes it has; the most pairs, entries and lines
 // of a bucket, and the most buckets of a cycle.
-#[derive(Drop)]
+#[derive(Clone, Copy)]
 pub struct Bucket;
 
 impl Bucket {
@@ -115,14 +115,14 @@ const BLANK: u8 = 32;
 pub const NEWLINE: u8 = 10;
 
 // What a reading of a line finds: lenient of a list line, strict of a line of a bucket.
-#[derive(Drop)]
+#[derive(Clone, Copy)]
 pub enum LineRead {
     Read(Line),
     Misprinted,
 }
 
 // The first three numbers of a bucket; a distance is counted from it.
-#[derive(Drop)]
+#[derive(Clone, Copy)]
 pub struct Head {
     pub position: u64,
     pub to_cycle: u64,
@@ -131,7 +131,7 @@ pub struct Head {
 
 // An index bucket's control pairs and entries. Unused places hold 0. Where `blank` is true the first pair's tag is blank, and
 // 0 stands in its place.
-#[derive(Drop)]
+#[derive(Clone, Copy)]
 pub struct IndexItems {
     pub pairs: usize,
     pub pair_tags: [u64; Bucket::PAIRS_MOST],
@@ -143,7 +143,7 @@ pub struct IndexItems {
 }
 
 // The kind of a bucket that was read.
-#[derive(Drop)]
+#[derive(Clone, Copy)]
 pub enum Kind {
     Index,
     Data,
@@ -152,7 +152,7 @@ pub enum Kind {
 
 // What a strict reading of a bucket finds. Of a data bucket it has the number of lines and their tags; whatever the kind of
 // the bucket has no use for is 0.
-#[derive(Drop)]
+#[derive(Clone, Copy)]
 pub struct Reading {
     pub head: Head,
     pub follow_on: u64,
@@ -163,7 +163,7 @@ pub struct Reading {
 }
 
 // Line i of a bucket: its numbers, nothing where the bucket has no such line, or that the bucket is misprinted.
-#[derive(Drop)]
+#[derive(Clone, Copy)]
 pub enum BucketLine {
     Line(Line),
     Nothing,

@@ -14,14 +14,14 @@ use columns;
 use columns::{MISPRINT, Number};
 
 // What a reading of an entry finds: its tag and distance.
-#[derive(Drop)]
+#[derive(Clone, Copy)]
 enum EntryRead {
     Read(u64, u64),
     Misprinted,
 }
 
 // What a reading of a control pair finds: false and 0 in each if it is misprinted; a blank tag is 0.
-#[derive(Drop)]
+#[derive(Clone, Copy)]
 struct PairRead {
     good: bool,
     blank: bool,
@@ -30,7 +30,7 @@ struct PairRead {
 }
 
 // What a reading of all control pairs finds, held as in `IndexItems`: false and 0 in each if one is misprinted.
-#[derive(Drop)]
+#[derive(Clone, Copy)]
 struct Pairs {
     tags: [u64; Bucket::PAIRS_MOST],
     distances: [u64; Bucket::PAIRS_MOST],
@@ -39,7 +39,7 @@ struct Pairs {
 }
 
 // The same of all entries.
-#[derive(Drop)]
+#[derive(Clone, Copy)]
 struct Entries {
     tags: [u64; Bucket::ENTRIES_MOST],
     distances: [u64; Bucket::ENTRIES_MOST],
@@ -47,14 +47,14 @@ struct Entries {
 }
 
 // The same of the tags of all lines.
-#[derive(Drop)]
+#[derive(Clone, Copy)]
 struct Tags {
     tags: [u64; Bucket::LINES_MOST],
     good: bool,
 }
 
 // What a reading of the first three numbers finds.
-#[derive(Drop)]
+#[derive(Clone, Copy)]
 enum HeadRead {
     Read(Head),
     Misprinted,

@@ -12,7 +12,7 @@ const NINE: u8 = 57;
 pub const COLUMNS: usize = 12;
 
 // What stands in a number's columns.
-#[derive(Drop)]
+#[derive(Clone, Copy)]
 pub enum Figure {
     Value(u64),
     NoNumber,

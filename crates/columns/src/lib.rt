@@ -6,7 +6,7 @@ ghost use Rattle.columns.specs.PrintedNumbers.{print, blanks, all_blank, value, 
 ghost use Rattle.columns.specs.Inner.Starts.{Starts};
 
 // What a strict reading of columns finds.
-#[derive(Drop)]
+#[derive(Clone, Copy)]
 pub enum Number {
     Value(u64),
     Misprinted,

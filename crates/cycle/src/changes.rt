@@ -23,7 +23,7 @@ use buckets::lines::{line_tag, plain_tag, spelled_line, spelled_tag};
 use columns::{MISPRINT, copy_columns, print_blanks};
 
 // What is found of settings, a list and a given line: a refusal by 1 to 4, or whether the list is known to have no leading zeros.
-#[derive(Drop)]
+#[derive(Clone, Copy)]
 enum GivenJudged {
     Passed(bool),
     Refused(u64, u64),

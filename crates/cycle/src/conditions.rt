@@ -22,7 +22,7 @@ use buckets::lines::{line_tag, plain_tag, spelled_tag};
 use columns::MISPRINT;
 
 // What judging a list answers, and whether the list is known to have no leading zeros.
-#[derive(Drop)]
+#[derive(Clone, Copy)]
 pub struct ListJudged {
     pub judged: Judged,
     pub plain: bool,
@@ -30,7 +30,7 @@ pub struct ListJudged {
 
 // What is found of a list's lines: the first misprinted one, the first whose tag falls, or that there is none, and whether they
 // are known to have no leading zeros.
-#[derive(Drop)]
+#[derive(Clone, Copy)]
 pub enum LinesJudged {
     Misprinted(u64),
     Falls(u64),

@@ -43,14 +43,14 @@ const LINE: u64 = Line::LENGTH as u64;
 const BUCKET: u64 = Bucket::LENGTH as u64;
 
 // What judging answers: the figures of the cycle, or a refusal's number and place.
-#[derive(Drop)]
+#[derive(Clone, Copy)]
 pub enum Judged {
     Cycle(Figures),
     Refused(u64, u64),
 }
 
 // The dimensions of a cycle: index levels, data buckets, N, the bytes of its image, and the most buckets that a display hears.
-#[derive(Drop)]
+#[derive(Clone, Copy)]
 pub struct Dimensions {
     pub k: u64,
     pub d: u64,
@@ -60,21 +60,21 @@ pub struct Dimensions {
 }
 
 // What sizing answers: the dimensions of the cycle, or a refusal's number and place.
-#[derive(Drop)]
+#[derive(Clone, Copy)]
 pub enum Sized {
     Cycle(Dimensions),
     Refused(u64, u64),
 }
 
 // What building answers: the cycle's number of buckets, or a refusal's number and place.
-#[derive(Drop)]
+#[derive(Clone, Copy)]
 pub enum Built {
     Cycle(u64),
     Refused(u64, u64),
 }
 
 // The number of lines of a changed list, its data buckets, index levels and N.
-#[derive(Drop)]
+#[derive(Clone, Copy)]
 pub struct Counts {
     pub lines: u64,
     pub d: u64,
@@ -83,14 +83,14 @@ pub struct Counts {
 }
 
 // What a change of a list answers: its counts now, or a refusal's number and place.
-#[derive(Drop)]
+#[derive(Clone, Copy)]
 pub enum Changed {
     Cycle(Counts),
     Refused(u64, u64),
 }
 
 // N, the number of different tags of a list, and their waits over all tune-ins, added.
-#[derive(Drop)]
+#[derive(Clone, Copy)]
 pub struct WaitSum {
     pub n: u64,
     pub tags: u64,
@@ -98,21 +98,21 @@ pub struct WaitSum {
 }
 
 // What adding the waits of a list's tags answers: their sum, or a refusal's number and place.
-#[derive(Drop)]
+#[derive(Clone, Copy)]
 pub enum Waited {
     Sum(WaitSum),
     Refused(u64, u64),
 }
 
 // What reading back answers: the list's number of lines, or a refusal's number and place.
-#[derive(Drop)]
+#[derive(Clone, Copy)]
 pub enum ReadBack {
     Lines(u64),
     Refused(u64, u64),
 }
 
 // Settings, a list's number of lines, and what follows from them. A height counts levels above the data buckets.
-#[derive(Drop)]
+#[derive(Clone, Copy)]
 pub struct Figures {
     pub n: u64,
     pub p: u64,
@@ -134,7 +134,7 @@ pub struct Figures {
 }
 
 // A segment of the cycle: its path, its tree and its data buckets, and where they stand.
-#[derive(Drop)]
+#[derive(Clone, Copy)]
 pub struct Segment {
     // which one, from 0: in layout 1 also the place of its bucket B on level r + 1
     pub number: u64,
@@ -155,7 +155,7 @@ pub struct Segment {
 }
 
 // Where lines stand: in a list, or in the data buckets of an image.
-#[derive(Drop)]
+#[derive(Clone, Copy)]
 pub enum Source {
     List,
     Image,

@@ -10,14 +10,14 @@ use super::{Answer, Listener, Stepped};
 use buckets::Bucket;
 
 // A bucket that a run heard: its place in the image, and what its step handed back.
-#[derive(Drop)]
+#[derive(Clone, Copy)]
 pub struct Heard {
     pub x: u64,
     pub step: Stepped,
 }
 
 // What stopped a run.
-#[derive(Drop)]
+#[derive(Clone, Copy)]
 pub enum Stop {
     Found,
     Absent,
@@ -26,7 +26,7 @@ pub enum Stop {
 
 // A run to its end: what stopped it, the bucket heard last, the number of lines got, and the bucket heard that they are written
 // from: the first whose lines are named, or the tune-in bucket if there is none.
-#[derive(Drop)]
+#[derive(Clone, Copy)]
 pub struct Ran {
     pub stop: Stop,
     pub last: Heard,

@@ -8,7 +8,7 @@ mod state;
 mod step;
 
 // What a listener awaits: its tune-in bucket, an index bucket, either kind, a data bucket, or nothing any more.
-#[derive(Drop)]
+#[derive(Clone, Copy)]
 pub enum Phase {
     TuneIn,
     Index,
@@ -18,7 +18,7 @@ pub enum Phase {
 }
 
 // A listener's state. It is made by starting it with a tag, and handed on from step to step.
-#[derive(Drop)]
+#[derive(Clone, Copy)]
 pub struct Listener {
     // the tag listened for
     tag: u64,
@@ -39,7 +39,7 @@ pub struct Listener {
 }
 
 // A listener's answer to one bucket: doze by a distance, found, absent, refused by a number.
-#[derive(Drop)]
+#[derive(Clone, Copy)]
 pub enum Answer {
     Doze(u64),
     Found,
@@ -48,7 +48,7 @@ pub enum Answer {
 }
 
 // What a step hands back: the next listener, the answer, and which lines of the bucket match.
-#[derive(Drop)]
+#[derive(Clone, Copy)]
 pub struct Stepped {
     pub listener: Listener,
     pub answer: Answer,
@@ -58,7 +58,7 @@ pub struct Stepped {
 
 // How a run of a listener over an image ends: found with the listener and the number of lines got, absent with the listener, or
 // a refusal's number and place.
-#[derive(Drop)]
+#[derive(Clone, Copy)]
 pub enum Ending {
     Found(Listener, u64),
     Absent(Listener),
@@ -66,7 +66,7 @@ pub enum Ending {
 }
 
 // What a lookup answers: found or absent with heard and elapsed, or a refusal's number and place.
-#[derive(Drop)]
+#[derive(Clone, Copy)]
 pub enum Looked {
     Found {
         heard: u64,
@@ -81,7 +81,7 @@ pub enum Looked {
 }
 
 // A mean wait: the sum of elapsed, the number of hearings added, and the sum divided by it, with the remainder.
-#[derive(Drop)]
+#[derive(Clone, Copy)]
 pub struct MeanWait {
     pub sum: u64,
     pub divisor: u64,
@@ -90,7 +90,7 @@ pub struct MeanWait {
 }
 
 // What averaging answers: the mean wait, or a refusal's number and place.
-#[derive(Drop)]
+#[derive(Clone, Copy)]
 pub enum Averaged {
     Mean(MeanWait),
     Refused(u64, u64),

@@ -24,7 +24,7 @@ use listener::{Averaged, Listener, Looked, Stepped, lookup, mean};
 
 // A refusal's number (0: not refused) and place, and the number of buckets built or of lines read back.
 #[repr(C)]
-#[derive(Drop)]
+#[derive(Clone, Copy)]
 pub struct CountAnswer {
     pub number: u64,
     pub place: u64,
@@ -34,7 +34,7 @@ pub struct CountAnswer {
 // A refusal's number (0: not refused) and place; how the lookup ended (1 found, 2 absent, 0 refused), its heard and elapsed,
 // and the number of lines written.
 #[repr(C)]
-#[derive(Drop)]
+#[derive(Clone, Copy)]
 pub struct LookupAnswer {
     pub number: u64,
     pub place: u64,
@@ -47,7 +47,7 @@ pub struct LookupAnswer {
 // The answer (1 doze, 2 found, 3 absent, 4 refused), the distance to doze or the refusal's number (else 0), and which lines of
 // the bucket match: the first, from 0, and how many.
 #[repr(C)]
-#[derive(Drop)]
+#[derive(Clone, Copy)]
 pub struct StepAnswer {
     pub answer: u64,
     pub value: u64,
@@ -57,7 +57,7 @@ pub struct StepAnswer {
 
 // A refusal's number (0: not refused) and place; whether the bucket has such a line (1, else 0), and its four numbers.
 #[repr(C)]
-#[derive(Drop)]
+#[derive(Clone, Copy)]
 pub struct LineAnswer {
     pub number: u64,
     pub place: u64,
@@ -71,7 +71,7 @@ pub struct LineAnswer {
 // A refusal's number (0: not refused) and place; index levels, data buckets, N, the image's bytes, and the most buckets that a
 // display hears.
 #[repr(C)]
-#[derive(Drop)]
+#[derive(Clone, Copy)]
 pub struct SizeAnswer {
     pub number: u64,
     pub place: u64,
@@ -84,7 +84,7 @@ pub struct SizeAnswer {
 
 // A refusal's number (0: not refused) and place; the changed list's number of lines, its data buckets, index levels and N.
 #[repr(C)]
-#[derive(Drop)]
+#[derive(Clone, Copy)]
 pub struct ChangeAnswer {
     pub number: u64,
     pub place: u64,
@@ -97,7 +97,7 @@ pub struct ChangeAnswer {
 // A refusal's number (0: not refused) and place; the sum of elapsed over all tune-ins and all different tags, the number of these
 // hearings, and the sum divided by it, with the remainder.
 #[repr(C)]
-#[derive(Drop)]
+#[derive(Clone, Copy)]
 pub struct MeanAnswer {
     pub number: u64,
     pub place: u64,
