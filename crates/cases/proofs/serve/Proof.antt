@@ -4,15 +4,15 @@ use Rattle.std.proofs.Common.{◌≡◌, length, arith}
 use Rattle.cases.proofs.serve.Statement.{statement}
 use Rattle.cases.proofs.serve.Tie as tie
 
-abbrev invariant-loop : tie.invariant-loop
-invariant-loop body₀ lent₀ turns₀ body lent turns = (length body ≡ length body₀) × (length lent ≡ length lent₀)
+abbrev invariant-loop-turns : tie.invariant-loop-turns
+invariant-loop-turns body₀ lent₀ turns₀ body lent turns = (length body ≡ length body₀) × (length lent ≡ length lent₀)
 
-abbrev decreases-loop : tie.decreases-loop
-decreases-loop body₀ lent₀ turns₀ body lent turns = turns
+abbrev decreases-loop-turns : tie.decreases-loop-turns
+decreases-loop-turns body₀ lent₀ turns₀ body lent turns = turns
 
 pub serve_spec : {M : Type 1} → statement M
 serve_spec =
     tie.close
-    (tie.spec invariant-loop decreases-loop
+    (tie.spec invariant-loop-turns decreases-loop-turns
     (λ c. omega arith) (λ c κs. tt) (λ c. omega arith) (λ c. omega arith) (λ c. omega arith) (λ c. omega arith)
     (λ c. omega arith) (λ c. tt) (λ c. omega arith) (λ c. omega arith) (λ c. tt))

@@ -18,19 +18,19 @@ module _ (s : List ℕ) (i : ℕ) (blank : Bool) (e : all_blank s ≡ (blank && 
   unfolding all_blank
   all_passed h = sym (e ∙ rw (drop_of_length-le s h) (and_true blank))
 
-abbrev invariant-loop : tie.invariant-loop
-invariant-loop part blank₀ i₀ blank i = (i ≤ length part) × (all_blank part ≡ (blank && all_blank (drop i part)))
+abbrev invariant-loop-i : tie.invariant-loop-i
+invariant-loop-i part blank₀ i₀ blank i = (i ≤ length part) × (all_blank part ≡ (blank && all_blank (drop i part)))
 
-abbrev decreases-loop : tie.decreases-loop
-decreases-loop part blank₀ i₀ blank i = length part - i
+abbrev decreases-loop-i : tie.decreases-loop-i
+decreases-loop-i part blank₀ i₀ blank i = length part - i
 
-loop_again : tie.Need-loop-preserved invariant-loop decreases-loop
+loop_again : tie.Need-loop-i-preserved invariant-loop-i decreases-loop-i
 loop_again c =
     let turn = c.before.before in
-    (omega arith, one_more _ _ turn.before.loop.blank turn.before.loop.invariant.1 turn.loop-test.true _ c.still-blank.ensures)
+    (omega arith, one_more _ _ turn.before.loop-i.blank turn.before.loop-i.invariant.1 turn.loop-i-test.true _ c.still_blank-blank.ensures)
 
 pub all_blank_spec : {M : Type 1} → statement M
 all_blank_spec =
     tie.close
-    (tie.spec invariant-loop decreases-loop ▹ (λ c. (omega arith, refl)) ▹₄ search rules ▹ loop_again
-    ▹ (λ c. all_passed _ _ c.before.loop.blank c.before.loop.invariant.1 c.loop-test.false))
+    (tie.spec invariant-loop-i decreases-loop-i ▹ (λ c. (omega arith, refl)) ▹₄ search rules ▹ loop_again
+    ▹ (λ c. all_passed _ _ c.before.loop-i.blank c.before.loop-i.invariant.1 c.loop-i-test.false))

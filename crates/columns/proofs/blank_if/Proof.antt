@@ -8,4 +8,4 @@ use Rattle.columns.proofs.blank_if.Tie as tie
 pub blank_if_spec : {M : Type 1} → statement M
 blank_if_spec =
     tie.close
-    (tie.spec (λ c. sym (ap (λ t. pick t 32 c.before.args.c) c.if1.true)) (λ c. sym (ap (λ t. pick t 32 c.before.args.c) c.if1.false)))
+    (tie.spec (λ c. sym (ap (λ t. pick t 32 c.before.args.c) c.if-leading.true)) (λ c. sym (ap (λ t. pick t 32 c.before.args.c) c.if-leading.false)))

@@ -57,29 +57,29 @@ module _ (s part : List ℕ) (i : ℕ) (o : Blanked s part i) where
       let last : length (drop i s) ≡ 1 = simp length-drop (omega (arith, o.within)) in
       o.is ∙ ap (λ (t : List ℕ). replicate i 32 ++ t) (sym (blank_one (drop i s) last)) ∙ sym o.rest
 
-abbrev invariant-loop : tie.invariant-loop
-invariant-loop part₀ last i₀ part i = Blanked part₀ part i
+abbrev invariant-loop-i : tie.invariant-loop-i
+invariant-loop-i part₀ last i₀ part i = Blanked part₀ part i
 
-abbrev decreases-loop : tie.decreases-loop
-decreases-loop part₀ last i₀ part i = length part₀ - i
+abbrev decreases-loop-i : tie.decreases-loop-i
+decreases-loop-i part₀ last i₀ part i = length part₀ - i
 
-inside : (c : tie.In-loop invariant-loop decreases-loop) → c.before.loop.i < length c.before.loop.part
-inside c = omega (arith, c.before.loop.invariant.long, c.loop-test.true)
+inside : (c : tie.In-loop-i invariant-loop-i decreases-loop-i) → c.before.loop-i.i < length c.before.loop-i.part
+inside c = omega (arith, c.before.loop-i.invariant.long, c.loop-i-test.true)
 
 pub blank_zeros_spec : {M : Type 1} → statement M
 blank_zeros_spec =
     tie.close
-    (tie.spec invariant-loop decreases-loop (λ c. c.before.requires)
+    (tie.spec invariant-loop-i decreases-loop-i (λ c. c.before.requires)
     (λ c. record { within = omega arith; long = refl; is = refl; rest = refl })
     (λ c. inside c.before)
     (λ c κs. tt)
-    (λ c. c.before.before.before.before.loop.invariant.long)
+    (λ c. c.before.before.before.before.loop-i.invariant.long)
     (λ c. let turn = c.before.before.before in
-    stops _ _ _ turn.before.loop.invariant (omega (arith, turn.loop-test.true)) c.before.is_leading.ensures (not-true _ c.if1.true))
+    stops _ _ _ turn.before.loop-i.invariant (omega (arith, turn.loop-i-test.true)) c.before.is_leading.ensures (not-true _ c.if-not-is_leading.true-raw))
     (λ c. inside c.before.before.before)
     (λ c. omega arith)
-    (λ c. omega (arith, c.before.before.before.loop-test.true))
+    (λ c. omega (arith, c.before.before.before.loop-i-test.true))
     (λ c. let turn = c.before.before.before in
-    goes_on _ _ _ turn.before.loop.invariant turn.loop-test.true c.before.is_leading.ensures (not-false _ c.if1.false))
-    (λ c. c.before.loop.invariant.long)
-    (λ c. ends _ _ _ c.before.loop.invariant c.before.before.before.requires c.loop-test.false))
+    goes_on _ _ _ turn.before.loop-i.invariant turn.loop-i-test.true c.before.is_leading.ensures (not-false _ c.if-not-is_leading.false-raw))
+    (λ c. c.before.loop-i.invariant.long)
+    (λ c. ends _ _ _ c.before.loop-i.invariant c.before.before.before.requires c.loop-i-test.false))

@@ -52,36 +52,36 @@ done : (s part : List ℕ) (leading : Bool) (i : ℕ) → Copied s part leading 
 done s part leading i o h =
     sym (take_all i part (omega (arith, o.all))) ∙ o.is ∙ take_all i (blank_zeros s) (omega (arith, length_blanked s))
 
-abbrev invariant-loop : tie.invariant-loop
-invariant-loop part₀ from n leading₀ i₀ part leading i = (n ≡ length from) × Copied from part leading i
+abbrev invariant-loop-i : tie.invariant-loop-i
+invariant-loop-i part₀ from n leading₀ i₀ part leading i = (n ≡ length from) × Copied from part leading i
 
-abbrev decreases-loop : tie.decreases-loop
-decreases-loop part₀ from n leading₀ i₀ part leading i = length from - i
+abbrev decreases-loop-i : tie.decreases-loop-i
+decreases-loop-i part₀ from n leading₀ i₀ part leading i = length from - i
 
-abbrev turn : tie.After-is-leading invariant-loop decreases-loop → tie.In-loop invariant-loop decreases-loop
+abbrev turn : tie.After-is_leading invariant-loop-i decreases-loop-i → tie.In-loop-i invariant-loop-i decreases-loop-i
 turn c = c.before.before
 
-loop_again : tie.Need-loop-preserved invariant-loop decreases-loop
+loop_again : tie.Need-loop-i-preserved invariant-loop-i decreases-loop-i
 loop_again c =
     let t = turn c.before in
-    let l = t.before.loop in (
-      l.inv.0,
-      one_more _ _ _ _ l.inv.1 (omega (arith, l.inv.0, t.loop-test.taken)) _
-          (ap₂ (λ r n. (l.leading && r) && ltb (l.i + 1) n) c.before.is_leading.ensures l.inv.0) c.blank-if.ensures,
+    let l = t.before.loop-i in (
+      l.invariant.0,
+      one_more _ _ _ _ l.invariant.1 (omega (arith, l.invariant.0, t.loop-i-test.true)) _
+          (ap₂ (λ r n. (l.leading && r) && ltb (l.i + 1) n) c.before.is_leading.ensures l.invariant.0) c.blank_if.ensures,
     )
 
 pub copy_blanked_spec : {M : Type 1} → statement M
 copy_blanked_spec =
     tie.close
-    (tie.spec invariant-loop decreases-loop
+    (tie.spec invariant-loop-i decreases-loop-i
     (λ c. (sym c.before.before.requires, none_yet _ _ c.before.before.requires))
-    (λ c. omega (arith, c.before.before.loop.invariant.0, c.before.loop-test.true))
+    (λ c. omega (arith, c.before.before.loop-i.invariant.0, c.before.loop-i-test.true))
     (λ c κs. tt)
     (λ c. omega arith)
     (λ c κs. tt)
-    (λ c. let t = turn c.before in omega (arith, t.before.loop.inv.0, t.before.loop.inv.1.all, t.loop-test.taken))
+    (λ c. let t = turn c.before in omega (arith, t.before.loop-i.invariant.0, t.before.loop-i.invariant.1.all, t.loop-i-test.true))
     (λ c. omega arith)
-    (λ c. let t = turn c.before in omega (arith, t.before.loop.inv.0, t.loop-test.taken))
+    (λ c. let t = turn c.before in omega (arith, t.before.loop-i.invariant.0, t.loop-i-test.true))
     loop_again
-    (λ c. c.before.loop.invariant.1.all ∙ sym c.before.loop.invariant.0)
-    (λ c. done _ _ _ _ c.before.loop.invariant.1 (omega (arith, c.before.loop.invariant.0, c.loop-test.false))))
+    (λ c. c.before.loop-i.invariant.1.all ∙ sym c.before.loop-i.invariant.0)
+    (λ c. done _ _ _ _ c.before.loop-i.invariant.1 (omega (arith, c.before.loop-i.invariant.0, c.loop-i-test.false))))

@@ -42,28 +42,28 @@ invariant-four part₀ from n i₀ part i = (n ≡ length from) × Copied from p
 abbrev decreases-four : tie.decreases-four
 decreases-four part₀ from n i₀ part i = length from - i
 
-abbrev invariant-loop : tie.invariant-loop
-invariant-loop part₀ from n i₀ part i = (n ≡ length from) × Copied from part i
+abbrev invariant-loop-i : tie.invariant-loop-i
+invariant-loop-i part₀ from n i₀ part i = (n ≡ length from) × Copied from part i
 
-abbrev decreases-loop : tie.decreases-loop
-decreases-loop part₀ from n i₀ part i = length from - i
+abbrev decreases-loop-i : tie.decreases-loop-i
+decreases-loop-i part₀ from n i₀ part i = length from - i
 
-four_again : tie.Need-four-preserved invariant-four decreases-four invariant-loop decreases-loop
+four_again : tie.Need-four-preserved invariant-four decreases-four invariant-loop-i decreases-loop-i
 four_again c =
     let turn = c.before.before.before.before in
     let at_four = turn.before.four in
     (at_four.invariant.0, four_more _ _ _ at_four.invariant.1 (omega arith))
 
-loop_again : tie.Need-loop-preserved invariant-four decreases-four invariant-loop decreases-loop
+loop_again : tie.Need-loop-i-preserved invariant-four decreases-four invariant-loop-i decreases-loop-i
 loop_again c =
-    let at_loop = c.before.before.loop in
+    let at_loop = c.before.before.loop-i in
     (at_loop.invariant.0, one_more _ _ _ _ _ at_loop.invariant.1 (omega arith) refl refl)
 
 pub copy_columns_spec : {M : Type 1} → statement M
 copy_columns_spec =
     tie.close
-    (tie.spec invariant-four decreases-four invariant-loop decreases-loop ▹ (λ c. (sym c.requires, none _ _ c.requires)) ▹₉ omega arith
+    (tie.spec invariant-four decreases-four invariant-loop-i decreases-loop-i ▹ (λ c. (sym c.requires, none _ _ c.requires)) ▹₉ omega arith
     ▹ (λ c. simp length-set (omega arith)) ▹ (λ c. simp length-set (omega arith))
     ▹ (λ c. simp length-set (omega arith)) ▹₂ omega arith ▹ four_again ▹ (λ c. c.before.four.invariant) ▹₄ omega arith
-    ▹ loop_again ▹ (λ c. c.before.loop.invariant.1.all ∙ sym c.before.loop.invariant.0)
-    ▹ (λ c. done _ _ _ c.before.loop.invariant.1 (omega arith)))
+    ▹ loop_again ▹ (λ c. c.before.loop-i.invariant.1.all ∙ sym c.before.loop-i.invariant.0)
+    ▹ (λ c. done _ _ _ c.before.loop-i.invariant.1 (omega arith)))

@@ -40,34 +40,34 @@ none_read s = record { within = omega arith; small = omega arith; is = refl }
 all_read : (s : List ℕ) (x i : ℕ) → Spelled s x i → length s ≤ i → x ≡ value 0 s
 all_read s x i o h = sym (o.is ∙ rw (drop_of_length-le s h))
 
-abbrev invariant-loop : tie.invariant-loop
-invariant-loop part x₀ i₀ x i = Spelled part x i
+abbrev invariant-loop-i : tie.invariant-loop-i
+invariant-loop-i part x₀ i₀ x i = Spelled part x i
 
-abbrev decreases-loop : tie.decreases-loop
-decreases-loop part x₀ i₀ x i = length part - i
+abbrev decreases-loop-i : tie.decreases-loop-i
+decreases-loop-i part x₀ i₀ x i = length part - i
 
-abbrev start : tie.In-loop invariant-loop decreases-loop → tie.Start invariant-loop decreases-loop
+abbrev start : tie.In-loop-i invariant-loop-i decreases-loop-i → tie.Start invariant-loop-i decreases-loop-i
 start c = c.before.before.before
 
-fit : (c : tie.In-loop invariant-loop decreases-loop) →
-    c.before.loop.x * 10 + get_or (start c).args.part.now c.before.loop.i 0 % 16 < 2 * 10 ^ 10
-fit c = fits _ _ _ c.before.loop.invariant c.loop-test.true (start c).requires.0
+fit : (c : tie.In-loop-i invariant-loop-i decreases-loop-i) →
+    c.before.loop-i.x * 10 + get_or (start c).args.part.now c.before.loop-i.i 0 % 16 < 2 * 10 ^ 10
+fit c = fits _ _ _ c.before.loop-i.invariant c.loop-i-test.true (start c).requires.0
 
 -- the power of ten that the number is multiplied by
-ten : (c : tie.After-ten-to invariant-loop decreases-loop) → c.ten-to.result ≡ 10
-ten c = c.ten-to.ensures
+ten : (c : tie.After-ten_to invariant-loop-i decreases-loop-i) → c.ten_to.result ≡ 10
+ten c = c.ten_to.ensures
 
-loop_again : tie.Need-loop-preserved invariant-loop decreases-loop
+loop_again : tie.Need-loop-i-preserved invariant-loop-i decreases-loop-i
 loop_again c =
     let t = c.before.before in
     let s = start t in
     rw (ten c.before)
-    (next _ _ _ t.before.loop.invariant t.loop-test.true
-    (column_worth s.args.part.now t.before.loop.i s.pre.1 t.loop-test.true))
+    (next _ _ _ t.before.loop-i.invariant t.loop-i-test.true
+    (column_worth s.args.part.now t.before.loop-i.i s.requires.1 t.loop-i-test.true))
 
 pub lenient_number_spec : {M : Type 1} → statement M
 lenient_number_spec =
     tie.close
-    (tie.spec invariant-loop decreases-loop (λ c. none_read _) (λ c κs. lit< tt) (λ c. rw (ten c) (omega (arith, fit c.before)))
+    (tie.spec invariant-loop-i decreases-loop-i (λ c. none_read _) (λ c κs. lit< tt) (λ c. rw (ten c) (omega (arith, fit c.before)))
     (λ c. omega arith) (λ c. omega arith) (λ c. rw (ten c.before) (omega (arith, fit c.before.before))) (λ c. omega arith)
-    (λ c. omega arith) loop_again (λ c. all_read _ _ _ c.before.loop.invariant c.loop-test.false))
+    (λ c. omega arith) loop_again (λ c. all_read _ _ _ c.before.loop-i.invariant c.loop-i-test.false))

@@ -20,7 +20,7 @@ module _ (d : List ℕ) (a b : ℕ) (h : a ≤ b) (f : b ≤ length d) where
       take a d ++ (last ++ drop (b - a) (drop a d)) ≡ put d a (print (b - a) x)
   back x e = rw (e, wide) (put_part d a (b - a) (print (b - a) x) (length_print (b - a) x))
 
-print_digits_requires : tie.Need-print-digits-requires
+print_digits_requires : tie.Need-print_digits-requires
 print_digits_requires c κs =
     let start = c.before.before in
     lent start.args.part.now start.args.at start.args.end start.requires.0 start.requires.1.0 start.requires.1.1
@@ -29,7 +29,7 @@ returns : tie.Need-returns
 returns c =
     let start = c.before.before.before.before.before in
     back start.args.part.now start.args.at start.args.end start.requires.0 start.requires.1.0 start.args.x
-    c.before.before.print-digits.ensures
+    c.before.before.print_digits.ensures
 
 pub print_at_spec : {M : Type 1} → statement M
 print_at_spec =

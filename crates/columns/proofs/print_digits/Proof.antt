@@ -63,81 +63,81 @@ full : (part : List ℕ) (x n i rest : ℕ) → Written part x n i rest → i �
 unfolding blanks
 full part x n i rest f z = let e : n ≡ f.w = omega (arith, f.whole) in rw (f.is, z, e)
 
-abbrev invariant-loop : tie.invariant-loop
-invariant-loop part₀ x ten hundred i₀ rest₀ part i rest = Open part x (length part₀) i rest
+abbrev invariant-loop-i : tie.invariant-loop-i
+invariant-loop-i part₀ x ten hundred i₀ rest₀ part i rest = Open part x (length part₀) i rest
 
-abbrev decreases-loop : tie.decreases-loop
-decreases-loop part₀ x ten hundred i₀ rest₀ part i rest = i
+abbrev decreases-loop-i : tie.decreases-loop-i
+decreases-loop-i part₀ x ten hundred i₀ rest₀ part i rest = i
 
-abbrev start : tie.At-loop invariant-loop decreases-loop → tie.Start invariant-loop decreases-loop
+abbrev start : tie.At-loop-i invariant-loop-i decreases-loop-i → tie.Start invariant-loop-i decreases-loop-i
 start c = c.before.before.before.before
 
 -- the powers of ten
-ten : (c : tie.At-loop invariant-loop decreases-loop) → c.before.before.ten-to.result ≡ 10
-ten c = c.before.before.ten-to.ensures
+ten : (c : tie.At-loop-i invariant-loop-i decreases-loop-i) → c.before.before.ten_to-ten.result ≡ 10
+ten c = c.before.before.ten_to-ten.ensures
 
-hundred : (c : tie.At-loop invariant-loop decreases-loop) → c.before.ten-to2.result ≡ 10 ^ 2
-hundred c = c.before.ten-to2.ensures
+hundred : (c : tie.At-loop-i invariant-loop-i decreases-loop-i) → c.before.ten_to-hundred.result ≡ 10 ^ 2
+hundred c = c.before.ten_to-hundred.ensures
 
 -- the columns that a turn writes are there
-inside : (c : tie.In-loop invariant-loop decreases-loop) → (c.before.loop.i ≤ length c.before.loop.part) × (c.before.loop.i ≤ length (start c.before).args.part.now)
-inside c = let f = c.before.loop.invariant.so_far in (omega (arith, long _ _ _ _ _ f, f.whole), omega (arith, f.whole))
+inside : (c : tie.In-loop-i invariant-loop-i decreases-loop-i) → (c.before.loop-i.i ≤ length c.before.loop-i.part) × (c.before.loop-i.i ≤ length (start c.before).args.part.now)
+inside c = let f = c.before.loop-i.invariant.so_far in (omega (arith, long _ _ _ _ _ f, f.whole), omega (arith, f.whole))
 
 -- what each way out has written
-last_digit : (c : tie.Then1 invariant-loop decreases-loop) →
-    Written (set c.before.before.loop.part (c.before.before.loop.i - 1) (48 + c.before.before.loop.rest)) (start c.before.before).args.x
-    (length (start c.before.before).args.part.now) (c.before.before.loop.i - 1) (c.before.before.loop.rest / 10)
-last_digit c = digit _ _ _ _ _ _ _ _ c.before.before.loop.invariant (omega arith) (omega (arith, ten c.before.before)) refl refl
+last_digit : (c : tie.Then-rest-ten invariant-loop-i decreases-loop-i) →
+    Written (set c.before.before.loop-i.part (c.before.before.loop-i.i - 1) (48 + c.before.before.loop-i.rest)) (start c.before.before).args.x
+    (length (start c.before.before).args.part.now) (c.before.before.loop-i.i - 1) (c.before.before.loop-i.rest / 10)
+last_digit c = digit _ _ _ _ _ _ _ _ c.before.before.loop-i.invariant (omega arith) (omega (arith, ten c.before.before)) refl refl
 
-both_digits : (c : tie.Else1 invariant-loop decreases-loop) →
+both_digits : (c : tie.Else-rest-ten invariant-loop-i decreases-loop-i) →
     Written
     (set
-    (set c.before.before.loop.part (c.before.before.loop.i - 1) (48 + c.before.before.loop.rest % 10 ^ 2 % 10))
-    (c.before.before.loop.i - 2)
-    (48 + c.before.before.loop.rest % 10 ^ 2 / 10))
-    (start c.before.before).args.x (length (start c.before.before).args.part.now) (c.before.before.loop.i - 2) (c.before.before.loop.rest / 10 ^ 2)
+    (set c.before.before.loop-i.part (c.before.before.loop-i.i - 1) (48 + c.before.before.loop-i.rest % 10 ^ 2 % 10))
+    (c.before.before.loop-i.i - 2)
+    (48 + c.before.before.loop-i.rest % 10 ^ 2 / 10))
+    (start c.before.before).args.x (length (start c.before.before).args.part.now) (c.before.before.loop-i.i - 2) (c.before.before.loop-i.rest / 10 ^ 2)
 both_digits c =
-    two_digits _ _ _ _ _ c.before.before.loop.invariant c.before.loop-test.true (omega (arith, c.if1.false, ten c.before.before))
+    two_digits _ _ _ _ _ c.before.before.loop-i.invariant c.before.loop-i-test.true (omega (arith, c.if-rest-ten.false, ten c.before.before))
 
-first_column : (c : tie.Then3 invariant-loop decreases-loop) →
-    Written (set c.before.before.loop.part 0 (48 + c.before.before.loop.rest % 10)) (start c.before.before).args.x
-    (length (start c.before.before).args.part.now) 0 (c.before.before.loop.rest / 10)
-first_column c = digit _ _ _ _ _ _ _ _ c.before.before.loop.invariant (omega (arith, c.if3.true)) refl (omega (arith, c.if3.true)) refl
+first_column : (c : tie.Then-i-eq1 invariant-loop-i decreases-loop-i) →
+    Written (set c.before.before.loop-i.part 0 (48 + c.before.before.loop-i.rest % 10)) (start c.before.before).args.x
+    (length (start c.before.before).args.part.now) 0 (c.before.before.loop-i.rest / 10)
+first_column c = digit _ _ _ _ _ _ _ _ c.before.before.loop-i.invariant (omega (arith, c.if-i-eq1.true)) refl (omega (arith, c.if-i-eq1.true)) refl
 
 -- two digits of a turn are bytes
-tens : (c : tie.Else1 invariant-loop decreases-loop) → c.before.before.loop.rest % c.before.before.before.ten-to2.result / c.before.before.before.before.ten-to.result < 10
+tens : (c : tie.Else-rest-ten invariant-loop-i decreases-loop-i) → c.before.before.loop-i.rest % c.before.before.before.ten_to-hundred.result / c.before.before.before.before.ten_to-ten.result < 10
 tens c = rw (hundred c.before.before, ten c.before.before) (omega arith)
 
-ones : (c : tie.Else1 invariant-loop decreases-loop) → c.before.before.loop.rest % c.before.before.before.ten-to2.result % c.before.before.before.before.ten-to.result < 10
+ones : (c : tie.Else-rest-ten invariant-loop-i decreases-loop-i) → c.before.before.loop-i.rest % c.before.before.before.ten_to-hundred.result % c.before.before.before.before.ten_to-ten.result < 10
 ones c = rw (hundred c.before.before, ten c.before.before) (omega arith)
 
-same_length_2 : tie.Need-same-length-2 invariant-loop decreases-loop
+same_length_2 : tie.Need-shape_of-part-then-rest-eq0 invariant-loop-i decreases-loop-i
 same_length_2 c =
     let loop = c.before.before.before in
     rw (hundred loop, ten loop) (long _ _ _ _ _ (both_digits c.before))
 
-returns_2 : tie.Need-returns-2 invariant-loop decreases-loop
+returns_2 : tie.Need-returns-then-rest-eq0 invariant-loop-i decreases-loop-i
 returns_2 c =
     let loop = c.before.before.before in
     rw (hundred loop, ten loop)
-    (done _ _ _ _ _ (both_digits c.before) (omega (arith, inside c.before.before)) (rw (hundred loop) at c.if2.true))
+    (done _ _ _ _ _ (both_digits c.before) (omega (arith, inside c.before.before)) (rw (hundred loop) at c.if-rest-eq0.true))
 
-loop_again : tie.Need-loop-preserved invariant-loop decreases-loop
+loop_again : tie.Need-loop-i-preserved invariant-loop-i decreases-loop-i
 loop_again c =
     let loop = c.before.before.before in
     rw (hundred loop, ten loop)
-    (record { so_far = both_digits c.before; more = λ h. let some = rw (hundred loop) at c.if2.false in omega (arith, some) })
+    (record { so_far = both_digits c.before; more = λ h. let some = rw (hundred loop) at c.if-rest-eq0.false in omega (arith, some) })
 
-slice_write_part_4 : tie.Need-slice-write-part-4 invariant-loop decreases-loop
-slice_write_part_4 c = let f = c.before.before.loop.invariant.so_far in omega (arith, long _ _ _ _ _ f, f.whole, c.if3.true)
+slice_write_part_4 : tie.Need-bounds-part-0 invariant-loop-i decreases-loop-i
+slice_write_part_4 c = let f = c.before.before.loop-i.invariant.so_far in omega (arith, long _ _ _ _ _ f, f.whole, c.if-i-eq1.true)
 
-returns_4 : tie.Need-returns-4 invariant-loop decreases-loop
-returns_4 c = full _ _ _ _ _ c.before.before.loop.invariant.so_far (omega (arith, c.before.loop-test.false, c.if3.false))
+returns_4 : tie.Need-returns-else-i-eq1 invariant-loop-i decreases-loop-i
+returns_4 c = full _ _ _ _ _ c.before.before.loop-i.invariant.so_far (omega (arith, c.before.loop-i-test.false, c.if-i-eq1.false))
 
 pub print_digits_spec : {M : Type 1} → statement M
 print_digits_spec =
     tie.close
-    (tie.spec invariant-loop decreases-loop ▹ (λ c κs. lit< tt) ▹ (λ c κs. lit< tt) ▹ (λ c. none _ _ _ c.before.before.before.requires)
+    (tie.spec invariant-loop-i decreases-loop-i ▹ (λ c κs. lit< tt) ▹ (λ c κs. lit< tt) ▹ (λ c. none _ _ _ c.before.before.before.requires)
     ▹ (λ c. omega (arith, ten c.before.before)) ▹ (λ c. omega (arith, ten c.before.before)) ▹ omega arith
     ▹ (λ c. omega (arith, inside c.before))
     ▹ (λ c. long _ _ _ _ _ (last_digit c))
@@ -152,4 +152,4 @@ print_digits_spec =
     ▹ (λ c. rw (ten c.before.before) (omega arith)) ▹ slice_write_part_4
     ▹ (λ c. rw (ten c.before.before) (long _ _ _ _ _ (first_column c)))
     ▹ (λ c. rw (ten c.before.before) (full _ _ _ _ _ (first_column c) refl))
-    ▹ (λ c. long _ _ _ _ _ c.before.before.loop.invariant.so_far) ▹ returns_4)
+    ▹ (λ c. long _ _ _ _ _ c.before.before.loop-i.invariant.so_far) ▹ returns_4)

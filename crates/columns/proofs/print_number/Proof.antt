@@ -5,16 +5,16 @@ use Rattle.columns.specs.PrintedNumbers.{print, blanks}
 use Rattle.columns.proofs.print_number.Statement.{statement}
 use Rattle.columns.proofs.print_number.Tie as tie
 
-print_digits_requires : tie.Need-print-digits-requires
+print_digits_requires : tie.Need-print_digits-requires
 print_digits_requires c κs =
-    let blank = c.before.before.before.print-blanks in
-    blank.ensures ∙ ap blanks (sym blank.auto.0)
+    let blank = c.before.before.before.print_blanks in
+    blank.ensures ∙ ap blanks (sym blank.auto.part)
 
 returns : tie.Need-returns
 returns c =
     let digits = c.before.before in
     let blank = digits.before.before.before.before in
-    digits.print-digits.ensures ∙ ap (λ (n : ℕ). print n blank.before.before.before.args.x) blank.print-blanks.auto.0
+    digits.print_digits.ensures ∙ ap (λ (n : ℕ). print n blank.before.before.before.args.x) blank.print_blanks.auto.part
 
 pub print_number_spec : {M : Type 1} → statement M
 print_number_spec = tie.close (tie.spec (search rules) print_digits_requires (search rules) returns)

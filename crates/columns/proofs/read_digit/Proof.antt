@@ -14,11 +14,11 @@ one_digit : (c x : ℕ) → (x + 48) % 2 ^ 8 ≡ c → x ≤ 9 → x ≡ or_misp
 one_digit c x e h =
     rw (read_digits_lem c [] (λ p. absurd (omega arith)) (λ p. absurd (omega arith)), digit_near c x e h) (omega arith)
 
-returns : tie.Need-returns
-returns c = let x = c.before.wrapping-sub-u8 in no_digit _ _ x.ensures x.type-inv c.if1.true
+returns : tie.Need-returns-then-x-gt9
+returns c = let x = c.before.wrapping_sub_u8-x in no_digit _ _ x.ensures x.type_inv c.if-x-gt9.true
 
-returns_2 : tie.Need-returns-2
-returns_2 c = one_digit _ _ c.before.wrapping-sub-u8.ensures c.if1.false
+returns_2 : tie.Need-returns
+returns_2 c = one_digit _ _ c.before.wrapping_sub_u8-x.ensures c.if-x-gt9.false
 
 pub read_digit_spec : {M : Type 1} → statement M
 read_digit_spec = tie.close (tie.spec (search rules) returns (search rules) returns_2)

@@ -40,46 +40,46 @@ module _ (d : ℕ) where
       (rw told.0, rw told.0 at (read_digits_lem c s (λ p b. omega (arith, u.used b)) (λ p. told.1)))
 
 -- where the first column was held against 49
-abbrev start : tie.After-wrapping-sub-u8 → tie.Start
+abbrev start : tie.After-wrapping_sub_u8 → tie.Start
 start c = c.before.before.before.before
 
-abbrev bytes : tie.After-wrapping-sub-u8 → List ℕ
+abbrev bytes : tie.After-wrapping_sub_u8 → List ℕ
 bytes c = (start c).args.part.now
 
-long : (c : tie.After-wrapping-sub-u8) → 1 < length (bytes c)
-long c = omega (arith, (start c).requires.some, c.before.before.if1.false)
+long : (c : tie.After-wrapping_sub_u8) → 1 < length (bytes c)
+long c = omega (arith, (start c).requires.some, c.before.before.if-part-eq1.false)
 
-first : (c : tie.Else2)
+first : (c : tie.Else-wrapping_sub_u8-gt8)
     → (every digit (bytes c.before) ≡ every digit (drop 1 (bytes c.before))) ×
     (read_number (bytes c.before) ≡ pick (every digit (drop 1 (bytes c.before))) (some (value 0 (bytes c.before))) none)
 first c =
     let at = c.before in
-    first_digit _ _ (long at) (start at).requires at.wrapping-sub-u8.ensures c.if2.false
+    first_digit _ _ (long at) (start at).requires at.wrapping_sub_u8.ensures c.if-wrapping_sub_u8-gt8.false
 
 -- what is told of the columns behind the first
-behind : (c : tie.After-all-digits) → every digit (drop 1 (bytes c.before.before.before)) ≡ c.all_digits.result
+behind : (c : tie.After-all_digits) → every digit (drop 1 (bytes c.before.before.before)) ≡ c.all_digits.result
 behind c =
     let at = c.before.before.before in
     sym (c.all_digits.ensures ∙ ap (every digit) (to_the_end (bytes at) 1 (omega (arith, long at))))
 
-returns : tie.Need-returns
+returns : tie.Need-returns-then-part-eq1
 returns c =
-    c.read-digit.ensures ∙ ap (λ (s : List ℕ). or_misprint (read_number s)) (alone _ c.before.before.if1.true)
+    c.read_digit.ensures ∙ ap (λ (s : List ℕ). or_misprint (read_number s)) (alone _ c.before.before.if-part-eq1.true)
 
-returns_2 : tie.Need-returns-2
+returns_2 : tie.Need-returns-then-wrapping_sub_u8-gt8
 returns_2 c =
     let at = c.before in
-    let d = at.wrapping-sub-u8 in
-    ap or_misprint (sym (no_first _ _ (long at) (start at).requires d.ensures d.type-inv c.if2.true))
+    let d = at.wrapping_sub_u8 in
+    ap or_misprint (sym (no_first _ _ (long at) (start at).requires d.ensures d.type_inv c.if-wrapping_sub_u8-gt8.true))
 
-returns_3 : tie.Need-returns-3
+returns_3 : tie.Need-returns-then-not-all_digits
 returns_3 c =
     let no : every digit (drop 1 (bytes c.before.before.before.before)) ≡ false =
-    behind c.before ∙ not-true _ c.if3.true in
+    behind c.before ∙ not-true _ c.if-not-all_digits.true-raw in
     rw ((first c.before.before.before).1, no)
 
-rest : (c : tie.Else3) → every digit (drop 1 (bytes c.before.before.before.before)) ≡ true
-rest c = behind c.before ∙ not-false _ c.if3.false
+rest : (c : tie.Else-not-all_digits) → every digit (drop 1 (bytes c.before.before.before.before)) ≡ true
+rest c = behind c.before ∙ not-false _ c.if-not-all_digits.false-raw
 
 spelled_requires : tie.Need-spelled-requires
 spelled_requires c κs = ((start c.before.before.before.before).requires.most, (first c.before.before.before).0 ∙ rest c)

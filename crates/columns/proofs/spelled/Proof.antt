@@ -61,40 +61,40 @@ none_read s h = record { within = omega arith; small = lit< tt; digits = h; is =
 all_read : (s : List ℕ) (x i : ℕ) → Spelled s x i → length s ≤ i → x ≡ value 0 s
 all_read s x i o h = sym (o.is ∙ rw (drop_of_length-le s h))
 
-abbrev invariant-loop : tie.invariant-loop
-invariant-loop part x₀ i₀ x i = Spelled part x i
+abbrev invariant-loop-i : tie.invariant-loop-i
+invariant-loop-i part x₀ i₀ x i = Spelled part x i
 
-abbrev decreases-loop : tie.decreases-loop
-decreases-loop part x₀ i₀ x i = length part - i
+abbrev decreases-loop-i : tie.decreases-loop-i
+decreases-loop-i part x₀ i₀ x i = length part - i
 
-abbrev start : tie.In-loop invariant-loop decreases-loop → tie.Start invariant-loop decreases-loop
+abbrev start : tie.In-loop-i invariant-loop-i decreases-loop-i → tie.Start invariant-loop-i decreases-loop-i
 start c = c.before.before.before
 
 -- the next column, and what it makes of the number
-digit_at : (c : tie.In-loop invariant-loop decreases-loop) → Digit (get_or (start c).args.part.now c.before.loop.i 0)
-digit_at c = next_digit _ _ _ c.before.loop.invariant c.loop-test.true
+digit_at : (c : tie.In-loop-i invariant-loop-i decreases-loop-i) → Digit (get_or (start c).args.part.now c.before.loop-i.i 0)
+digit_at c = next_digit _ _ _ c.before.loop-i.invariant c.loop-i-test.true
 
-fit : (c : tie.In-loop invariant-loop decreases-loop) →
-    c.before.loop.x * 10 + get_or (start c).args.part.now c.before.loop.i 0 - 48 < 10 ^ 10
-fit c = fits _ _ _ c.before.loop.invariant c.loop-test.true (start c).requires.0
+fit : (c : tie.In-loop-i invariant-loop-i decreases-loop-i) →
+    c.before.loop-i.x * 10 + get_or (start c).args.part.now c.before.loop-i.i 0 - 48 < 10 ^ 10
+fit c = fits _ _ _ c.before.loop-i.invariant c.loop-i-test.true (start c).requires.0
 
 -- the power of ten that the number is multiplied by
-ten : (c : tie.After-ten-to invariant-loop decreases-loop) → c.ten-to.result ≡ 10
-ten c = c.ten-to.ensures
+ten : (c : tie.After-ten_to invariant-loop-i decreases-loop-i) → c.ten_to.result ≡ 10
+ten c = c.ten_to.ensures
 
-add_x : tie.Need-overflow-add-x invariant-loop decreases-loop
+add_x : tie.Need-overflow_add-x invariant-loop-i decreases-loop-i
 add_x c = rw (ten c.before) (omega (arith, fit c.before.before, (digit_at c.before.before).low))
 
-loop_again : tie.Need-loop-preserved invariant-loop decreases-loop
+loop_again : tie.Need-loop-i-preserved invariant-loop-i decreases-loop-i
 loop_again c =
     let turn = c.before.before in
-    rw (ten c.before) (next _ _ _ turn.before.loop.invariant turn.loop-test.true)
+    rw (ten c.before) (next _ _ _ turn.before.loop-i.invariant turn.loop-i-test.true)
 
 pub spelled_spec : {M : Type 1} → statement M
 spelled_spec =
     tie.close
-    (tie.spec invariant-loop decreases-loop ▹ (λ c. none_read _ c.before.requires.1) ▹ (λ c κs. lit< tt)
+    (tie.spec invariant-loop-i decreases-loop-i ▹ (λ c. none_read _ c.before.requires.1) ▹ (λ c κs. lit< tt)
     ▹ (λ c. rw (ten c) (omega (arith, fit c.before, (digit_at c.before).low))) ▹ omega arith
     ▹ (λ c. omega (arith, (digit_at c.before.before).high)) ▹ add_x
     ▹ (λ c. omega (arith, (digit_at c.before.before).low)) ▹₂ omega arith ▹ loop_again
-    ▹ (λ c. all_read _ _ _ c.before.loop.invariant c.loop-test.false))
+    ▹ (λ c. all_read _ _ _ c.before.loop-i.invariant c.loop-i-test.false))

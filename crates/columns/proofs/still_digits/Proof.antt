@@ -10,10 +10,10 @@ use Rattle.columns.proofs.still_digits.Tie as tie
 returns : tie.Need-returns
 unfolding column_digits leading
 returns c =
-    let d = c.wrapping-sub-u8 in
+    let d = c.wrapping_sub_u8-digit in
     let args = c.before.args in
     rw (
-      digit_test _ _ d.ensures d.type-inv,
+      digit_test _ _ d.ensures d.type_inv,
       and_assoc (eqb args.c 32) (eqb args.before 32 || eqb args.place 1) (not (eqb args.place 2)),
     )
 

@@ -28,10 +28,10 @@ put_together d nought blank false more = rw (and_false nought, and_false blank, 
 returns : tie.Need-returns
 unfolding column_printed leading
 returns c =
-    let d = c.wrapping-sub-u8 in
+    let d = c.wrapping_sub_u8-digit in
     let args = c.before.args in
     rw (
-      digit_test _ _ d.ensures d.type-inv,
+      digit_test _ _ d.ensures d.type_inv,
       put_together (digit args.c) (eqb args.c 48) (eqb args.c 32) (eqb args.before 32 || eqb args.place 1) (not (eqb args.place 2)),
     )
 

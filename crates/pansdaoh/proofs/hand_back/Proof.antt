@@ -6,15 +6,15 @@ use Rattle.pansdaoh.specs.Calls.{state_after}
 use Rattle.pansdaoh.proofs.hand_back.Statement.{statement}
 use Rattle.pansdaoh.proofs.hand_back.Tie as tie
 
-returns : tie.Need-returns
+returns : tie.Need-returns-then-was_ended
 unfolding state_after
-returns c = (c.step-answer.ensures, rw (sym c.before.before.was-ended.ensures, c.before.if1.true))
+returns c = (c.step_answer.ensures, rw (sym c.before.before.was_ended.ensures, c.before.if-was_ended.true))
 
-returns_2 : tie.Need-returns-2
+returns_2 : tie.Need-returns
 unfolding state_after
 returns_2 c =
     let w = c.before.before.before.before in
-    (c.step-answer2.ensures, rw (sym w.was-ended.ensures, c.before.before.before.if1.false) c.before.saved.ensures)
+    (c.step_answer-2.ensures, rw (sym w.was_ended.ensures, c.before.before.before.if-was_ended.false) c.before.saved.ensures)
 
 pub hand_back_spec : {M : Type 1} → statement M
 hand_back_spec =

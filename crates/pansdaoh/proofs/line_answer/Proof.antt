@@ -5,17 +5,17 @@ use Rattle.pansdaoh.specs.Calls.{line_answer}
 use Rattle.pansdaoh.proofs.line_answer.Statement.{statement}
 use Rattle.pansdaoh.proofs.line_answer.Tie as tie
 
-returns : tie.Need-returns
+returns : tie.Need-returns-in-Line
 unfolding line_answer
-returns c = rw c.before.answer.given.1 refl
+returns c = rw c.before.answer-1.given.1 refl
 
-returns_2 : tie.Need-returns-2
+returns_2 : tie.Need-returns-in-Nothing
 unfolding line_answer
-returns_2 c = rw c.before.enum_told.given.1 c.no_line.ensures
+returns_2 c = rw c.before.enum_told-1.given.1 c.no_line.ensures
 
-returns_3 : tie.Need-returns-3
+returns_3 : tie.Need-returns-in-Misprinted
 unfolding line_answer
-returns_3 c = rw c.before.enum-told2.given.1 c.no-line2.ensures
+returns_3 c = rw c.before.enum_told-in-Misprinted-1.given.1 c.no_line-in-Misprinted.ensures
 
 pub line_answer_spec : {M : Type 1} → statement M
 line_answer_spec =

@@ -5,13 +5,13 @@ use Rattle.pansdaoh.specs.Calls.{mean_of, mean_answer}
 use Rattle.pansdaoh.proofs.mean_answer.Statement.{statement}
 use Rattle.pansdaoh.proofs.mean_answer.Tie as tie
 
-returns : tie.Need-returns
+returns : tie.Need-returns-in-Mean
 unfolding mean_answer mean_of
-returns c = rw c.before.averaged.given.1 refl
+returns c = rw c.before.averaged-1.given.1 refl
 
-returns_2 : tie.Need-returns-2
+returns_2 : tie.Need-returns-in-Refused
 unfolding mean_answer mean_of
-returns_2 c = rw c.before.averaged2.given.1 refl
+returns_2 c = rw c.before.averaged-in-Refused-1.given.1 refl
 
 pub mean_answer_spec : {M : Type 1} → statement M
 mean_answer_spec = tie.close (tie.spec (λ c. search rules) (λ c. search rules) returns returns_2)

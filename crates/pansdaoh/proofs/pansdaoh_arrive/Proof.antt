@@ -8,8 +8,8 @@ use Rattle.pansdaoh.proofs.pansdaoh_arrive.Tie as tie
 returns : tie.Need-returns
 unfolding change_answer
 returns c =
-    let told = c.before.before.before.before.before.arrive.ensures in
-    (c.change-answer.ensures ∙ ap change_of told.0, told.1, told.2)
+    let told = c.before.before.before.before.before.arrive-changed.ensures in
+    (c.change_answer.ensures ∙ ap change_of told.0, told.1, told.2)
 
 pub pansdaoh_arrive_spec : {M : Type 1} → statement M
 pansdaoh_arrive_spec =

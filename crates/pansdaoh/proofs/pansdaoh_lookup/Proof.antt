@@ -13,7 +13,7 @@ returns c =
     let l = c.before.before.before in
     let a = l.before.before.before.before.args in
     let answer = (lookup a.image.now a.tag a.tune_in (length a.out.now)).answer in (
-      c.looked-answer.ensures ∙ ap looked_answer (looked_told l.lookup.result answer l.lookup.ensures.0),
+      c.looked_answer.ensures ∙ ap looked_answer (looked_told l.lookup.result answer l.lookup.ensures.0),
       l.lookup.ensures.1,
     )
 

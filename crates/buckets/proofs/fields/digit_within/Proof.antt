@@ -21,19 +21,19 @@ second_alone (a ∷ []) h b = absurd (omega arith)
 second_alone (a ∷ c ∷ []) h b = rw b (sym (read_blank (c ∷ []) (omega arith)))
 second_alone (a ∷ c ∷ d ∷ s) h b = absurd (omega arith)
 
-returns : tie.Need-returns
+returns : tie.Need-returns-then-part-ne-BLANK
 returns c =
     let start = c.before.before.before in
-    ap as_number (sym (first_used _ _ 0 _ start.requires.0 (omega (arith, start.requires.1)) c.if1.true))
+    ap as_number (sym (first_used _ _ 0 _ start.requires.0 (omega (arith, start.requires.1)) c.if-part-ne-BLANK.true))
 
-returns_2 : tie.Need-returns-2
+returns_2 : tie.Need-returns
 returns_2 c =
     let read = c.before in
     let blank = read.before.before in
     let start = blank.before.before.before in
     let s = start.args.part.now in
     c.within.ensures s (omega (arith, start.requires.0))
-    (read.read-digit.ensures ∙ ap or_misprint (second_alone s start.requires.0 blank.if1.false))
+    (read.read_digit.ensures ∙ ap or_misprint (second_alone s start.requires.0 blank.if-part-ne-BLANK.false))
 
 pub digit_within_spec : {M : Type 1} → statement M
 digit_within_spec =

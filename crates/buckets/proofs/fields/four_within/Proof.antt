@@ -8,4 +8,4 @@ pub four_within_spec : {M : Type 1} → statement M
 four_within_spec =
     tie.close
     (tie.spec (search rules) (λ c κs. tt)
-    (λ c. c.within.ensures _ (omega (arith, c.before.before.before.requires)) c.before.read-four.ensures))
+    (λ c. c.within.ensures _ (omega (arith, c.before.before.before.requires)) c.before.read_four.ensures))

@@ -8,4 +8,4 @@ pub six_within_spec : {M : Type 1} → statement M
 six_within_spec =
     tie.close
     (tie.spec (search rules) (λ c κs. tt)
-    (λ c. c.within.ensures _ (omega (arith, c.before.before.before.requires)) c.before.read-six.ensures))
+    (λ c. c.within.ensures _ (omega (arith, c.before.before.before.requires)) c.before.read_six.ensures))

@@ -8,19 +8,19 @@ use Rattle.buckets.proofs.Bounds.{misprinted, too_low, too_high, within}
 use Rattle.buckets.proofs.fields.within.Statement.{statement}
 use Rattle.buckets.proofs.fields.within.Tie as tie
 
-returns : tie.Need-returns
-returns c s h e = ap as_number (sym (misprinted _ _ s (misprint_none s (omega arith) e c.if1.true)))
+returns : tie.Need-returns-then-x-eq-MISPRINT
+returns c s h e = ap as_number (sym (misprinted _ _ s (misprint_none s (omega arith) e c.if-x-eq-MISPRINT.true)))
 
-returns_2 : tie.Need-returns-2
-returns_2 c s h e = ap as_number (sym (too_low _ _ s _ (found_some s e c.before.if1.false) c.if2.true))
+returns_2 : tie.Need-returns-then-x-low
+returns_2 c s h e = ap as_number (sym (too_low _ _ s _ (found_some s e c.before.if-x-eq-MISPRINT.false) c.if-x-low.true))
 
-returns_3 : tie.Need-returns-3
+returns_3 : tie.Need-returns-then-high-x
 returns_3 c s h e =
-    ap as_number (sym (too_high _ _ s _ (found_some s e c.before.before.if1.false) c.before.if2.false c.if3.true))
+    ap as_number (sym (too_high _ _ s _ (found_some s e c.before.before.if-x-eq-MISPRINT.false) c.before.if-x-low.false c.if-high-x.true))
 
-returns_4 : tie.Need-returns-4
+returns_4 : tie.Need-returns
 returns_4 c s h e =
-    ap as_number (sym (within _ _ s _ (found_some s e c.before.before.if1.false) c.before.if2.false c.if3.false))
+    ap as_number (sym (within _ _ s _ (found_some s e c.before.before.if-x-eq-MISPRINT.false) c.before.if-x-low.false c.if-high-x.false))
 
 pub within_spec : {M : Type 1} → statement M
 within_spec = tie.close (tie.spec returns returns_2 returns_3 returns_4)

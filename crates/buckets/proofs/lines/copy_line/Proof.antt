@@ -10,10 +10,10 @@ returns : tie.Need-returns
 returns c =
     let s = c.before.before.before.before.before.before.before in
     copied_line s.args.out.now s.args.text.now s.args.from s.args.to
-    c.before.before.copy-columns.new.0
+    c.before.before.copy_columns.new.0
     s.requires.1
     s.requires.0
-    c.before.before.copy-columns.ensures
+    c.before.before.copy_columns.ensures
 
 pub copy_line_spec : {M : Type 1} → statement M
 copy_line_spec =

@@ -12,40 +12,40 @@ use Rattle.buckets.proofs.CopiedLines.{none_copied, copied_more}
 use Rattle.buckets.proofs.lines.copy_lines.Statement.{statement}
 use Rattle.buckets.proofs.lines.copy_lines.Tie as tie
 
-abbrev invariant-loop : tie.invariant-loop
-invariant-loop out₀ to text from count i₀ out i =
+abbrev invariant-loop-i : tie.invariant-loop-i
+invariant-loop-i out₀ to text from count i₀ out i =
     (i ≤ count) × (length out ≡ length out₀) × (out ≡ put out₀ to (ended_lines i (drop from text)))
 
-abbrev decreases-loop : tie.decreases-loop
-decreases-loop out₀ to text from count i₀ out i = count - i
+abbrev decreases-loop-i : tie.decreases-loop-i
+decreases-loop-i out₀ to text from count i₀ out i = count - i
 
-loop_holds : tie.Need-loop-init invariant-loop decreases-loop
+loop_holds : tie.Need-loop-i-init invariant-loop-i decreases-loop-i
 loop_holds c =
     let s = c.before.before in
     (omega arith, refl, sym (none_copied s.args.out.now s.args.text.now s.args.from s.args.to))
 
-loop_again : tie.Need-loop-preserved invariant-loop decreases-loop
+loop_again : tie.Need-loop-i-preserved invariant-loop-i decreases-loop-i
 loop_again c =
     let s = c.before.before.before.before.before.before.before.before in
-    let i = c.before.before.before.before.before.loop.i in (
+    let i = c.before.before.before.before.before.loop-i.i in (
       omega arith,
-      c.before.before.Copy-Line.auto.0 ∙ c.before.before.before.before.before.loop.invariant.1,
+      c.before.before.Copy-Line.auto.0 ∙ c.before.before.before.before.before.loop-i.invariant.1,
       c.before.before.Copy-Line.ensures
           ∙ (ap (λ o. put o (s.args.to + line_length * i) (ended_line (drop (s.args.from + line_columns_width * i) s.args.text.now)))
-          c.before.before.before.before.before.loop.invariant.2
+          c.before.before.before.before.before.loop-i.invariant.2
           ∙ copied_more s.args.out.now s.args.text.now s.args.from s.args.to i (omega arith) (omega arith)),
     )
 
-returns : tie.Need-returns invariant-loop decreases-loop
+returns : tie.Need-returns invariant-loop-i decreases-loop-i
 returns c =
     let s = c.before.before.before.before in
-    let e : c.before.loop.i ≡ s.args.count = omega (arith, c.before.loop.invariant.0) in
-    c.before.loop.invariant.2
+    let e : c.before.loop-i.i ≡ s.args.count = omega (arith, c.before.loop-i.invariant.0) in
+    c.before.loop-i.invariant.2
     ∙ ap (λ n. put s.args.out.now s.args.to (ended_lines n (drop s.args.from s.args.text.now))) e
 
 pub copy_lines_spec : {M : Type 1} → statement M
 copy_lines_spec =
     tie.close
-    (tie.spec invariant-loop decreases-loop ▹ loop_holds ▹₄ omega arith
-    ▹ (λ c κs. (omega (arith, c.before.before.loop.invariant.1), omega arith)) ▹₂ omega arith ▹ loop_again
-    ▹ (λ c. c.before.loop.invariant.1) ▹ returns)
+    (tie.spec invariant-loop-i decreases-loop-i ▹ loop_holds ▹₄ omega arith
+    ▹ (λ c κs. (omega (arith, c.before.before.loop-i.invariant.1), omega arith)) ▹₂ omega arith ▹ loop_again
+    ▹ (λ c. c.before.loop-i.invariant.1) ▹ returns)

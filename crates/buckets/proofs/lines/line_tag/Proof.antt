@@ -13,14 +13,14 @@ use Rattle.buckets.proofs.lines.line_tag.Statement.{statement}
 use Rattle.buckets.proofs.lines.line_tag.Tie as tie
 
 -- the tag's columns, once all were looked at
-abbrev entry : tie.After-lenient-number-arg → tie.Start
+abbrev entry : tie.After-lenient_number-arg-1 → tie.Start
 entry c = c.before.before.before.before.before.before.before.before.before.before
 
-tag_ready : (c : tie.After-lenient-number-arg) →
+tag_ready : (c : tie.After-lenient_number-arg-1) →
     (length (take tag_width (entry c).args.part.now) ≤ 10) × (blanks_digits (take tag_width (entry c).args.part.now) ≡ true)
 tag_ready c =
     let tested = c.before.before.before in
-    tag_holds (entry c).args.part.now tested.before.before.before.before.before.if1.false tested.before.has-numbers.ensures tested.if3.false
+    tag_holds (entry c).args.part.now tested.before.before.before.before.before.if-part-ne-LENGTH.false tested.before.has_numbers.ensures tested.if-not-has_numbers.false-raw
 
 pub line_tag_spec : {M : Type 1} → statement M
 line_tag_spec =

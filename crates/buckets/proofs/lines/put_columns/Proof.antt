@@ -60,12 +60,12 @@ four_fields s long is tag tare code weighing =
     (four_joined (blank_zeros (take tag_width s)) (blank_zeros (take tare_width (drop tare_start s))) (blank_zeros (take code_width (drop code_start s))) (blank_zeros (take weighing_width (drop weighing_start s))))
 
 -- a line without leading zeros is copied
-returns : tie.Need-returns
+returns : tie.Need-returns-then-plain
 returns c =
     let copied = c.before.before.before in
-    copied.copy-columns.ensures ∙ sym (copied.before.before.before.before.requires.1.1 c.if1.true)
+    copied.copy_columns.ensures ∙ sym (copied.before.before.before.before.requires.1.1 c.if-plain.true)
 
-returns_2 : tie.Need-returns-2
+returns_2 : tie.Need-returns
 returns_2 c =
     let weighing = c.before.before in
     let code = weighing.before.before.before.before in
@@ -74,11 +74,11 @@ returns_2 c =
     let copied = tag.before.before.before.before.before in
     let s = copied.before.before.before.before in
     four_fields s.args.line.now s.requires.1.0
-    copied.copy-columns.ensures
-    tag.blank-zeros.ensures
-    tare.blank-zeros2.ensures
-    code.blank-zeros3.ensures
-    weighing.blank-zeros4.ensures
+    copied.copy_columns.ensures
+    tag.blank_zeros.ensures
+    tare.blank_zeros-2.ensures
+    code.blank_zeros-3.ensures
+    weighing.blank_zeros-4.ensures
 
 pub put_columns_spec : {M : Type 1} → statement M
 put_columns_spec =

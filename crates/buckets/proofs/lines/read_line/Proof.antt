@@ -34,12 +34,12 @@ module _ (s : List ℕ) {x : ℕ} (read : x ≡ tag_or_misprint (read_line s)) w
     line_is : {l : Line} → l ≡ spelled_line (take line_columns_width s) → Read l ≡ as_line_read (read_line s)
     line_is e = ap Read (e ∙ columns_spelled s long) ∙ ap as_line_read (sym (reads_line s reads))
 
-line_long : (c : tie.Else1) → length c.before.before.before.args.part.now ≡ line_length
-line_long c = long _ c.before.line-tag.ensures c.if1.false
+line_long : (c : tie.Else-line_tag-eq-MISPRINT) → length c.before.before.before.args.part.now ≡ line_length
+line_long c = long _ c.before.line_tag.ensures c.if-line_tag-eq-MISPRINT.false
 
 pub read_line_spec : {M : Type 1} → statement M
 read_line_spec =
     tie.close
     (tie.spec ▹ (λ c κs. tt) ▹ (λ c. search misprinted) ▹₂ search rules ▹ (λ c. omega (arith, line_long c))
     ▹ (λ c κs. length_part c.before.before.before.before.args.part.now 0 line_columns_width (omega (arith, line_long c.before)))
-    ▹ (λ c. let e = c.before.before in line_is _ e.before.line-tag.ensures e.if1.false c.spelled_line_lem.ensures))
+    ▹ (λ c. let e = c.before.before in line_is _ e.before.line_tag.ensures e.if-line_tag-eq-MISPRINT.false c.spelled_line_lem.ensures))

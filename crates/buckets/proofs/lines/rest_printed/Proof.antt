@@ -14,29 +14,29 @@ use Rattle.buckets.specs.Lengths.{rest_width}
 use Rattle.buckets.proofs.lines.rest_printed.Statement.{statement}
 use Rattle.buckets.proofs.lines.rest_printed.Tie as tie
 
-abbrev invariant-loop : tie.invariant-loop
-invariant-loop part places still₀ before₀ i₀ still before i =
+abbrev invariant-loop-i : tie.invariant-loop-i
+invariant-loop-i part places still₀ before₀ i₀ still before i =
     (i ≤ rest_width) × (columns_by column_printed rest_places 32 part ≡ (still && columns_by column_printed (drop i rest_places) before (drop i part)))
 
-abbrev decreases-loop : tie.decreases-loop
-decreases-loop part places still₀ before₀ i₀ still before i = rest_width - i
+abbrev decreases-loop-i : tie.decreases-loop-i
+decreases-loop-i part places still₀ before₀ i₀ still before i = rest_width - i
 
-loop_again : tie.Need-loop-preserved invariant-loop decreases-loop
+loop_again : tie.Need-loop-i-preserved invariant-loop-i decreases-loop-i
 loop_again c =
     let turn = c.before.before in
     let loop = turn.before in
     let start = loop.before.before in (
       omega arith,
       one_more column_printed rest_places start.args.part.now loop.loop.i loop.loop.before loop.loop.still loop.loop.invariant.1
-          turn.loop-test.true (omega (arith, start.requires)) _ c.still-printed.ensures,
+          turn.loop-i-test.true (omega (arith, start.requires)) _ c.still_printed-still.ensures,
     )
 
-returns : tie.Need-returns invariant-loop decreases-loop
-returns c = all_passed column_printed rest_places _ _ c.before.loop.before c.before.loop.still c.before.loop.invariant.1 c.loop-test.false
+returns : tie.Need-returns invariant-loop-i decreases-loop-i
+returns c = all_passed column_printed rest_places _ _ c.before.loop-i.before c.before.loop-i.still c.before.loop-i.invariant.1 c.loop-i-test.false
 
 pub rest_printed_spec : {M : Type 1} → statement M
 rest_printed_spec =
     tie.close
-    (tie.spec invariant-loop decreases-loop ▹ (λ c. (omega arith, refl))
+    (tie.spec invariant-loop-i decreases-loop-i ▹ (λ c. (omega arith, refl))
     ▹ (λ c. omega (arith, c.before.before.before.before.requires)) ▹ search rules ▹ (λ c κs. tt) ▹₂ omega arith
     ▹ loop_again ▹ returns)

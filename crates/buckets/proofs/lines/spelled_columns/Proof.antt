@@ -17,14 +17,14 @@ use Rattle.buckets.specs.Lengths.{tag_width}
 use Rattle.buckets.proofs.lines.spelled_columns.Statement.{statement}
 use Rattle.buckets.proofs.lines.spelled_columns.Tie as tie
 
-abbrev invariant-loop : tie.invariant-loop
-invariant-loop text at width x₀ i₀ x i =
+abbrev invariant-loop-i : tie.invariant-loop-i
+invariant-loop-i text at width x₀ i₀ x i =
     (i ≤ width)
     × (x + 23 ≤ 23 * 10 ^ i)
     × (value 0 (take width (drop at text)) ≡ value x (take (width - i) (drop (at + i) text)))
 
-abbrev decreases-loop : tie.decreases-loop
-decreases-loop text at width x₀ i₀ x i = width - i
+abbrev decreases-loop-i : tie.decreases-loop-i
+decreases-loop-i text at width x₀ i₀ x i = width - i
 
 -- one column more: x' is x with column i behind it
 column_read :
@@ -42,53 +42,53 @@ column_small c i x x' h e b = rw (add-one i, pow-succ' 10 i) (omega arith)
 small : (i x : ℕ) → i ≤ tag_width → x + 23 ≤ 23 * 10 ^ i → x ≤ 23 * 10 ^ tag_width
 small i x h b = let p = pow-le-pow_right {n = 10} (lit< tt) {i = i} {j = tag_width} h in omega arith
 
-loop_holds : tie.Need-loop-init invariant-loop decreases-loop
+loop_holds : tie.Need-loop-i-init invariant-loop-i decreases-loop-i
 loop_holds c =
     let whole : c.before.args.width - 0 ≡ c.before.args.width = omega arith in
     (omega arith, omega arith, rw (add-zero, whole))
 
 -- the power of ten that the number is multiplied by
-ten : (c : tie.After-ten-to invariant-loop decreases-loop) → c.ten-to.result ≡ 10
-ten c = c.ten-to.ensures
+ten : (c : tie.After-ten_to-x invariant-loop-i decreases-loop-i) → c.ten_to-x.result ≡ 10
+ten c = c.ten_to-x.ensures
 
-mul_x : tie.Need-overflow-mul-x invariant-loop decreases-loop
+mul_x : tie.Need-overflow_mul-x invariant-loop-i decreases-loop-i
 mul_x c =
-    let l = c.before.before.before.loop in
+    let l = c.before.before.before.loop-i in
     let b = small l.i l.x (omega arith) (omega arith) in
     rw (ten c) (omega arith)
 
-add_x : tie.Need-overflow-add-x invariant-loop decreases-loop
+add_x : tie.Need-overflow_add-x invariant-loop-i decreases-loop-i
 add_x c =
     let read = c.before.before.before in
     let at = read.before.before.before.before.args.at in
-    let l = read.before.before.loop in
+    let l = read.before.before.loop-i in
     let b = small l.i l.x (omega arith) (omega arith) in
-    rw (ten c.before.before) (omega (arith, read.shared-slice-known2.given (at + l.i), c.wide.ensures))
+    rw (ten c.before.before) (omega (arith, read.shared_slice_known-in-loop-i-1.given (at + l.i), c.wide-x.ensures))
 
-loop_again : tie.Need-loop-preserved invariant-loop decreases-loop
+loop_again : tie.Need-loop-i-preserved invariant-loop-i decreases-loop-i
 loop_again c =
     let read = c.before.before in
     let start = read.before.before.before.before in
     let text = start.args.text.now in
     let at = start.args.at in
-    let i = read.before.before.loop.i in
-    let x = read.before.before.loop.x in
-    let inv = read.before.before.loop.invariant in
-    let is : c.if1.x ≡ x * 10 + (get_or text (at + i) 0 - 48) =
-    rw (← ten c.before) (⊎_elim (λ w. omega (arith, w.1.ensures)) (λ w. omega arith) c.if1.branch) in (
+    let i = read.before.before.loop-i.i in
+    let x = read.before.before.loop-i.x in
+    let inv = read.before.before.loop-i.invariant in
+    let is : c.if-c-gt48.x ≡ x * 10 + (get_or text (at + i) 0 - 48) =
+    rw (← ten c.before) (⊎_elim (λ w. omega (arith, w.1.ensures)) (λ w. omega arith) c.if-c-gt48.branch) in (
       omega arith,
-      column_small (get_or text (at + i) 0) i x c.if1.x (omega (arith, read.shared-slice-known2.given (at + i))) is inv.1,
-      inv.2 ∙ column_read text at start.args.width i x c.if1.x (omega arith) (omega arith) is,
+      column_small (get_or text (at + i) 0) i x c.if-c-gt48.x (omega (arith, read.shared_slice_known-in-loop-i-1.given (at + i))) is inv.1,
+      inv.2 ∙ column_read text at start.args.width i x c.if-c-gt48.x (omega arith) (omega arith) is,
     )
 
-returns : tie.Need-returns invariant-loop decreases-loop
+returns : tie.Need-returns invariant-loop-i decreases-loop-i
 returns c =
     let s = c.before.before.before in
-    let left : s.args.width - c.before.loop.i ≡ 0 = omega arith in
-    sym (rw left at c.before.loop.invariant.2)
+    let left : s.args.width - c.before.loop-i.i ≡ 0 = omega arith in
+    sym (rw left at c.before.loop-i.invariant.2)
 
 pub spelled_columns_spec : {M : Type 1} → statement M
 spelled_columns_spec =
     tie.close
-    (tie.spec invariant-loop decreases-loop ▹ loop_holds ▹₂ omega arith ▹ (λ c κs. lit< tt) ▹ mul_x ▹ omega arith ▹ (λ c κs. tt) ▹ add_x ▹₂ omega arith
+    (tie.spec invariant-loop-i decreases-loop-i ▹ loop_holds ▹₂ omega arith ▹ (λ c κs. lit< tt) ▹ mul_x ▹ omega arith ▹ (λ c κs. tt) ▹ add_x ▹₂ omega arith
     ▹ loop_again ▹ returns)

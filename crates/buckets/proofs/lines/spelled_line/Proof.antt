@@ -8,10 +8,10 @@ use Rattle.buckets.proofs.lines.spelled_line.Tie as tie
 returns : tie.Need-returns
 returns c =
     λ i. record {
-      tag = c.before.before.before.spelled-columns.ensures i;
-      tare = c.before.before.spelled-columns2.ensures i;
-      code = c.before.spelled-columns3.ensures i;
-      weighing = c.spelled-columns4.ensures i;
+      tag = c.before.before.before.spelled_columns.ensures i;
+      tare = c.before.before.spelled_columns-2.ensures i;
+      code = c.before.spelled_columns-3.ensures i;
+      weighing = c.spelled_columns-4.ensures i;
     }
 
 pub spelled_line_spec : {M : Type 1} → statement M

@@ -24,7 +24,7 @@ ended d l h e =
 returns : tie.Need-returns
 returns c =
     let start = c.before.before.before.before.before in
-    ended start.args.part.now start.args.l start.requires c.before.before.write-columns.ensures
+    ended start.args.part.now start.args.l start.requires c.before.before.write_columns.ensures
 
 pub write_line_spec : {M : Type 1} → statement M
 write_line_spec =

@@ -39,17 +39,17 @@ next_entry n c s tags distances m i t d so h few read is =
     arrays (filled_more (λ (y : Entry). y.tag) entries_most xs x (ap (λ (r : Entries). r.tags) held) count (omega arith) k)
     (filled_more (λ (y : Entry). y.distance) entries_most xs x (ap (λ (r : Entries). r.distances) held) count (omega arith) k))
 
-abbrev invariant-loop : tie.invariant-loop
-invariant-loop part count n used tags₀ distances₀ last₀ i₀ tags distances last i =
+abbrev invariant-loop-i : tie.invariant-loop-i
+invariant-loop-i part count n used tags₀ distances₀ last₀ i₀ tags distances last i =
     ReadSoFar held_entries (read_entry n) tag_of entry_width count part (arrays tags distances) last i
 
-abbrev decreases-loop : tie.decreases-loop
-decreases-loop part count n used tags₀ distances₀ last₀ i₀ tags distances last i = count - i
+abbrev decreases-loop-i : tie.decreases-loop-i
+decreases-loop-i part count n used tags₀ distances₀ last₀ i₀ tags distances last i = count - i
 
 pub read_entries_spec : {M : Type 1} → statement M
 unfolding read_entries filled
 read_entries_spec =
     tie.close
-    (tie.spec invariant-loop decreases-loop ▹₆ search rules ▹ (λ c. search (not_blank_behind held_entries)) ▹ (λ c. search (nothing_yet held_entries))
+    (tie.spec invariant-loop-i decreases-loop-i ▹₆ search rules ▹ (λ c. search (not_blank_behind held_entries)) ▹ (λ c. search (nothing_yet held_entries))
     ▹₅ omega arith ▹ (λ c κs. simp (length-take, length-drop) (omega arith)) ▹₃ search rules
     ▹ (λ c. search (item_misprinted held_entries, told_none entries)) ▹₆ omega arith ▹ (λ c. search next_entry) ▹ (λ c. search (all_held held_entries)))

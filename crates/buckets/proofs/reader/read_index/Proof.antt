@@ -40,11 +40,11 @@ answer h n k c s t ps es p e is pairs p_held entries e_held =
     is ∙ (λ i. index_reading h (sym pair_count_lem i) (p_held i) (sym entry_count i) (e_held i))
 
 -- where the function starts, from where its numbers were read
-abbrev start : tie.After-known-told2 → tie.Start
+abbrev start : tie.In-Value-digit_within-2 → tie.Start
 start c = c.before.before.before.before.before.before.before.before.before.before.before.before.before.before.before
 
-counts_read : (c : tie.After-known-told2) {z : Reading}
-    → z ≡ as_reading (behind_counts (start c).args.head c.before.before.before.before.before.before.pair_count_lem.given.0.0 c.before.entry_count.given.0.0 (start c).args.part.now)
+counts_read : (c : tie.In-Value-digit_within-2) {z : Reading}
+    → z ≡ as_reading (behind_counts (start c).args.head c.before.before.before.before.before.before.pair_count_lem.given.0.0 c.before.entry_count-1.given.0.0 (start c).args.part.now)
     → z ≡ as_reading (read_index (start c).args.head (start c).args.part.now)
 unfolding read_index columns
 counts_read c is = search (told_on numbers as_reading)

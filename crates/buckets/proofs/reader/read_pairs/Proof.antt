@@ -58,18 +58,18 @@ next_pair n c s blank now_blank tags distances i r so h few e g blank-more =
     ((ap (λ (x : PairRead). set distances i x.distance) told
     ∙ filled_more (λ (y : Pair). y.distance) pairs_most xs p (ap (λ (x : Pairs). x.distances) held) count (omega arith)) k)))
 
-abbrev invariant-loop : tie.invariant-loop
-invariant-loop part count n used blank₀ tags₀ distances₀ i₀ blank tags distances i =
+abbrev invariant-loop-i : tie.invariant-loop-i
+invariant-loop-i part count n used blank₀ tags₀ distances₀ i₀ blank tags distances i =
     ReadSoFar held_pairs (read_pair n) after entry_width count part (arrays blank tags distances) i i
 
-abbrev decreases-loop : tie.decreases-loop
-decreases-loop part count n used blank₀ tags₀ distances₀ i₀ blank tags distances i = count - i
+abbrev decreases-loop-i : tie.decreases-loop-i
+decreases-loop-i part count n used blank₀ tags₀ distances₀ i₀ blank tags distances i = count - i
 
 pub read_pairs_spec : {M : Type 1} → statement M
 unfolding read_pairs filled
 read_pairs_spec =
     tie.close
-    (tie.spec invariant-loop decreases-loop ▹₆ search rules ▹ (λ c. search (not_blank_behind held_pairs)) ▹ (λ c. search (nothing_yet held_pairs))
+    (tie.spec invariant-loop-i decreases-loop-i ▹₆ search rules ▹ (λ c. search (not_blank_behind held_pairs)) ▹ (λ c. search (nothing_yet held_pairs))
     ▹₅ omega arith ▹ (λ c κs. simp (length-take, length-drop) (omega arith)) ▹ search rules
     ▹ (λ c. search (item_misprinted held_pairs, good_none pair_flag)) ▹₆ omega arith
     ▹ (λ c.
@@ -77,9 +77,9 @@ read_pairs_spec =
     let read = passed.before.before in
     let turn = read.before.before in
     let few = turn.before.before.before.before.before.before.requires.1 in
-    next_pair _ _ _ _ _ _ _ _ _ turn.before.loop.invariant turn.loop-test.true few read.read-pair.ensures passed.if2.false
+    next_pair _ _ _ _ _ _ _ _ _ turn.before.loop-i.invariant turn.loop-i-test.true few read.read_pair-pair.ensures passed.if-not-pair.false
     (λ xs p count held told.
     ⊎_elim (λ w. w.1 ∙ told ∙ sym (first_told xs p (count ∙ w.0.taken)))
     (λ w. w.1 ∙ held ∙ sym (later_passed xs p (λ z. w.0.left (sym count ∙ z))))
-    c.if3.branch))
+    c.if-i-eq0.branch))
     ▹ (λ c. search (all_held held_pairs)))

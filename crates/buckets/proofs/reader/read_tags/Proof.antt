@@ -42,17 +42,17 @@ next_line c s tags m i x so h few read other =
 no_line : (m : ℕ) (s : List ℕ) (x : ℕ) → x ≡ tag_or_misprint (read_line_columns m s) → x ≡ 18446744073709551615 → read_line_columns m s ≡ none
 no_line m s x read is = tag_none _ (line_columns_tag_small m s) read is
 
-abbrev invariant-loop : tie.invariant-loop
-invariant-loop part count used tags₀ last₀ i₀ tags last i =
+abbrev invariant-loop-i : tie.invariant-loop-i
+invariant-loop-i part count used tags₀ last₀ i₀ tags last i =
     ReadSoFar held_tags read_line_columns tag_of line_columns_width count part (array tags) last i
 
-abbrev decreases-loop : tie.decreases-loop
-decreases-loop part count used tags₀ last₀ i₀ tags last i = count - i
+abbrev decreases-loop-i : tie.decreases-loop-i
+decreases-loop-i part count used tags₀ last₀ i₀ tags last i = count - i
 
 pub read_tags_spec : {M : Type 1} → statement M
 unfolding read_lines filled
 read_tags_spec =
     tie.close
-    (tie.spec invariant-loop decreases-loop ▹₆ search rules ▹ (λ c. search (not_blank_behind held_tags)) ▹ (λ c. search (nothing_yet held_tags))
+    (tie.spec invariant-loop-i decreases-loop-i ▹₆ search rules ▹ (λ c. search (not_blank_behind held_tags)) ▹ (λ c. search (nothing_yet held_tags))
     ▹₅ omega arith ▹ (λ c κs. simp (length-take, length-drop) (omega arith)) ▹ search rules
     ▹ (λ c. search (item_misprinted held_tags, no_line)) ▹₄ omega arith ▹ (λ c. search next_line) ▹ (λ c. search (all_held held_tags)))

@@ -59,36 +59,36 @@ module _ (d text : List ℕ) (i from : ℕ) (long : length d ≡ bucket_length) 
       p
       ∙ rw (behind_width, e) (put_put d (entry_start i) tag (entry_start i + distance_start) (print place_width x) (omega (arith, tag_wide)) (omega (arith, tag_wide)))
 
-abbrev start : tie.After-put-tag → tie.Start
+abbrev start : tie.After-put_tag → tie.Start
 start c = c.before.before.before.before.before
 
-after_tag : (c : tie.After-put-tag) →
+after_tag : (c : tie.After-put_tag) →
     let a = (start c).args in
     take (entry_start a.i) a.part.now
-    ++ (c.put-tag.new.0 ++ drop (entry_start a.i + distance_start - entry_start a.i) (drop (entry_start a.i) a.part.now))
+    ++ (c.put_tag.new.0 ++ drop (entry_start a.i + distance_start - entry_start a.i) (drop (entry_start a.i) a.part.now))
     ≡ put a.part.now (entry_start a.i) (blank_zeros (take tag_width (drop a.from a.text.now)))
 after_tag c =
     let s = start c in
-    tag_put s.args.part.now s.args.text.now s.args.i s.args.from s.pre.0 s.pre.1.0 s.pre.1.1.0 c.put-tag.ensures
+    tag_put s.args.part.now s.args.text.now s.args.i s.args.from s.requires.0 s.requires.1.0 s.requires.1.1.0 c.put_tag.ensures
 
-put_tag_requires : tie.Need-put-tag-requires
+put_tag_requires : tie.Need-put_tag-requires
 put_tag_requires c κs =
     let s = c.before.before.before.before in
     tag_ready s.args.part.now s.args.text.now s.args.i s.args.from s.requires.0 s.requires.1.0 s.requires.1.1.0 s.requires.1.1.1.1
 
-print_at_requires : tie.Need-print-at-requires
+print_at_requires : tie.Need-print_at-requires
 print_at_requires c κs =
     let t = c.before.before.before in
     let s = start t in
-    distance_ready s.args.part.now s.args.text.now s.args.i s.args.from s.pre.0 s.pre.1.0 s.pre.1.1.0 s.pre.1.1.1.0 (after_tag t)
+    distance_ready s.args.part.now s.args.text.now s.args.i s.args.from s.requires.0 s.requires.1.0 s.requires.1.1.0 s.requires.1.1.1.0 (after_tag t)
 
 returns : tie.Need-returns
 returns c =
     let p = c.before.before in
     let t = p.before.before.before.before in
     let s = start t in
-    distance_put s.args.part.now s.args.text.now s.args.i s.args.from s.pre.0 s.pre.1.0 s.pre.1.1.0 s.args.distance (after_tag t)
-    p.print-at.ensures
+    distance_put s.args.part.now s.args.text.now s.args.i s.args.from s.requires.0 s.requires.1.0 s.requires.1.1.0 s.args.distance (after_tag t)
+    p.print_at.ensures
 
 pub put_entry_spec : {M : Type 1} → statement M
 put_entry_spec =

@@ -7,11 +7,11 @@ use Rattle.buckets.proofs.writer.put_tag.Statement.{statement}
 use Rattle.buckets.proofs.writer.put_tag.Tie as tie
 
 -- a tag without leading zeros is copied
-returns : tie.Need-returns
+returns : tie.Need-returns-then-plain
 returns c =
     let copied = c.before.before in
     let plain = copied.before.before in
-    copied.copy-columns.ensures ∙ sym (plain.before.before.before.requires.1.1 plain.if1.true)
+    copied.copy_columns.ensures ∙ sym (plain.before.before.before.requires.1.1 plain.if-plain.true)
 
 pub put_tag_spec : {M : Type 1} → statement M
 put_tag_spec =

@@ -24,13 +24,13 @@ use Rattle.buckets.proofs.writer.start_index.Statement.{statement}
 use Rattle.buckets.proofs.writer.start_index.Tie as tie
 
 -- the entry, seen from each place
-abbrev start0 : tie.After-print-blanks → tie.Start
+abbrev start0 : tie.After-print_blanks → tie.Start
 start0 c = c.before.before.before.before.before
 
-abbrev blank1 : tie.After-write-head → tie.After-print-blanks
+abbrev blank1 : tie.After-write_head → tie.After-print_blanks
 blank1 c = c.before.before.before.before
 
-abbrev head2 : tie.After-write-pairs → tie.After-write-head
+abbrev head2 : tie.After-write_pairs → tie.After-write_head
 head2 c = c.before.before.before.before
 
 abbrev held : tie.Start → List Pair
@@ -44,14 +44,14 @@ abbrev front2 : tie.Start → List ℕ
 front2 s = front1 s ++ pair_columns (held s)
 
 -- the columns themselves
-abbrev columns0 : tie.After-print-blanks → List ℕ
-columns0 c = c.print-blanks.new.0 ++ drop bucket_length (start0 c).args.part.now
+abbrev columns0 : tie.After-print_blanks → List ℕ
+columns0 c = c.print_blanks.new.0 ++ drop bucket_length (start0 c).args.part.now
 
-abbrev columns1 : tie.After-write-head → List ℕ
-columns1 c = c.write-head.new.0 ++ drop pairs_start (columns0 (blank1 c))
+abbrev columns1 : tie.After-write_head → List ℕ
+columns1 c = c.write_head.new.0 ++ drop pairs_start (columns0 (blank1 c))
 
-abbrev columns2 : tie.After-write-pairs → List ℕ
-columns2 c = take pairs_start (columns1 (head2 c)) ++ (c.write-pairs.new.0 ++ drop pairs_width (drop pairs_start (columns1 (head2 c))))
+abbrev columns2 : tie.After-write_pairs → List ℕ
+columns2 c = take pairs_start (columns1 (head2 c)) ++ (c.write_pairs.new.0 ++ drop pairs_width (drop pairs_start (columns1 (head2 c))))
 
 all_blank_lem : (d last : List ℕ) → length d ≡ bucket_length → last ≡ blanks (length (take bucket_length d)) → last ++ drop bucket_length d ≡ padded bucket_length []
 all_blank_lem d last h e =
@@ -59,39 +59,39 @@ all_blank_lem d last h e =
     let all : length (take bucket_length d) ≡ bucket_length = length_part d 0 bucket_length (omega arith) in
     rw (none, e, all) (append-nil (blanks bucket_length) ∙ sym (padded_nil bucket_length))
 
-blanked : (c : tie.After-print-blanks) → columns0 c ≡ padded bucket_length []
-blanked c = all_blank_lem (start0 c).args.part.now c.print-blanks.new.0 (start0 c).requires.0 c.print-blanks.ensures
+blanked : (c : tie.After-print_blanks) → columns0 c ≡ padded bucket_length []
+blanked c = all_blank_lem (start0 c).args.part.now c.print_blanks.new.0 (start0 c).requires.0 c.print_blanks.ensures
 
-filled1 : (c : tie.After-write-head) → columns1 c ≡ padded bucket_length (front1 (start0 (blank1 c)))
-filled1 c = back_padded bucket_length position_start head_width [] (blanked (blank1 c)) refl (lit≤ tt) (front1 (start0 (blank1 c))) c.write-head.ensures refl
+filled1 : (c : tie.After-write_head) → columns1 c ≡ padded bucket_length (front1 (start0 (blank1 c)))
+filled1 c = back_padded bucket_length position_start head_width [] (blanked (blank1 c)) refl (lit≤ tt) (front1 (start0 (blank1 c))) c.write_head.ensures refl
 
 -- the pairs
-abbrev start2 : tie.After-write-pairs → tie.Start
+abbrev start2 : tie.After-write_pairs → tie.Start
 start2 c = start0 (blank1 (head2 c))
 
-blank2 : (c : tie.After-write-head) → take pairs_width (drop pairs_start (columns1 c)) ≡ blanks pairs_width
+blank2 : (c : tie.After-write_head) → take pairs_width (drop pairs_start (columns1 c)) ≡ blanks pairs_width
 blank2 c = lent_blank bucket_length pairs_start pairs_width (front1 (start0 (blank1 c))) (filled1 c) refl (lit≤ tt)
 
-pairs_wide : (c : tie.After-write-pairs) → length (pair_columns (held (start2 c))) ≡ pairs_width
-pairs_wide c = sym (ap length c.write-pairs.ensures) ∙ c.write-pairs.auto.0 ∙ ap length (blank2 (head2 c)) ∙ length_blanks pairs_width
+pairs_wide : (c : tie.After-write_pairs) → length (pair_columns (held (start2 c))) ≡ pairs_width
+pairs_wide c = sym (ap length c.write_pairs.ensures) ∙ c.write_pairs.auto.0 ∙ ap length (blank2 (head2 c)) ∙ length_blanks pairs_width
 
-filled2 : (c : tie.After-write-pairs) → columns2 c ≡ padded bucket_length (front2 (start2 c))
+filled2 : (c : tie.After-write_pairs) → columns2 c ≡ padded bucket_length (front2 (start2 c))
 filled2 c =
-    back_padded bucket_length pairs_start pairs_width (front1 (start2 c)) (filled1 (head2 c)) refl (lit≤ tt) (pair_columns (held (start2 c))) c.write-pairs.ensures (pairs_wide c)
+    back_padded bucket_length pairs_start pairs_width (front1 (start2 c)) (filled1 (head2 c)) refl (lit≤ tt) (pair_columns (held (start2 c))) c.write_pairs.ensures (pairs_wide c)
 
-front_wide : (c : tie.After-write-pairs) → length (front2 (start2 c)) ≡ entries_start
+front_wide : (c : tie.After-write_pairs) → length (front2 (start2 c)) ≡ entries_start
 front_wide c = length-append (front1 (start2 c)) (pair_columns (held (start2 c))) ∙ ap (λ (k : ℕ). head_width + k) (pairs_wide c)
 
-whole : (c : tie.After-write-pairs) → set (columns2 c) bucket_end newline ≡ padded bucket_end (front2 (start2 c)) ++ newline ∷ []
+whole : (c : tie.After-write_pairs) → set (columns2 c) bucket_end newline ≡ padded bucket_end (front2 (start2 c)) ++ newline ∷ []
 whole c = front_started (front2 (start2 c)) (front_wide c) (filled2 c)
 
-write_head_requires : tie.Need-write-head-requires
+write_head_requires : tie.Need-write_head-requires
 write_head_requires c κs = lent_blank bucket_length position_start head_width [] (blanked c.before.before.before) refl (lit≤ tt)
 
-write_pairs_requires : tie.Need-write-pairs-requires
+write_pairs_requires : tie.Need-write_pairs-requires
 write_pairs_requires c κs = let p = c.before.before.before in (blank2 p, (start0 (blank1 p)).requires.1)
 
-same_length : tie.Need-same-length
+same_length : tie.Need-shape_of-part
 same_length c =
     let p = c.before.before in
     let wide : length (padded bucket_end (front2 (start2 p))) ≡ bucket_end = length_padded bucket_end (front2 (start2 p)) (omega (arith, front_wide p)) in
@@ -106,8 +106,8 @@ returns c =
     let s = start2 p in
     whole p
     ∙ ap (λ (t : List ℕ). padded bucket_end t ++ newline ∷ [])
-    (index_front_lem s.args.head s.args.blank s.args.pairs s.args.tags.now s.args.distances.now s.args.count s.pre.1.1.0
-    s.pre.1.1.1)
+    (index_front_lem s.args.head s.args.blank s.args.pairs s.args.tags.now s.args.distances.now s.args.count s.requires.1.1.0
+    s.requires.1.1.1)
 
 pub start_index_spec : {M : Type 1} → statement M
 start_index_spec =

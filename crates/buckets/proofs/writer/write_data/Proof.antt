@@ -20,16 +20,16 @@ use Rattle.buckets.proofs.writer.write_data.Statement.{statement}
 use Rattle.buckets.proofs.writer.write_data.Tie as tie
 
 -- the entry, seen from each place
-abbrev start0 : tie.After-print-blanks → tie.Start
+abbrev start0 : tie.After-print_blanks → tie.Start
 start0 c = c.before.before.before.before
 
-abbrev blank1 : tie.After-write-head → tie.After-print-blanks
+abbrev blank1 : tie.After-write_head → tie.After-print_blanks
 blank1 c = c.before.before.before.before
 
-abbrev head2 : tie.After-write-lines → tie.After-write-head
+abbrev head2 : tie.After-write_lines → tie.After-write_head
 head2 c = c.before.before.before.before
 
-abbrev start2 : tie.After-write-lines → tie.Start
+abbrev start2 : tie.After-write_lines → tie.Start
 start2 c = start0 (blank1 (head2 c))
 
 -- what fills the columns after each part
@@ -43,38 +43,38 @@ abbrev front2 : tie.Start → List ℕ
 front2 s = front1 s ++ lines_columns s
 
 -- the columns themselves
-abbrev columns1 : tie.After-write-head → List ℕ
-columns1 c = c.write-head.new.0 ++ drop lines_start (blank1 c).print-blanks.new.0
+abbrev columns1 : tie.After-write_head → List ℕ
+columns1 c = c.write_head.new.0 ++ drop lines_start (blank1 c).print_blanks.new.0
 
-abbrev columns2 : tie.After-write-lines → List ℕ
-columns2 c = take lines_start (columns1 (head2 c)) ++ (c.write-lines.new.0 ++ drop lines_width (drop lines_start (columns1 (head2 c))))
+abbrev columns2 : tie.After-write_lines → List ℕ
+columns2 c = take lines_start (columns1 (head2 c)) ++ (c.write_lines.new.0 ++ drop lines_width (drop lines_start (columns1 (head2 c))))
 
-blanked : (c : tie.After-print-blanks) → c.print-blanks.new.0 ≡ padded bucket_length []
-blanked c = c.print-blanks.ensures ∙ ap blanks (start0 c).requires.0 ∙ sym (padded_nil bucket_length)
+blanked : (c : tie.After-print_blanks) → c.print_blanks.new.0 ≡ padded bucket_length []
+blanked c = c.print_blanks.ensures ∙ ap blanks (start0 c).requires.0 ∙ sym (padded_nil bucket_length)
 
-filled1 : (c : tie.After-write-head) → columns1 c ≡ padded bucket_length (front1 (start0 (blank1 c)))
-filled1 c = back_padded bucket_length position_start head_width [] (blanked (blank1 c)) refl (lit≤ tt) (front1 (start0 (blank1 c))) c.write-head.ensures refl
+filled1 : (c : tie.After-write_head) → columns1 c ≡ padded bucket_length (front1 (start0 (blank1 c)))
+filled1 c = back_padded bucket_length position_start head_width [] (blanked (blank1 c)) refl (lit≤ tt) (front1 (start0 (blank1 c))) c.write_head.ensures refl
 
-lent2 : (c : tie.After-write-head) → take lines_width (drop lines_start (columns1 c)) ≡ blanks lines_width
+lent2 : (c : tie.After-write_head) → take lines_width (drop lines_start (columns1 c)) ≡ blanks lines_width
 lent2 c = lent_blank bucket_length lines_start lines_width (front1 (start0 (blank1 c))) (filled1 c) refl (lit≤ tt)
 
-lines_wide : (c : tie.After-write-lines) → length (lines_columns (start2 c)) ≡ lines_width
-lines_wide c = sym (ap length c.write-lines.ensures) ∙ c.write-lines.auto.0 ∙ ap length (lent2 (head2 c)) ∙ length_blanks lines_width
+lines_wide : (c : tie.After-write_lines) → length (lines_columns (start2 c)) ≡ lines_width
+lines_wide c = sym (ap length c.write_lines.ensures) ∙ c.write_lines.auto.0 ∙ ap length (lent2 (head2 c)) ∙ length_blanks lines_width
 
-filled2 : (c : tie.After-write-lines) → columns2 c ≡ padded bucket_length (front2 (start2 c))
+filled2 : (c : tie.After-write_lines) → columns2 c ≡ padded bucket_length (front2 (start2 c))
 filled2 c =
-    back_padded bucket_length lines_start lines_width (front1 (start2 c)) (filled1 (head2 c)) refl (lit≤ tt) (lines_columns (start2 c)) c.write-lines.ensures (lines_wide c)
+    back_padded bucket_length lines_start lines_width (front1 (start2 c)) (filled1 (head2 c)) refl (lit≤ tt) (lines_columns (start2 c)) c.write_lines.ensures (lines_wide c)
 
-to_newline : (c : tie.After-write-lines) → length (front2 (start2 c)) ≡ bucket_end
+to_newline : (c : tie.After-write_lines) → length (front2 (start2 c)) ≡ bucket_end
 to_newline c = length-append (front1 (start2 c)) (lines_columns (start2 c)) ∙ ap (λ (k : ℕ). head_width + k) (lines_wide c)
 
-whole : (c : tie.After-write-lines) → set (columns2 c) bucket_end newline ≡ front2 (start2 c) ++ newline ∷ []
+whole : (c : tie.After-write_lines) → set (columns2 c) bucket_end newline ≡ front2 (start2 c) ++ newline ∷ []
 whole c = newline_filled (front2 (start2 c)) (filled2 c) (to_newline c)
 
-write_head_requires : tie.Need-write-head-requires
+write_head_requires : tie.Need-write_head-requires
 write_head_requires c κs = lent_blank bucket_length position_start head_width [] (blanked c.before.before.before) refl (lit≤ tt)
 
-same_length : tie.Need-same-length
+same_length : tie.Need-shape_of-part
 same_length c =
     let p = c.before.before in
     ap length (whole p) ∙ length-append (front2 (start2 p)) (newline ∷ []) ∙ ap (λ (k : ℕ). k + 1) (to_newline p) ∙ sym (start2 p).requires.0

@@ -57,99 +57,99 @@ long n count ts ds part i r o =
     let wide : length (entries_to ts ds i) ≡ i * entry_width = length_entries_to ts ds i (omega (arith, r.tags, o.within)) (omega (arith, r.distances, o.within)) in
     ap length o.is ∙ length_padded n (entries_to ts ds i) (omega (arith, r.columns, o.within))
 
-abbrev invariant-loop : tie.invariant-loop
-invariant-loop part₀ count tags distances i₀ part i = Front (length part₀) count tags distances part i
+abbrev invariant-loop-i : tie.invariant-loop-i
+invariant-loop-i part₀ count tags distances i₀ part i = Front (length part₀) count tags distances part i
 
-abbrev decreases-loop : tie.decreases-loop
-decreases-loop part₀ count tags distances i₀ part i = count - i
+abbrev decreases-loop-i : tie.decreases-loop-i
+decreases-loop-i part₀ count tags distances i₀ part i = count - i
 
-abbrev start : tie.At-loop invariant-loop decreases-loop → tie.Start invariant-loop decreases-loop
+abbrev start : tie.At-loop-i invariant-loop-i decreases-loop-i → tie.Start invariant-loop-i decreases-loop-i
 start c = c.before.before.before.before
 
-room : (s : tie.Start invariant-loop decreases-loop) → Room (length s.args.part.now) s.args.count s.args.tags.now s.args.distances.now
+room : (s : tie.Start invariant-loop-i decreases-loop-i) → Room (length s.args.part.now) s.args.count s.args.tags.now s.args.distances.now
 room s = record { columns = s.requires.1.0; tags = s.requires.1.1.0; distances = s.requires.1.1.1 }
 
 -- a turn's end fits a number
-fits : (c : tie.In-loop invariant-loop decreases-loop) → c.before.loop.i * entry_width + entry_width < 18446744073709551616
-fits c = let s = start c.before in omega (arith, s.good.0.0, s.pre.1.0, c.loop-test.true)
+fits : (c : tie.In-loop-i invariant-loop-i decreases-loop-i) → c.before.loop-i.i * entry_width + entry_width < 18446744073709551616
+fits c = let s = start c.before in omega (arith, s.good.0.0, s.requires.1.0, c.loop-i-test.true)
 
 -- the turn, seen from each place
-abbrev turn1 : tie.After-print-at invariant-loop decreases-loop → tie.In-loop invariant-loop decreases-loop
+abbrev turn1 : tie.After-print_at invariant-loop-i decreases-loop-i → tie.In-loop-i invariant-loop-i decreases-loop-i
 turn1 c = c.before.before.before
 
-abbrev turn2 : tie.After-print-at2 invariant-loop decreases-loop → tie.In-loop invariant-loop decreases-loop
+abbrev turn2 : tie.After-print_at-in-loop-i invariant-loop-i decreases-loop-i → tie.In-loop-i invariant-loop-i decreases-loop-i
 turn2 c = turn1 c.before.before.before.before.before
 
-after_tag : (c : tie.After-print-at invariant-loop decreases-loop) → c.print-at.new.0 ≡
+after_tag : (c : tie.After-print_at invariant-loop-i decreases-loop-i) → c.print_at.new.0 ≡
     padded (length (start (turn1 c).before).args.part.now)
-    (behind_tag (start (turn1 c).before).args.tags.now (start (turn1 c).before).args.distances.now (turn1 c).before.loop.i)
-after_tag c = let t = turn1 c in tag_printed _ _ _ _ _ _ (room (start t.before)) t.before.loop.inv t.loop-test.taken c.print-at.ensures
+    (behind_tag (start (turn1 c).before).args.tags.now (start (turn1 c).before).args.distances.now (turn1 c).before.loop-i.i)
+after_tag c = let t = turn1 c in tag_printed _ _ _ _ _ _ (room (start t.before)) t.before.loop-i.invariant t.loop-i-test.taken c.print_at.ensures
 
-loop_holds : tie.Need-loop-init invariant-loop decreases-loop
+loop_holds : tie.Need-loop-i-init invariant-loop-i decreases-loop-i
 loop_holds c = record { within = omega arith; is = c.before.before.before.requires.0 ∙ sym (padded_nil _) }
 
-mul_at : tie.Need-overflow-mul-at invariant-loop decreases-loop
+mul_at : tie.Need-overflow_mul-at invariant-loop-i decreases-loop-i
 mul_at c = omega (arith, fits c)
 
-add_distance : tie.Need-overflow-add-distance invariant-loop decreases-loop
+add_distance : tie.Need-overflow_add-distance invariant-loop-i decreases-loop-i
 add_distance c = omega (arith, fits c)
 
-mul_print_at : tie.Need-overflow-mul-print-at invariant-loop decreases-loop
+mul_print_at : tie.Need-offset_bounds-tags-i invariant-loop-i decreases-loop-i
 mul_print_at c = omega (arith, fits c.before)
 
-shared_slice_read_print_at : tie.Need-shared-slice-read-print-at invariant-loop decreases-loop
-shared_slice_read_print_at c = let t = c.before.before in omega (arith, t.loop-test.true, (start t.before).pre.1.1.0)
+shared_slice_read_print_at : tie.Need-bounds-tags-i invariant-loop-i decreases-loop-i
+shared_slice_read_print_at c = let t = c.before.before in omega (arith, t.loop-i-test.true, (start t.before).requires.1.1.0)
 
-print_at_requires : tie.Need-print-at-requires invariant-loop decreases-loop
+print_at_requires : tie.Need-print_at-requires invariant-loop-i decreases-loop-i
 print_at_requires c κs =
     let t = c.before.before in
-    tag_ready _ _ _ _ _ _ (room (start t.before)) t.before.loop.invariant t.loop-test.true
+    tag_ready _ _ _ _ _ _ (room (start t.before)) t.before.loop-i.invariant t.loop-i-test.true
 
-add_print_at : tie.Need-overflow-add-print-at invariant-loop decreases-loop
+add_print_at : tie.Need-overflow_add-at invariant-loop-i decreases-loop-i
 add_print_at c = omega (arith, fits (turn1 c.before.before.before))
 
-mul_print_at_2 : tie.Need-overflow-mul-print-at-2 invariant-loop decreases-loop
+mul_print_at_2 : tie.Need-offset_bounds-distances-i invariant-loop-i decreases-loop-i
 mul_print_at_2 c = omega (arith, fits (turn1 c.before.before.before))
 
-shared_slice_read_print_at_2 : tie.Need-shared-slice-read-print-at-2 invariant-loop decreases-loop
+shared_slice_read_print_at_2 : tie.Need-bounds-distances-i invariant-loop-i decreases-loop-i
 shared_slice_read_print_at_2 c =
     let t = turn1 c.before.before.before.before in
-    omega (arith, t.loop-test.taken, (start t.before).pre.1.1.1)
+    omega (arith, t.loop-i-test.taken, (start t.before).requires.1.1.1)
 
-print_at_requires_2 : tie.Need-print-at-requires-2 invariant-loop decreases-loop
+print_at_requires_2 : tie.Need-print_at-requires-in-loop-i invariant-loop-i decreases-loop-i
 print_at_requires_2 c κs =
     let p = c.before.before.before.before in
     let t = turn1 p in
-    distance_ready _ _ _ _ _ _ (room (start t.before)) t.before.loop.inv t.loop-test.taken (after_tag p)
+    distance_ready _ _ _ _ _ _ (room (start t.before)) t.before.loop-i.invariant t.loop-i-test.taken (after_tag p)
 
-add_i : tie.Need-overflow-add-i invariant-loop decreases-loop
+add_i : tie.Need-overflow_add-i invariant-loop-i decreases-loop-i
 add_i c = omega (arith, fits (turn2 c.before.before))
 
-loop_less : tie.Need-loop-smaller invariant-loop decreases-loop
-loop_less c = omega (arith, (turn2 c.before.before).loop-test.taken)
+loop_less : tie.Need-loop-i-smaller invariant-loop-i decreases-loop-i
+loop_less c = omega (arith, (turn2 c.before.before).loop-i-test.taken)
 
-loop_again : tie.Need-loop-preserved invariant-loop decreases-loop
+loop_again : tie.Need-loop-i-preserved invariant-loop-i decreases-loop-i
 loop_again c =
     let p = c.before.before in
     let t = turn2 p in
-    distance_printed _ _ _ _ _ _ (room (start t.before)) t.before.loop.inv t.loop-test.taken
-    (after_tag p.before.before.before.before.before) p.print-at2.ensures
+    distance_printed _ _ _ _ _ _ (room (start t.before)) t.before.loop-i.invariant t.loop-i-test.taken
+    (after_tag p.before.before.before.before.before) p.print_at-in-loop-i.ensures
 
-same_length : tie.Need-same-length invariant-loop decreases-loop
-same_length c = long _ _ _ _ _ _ (room (start c.before)) c.before.loop.invariant
+same_length : tie.Need-shape_of-part invariant-loop-i decreases-loop-i
+same_length c = long _ _ _ _ _ _ (room (start c.before)) c.before.loop-i.invariant
 
-returns : tie.Need-returns invariant-loop decreases-loop
+returns : tie.Need-returns invariant-loop-i decreases-loop-i
 returns c =
-    let o = c.before.loop.invariant in
-    let end : c.before.loop.i ≡ (start c.before).args.count = omega (arith, o.within, c.loop-test.false) in
+    let o = c.before.loop-i.invariant in
+    let end : c.before.loop-i.i ≡ (start c.before).args.count = omega (arith, o.within, c.loop-i-test.false) in
     o.is ∙ rw end
 
 pub write_entries_spec : {M : Type 1} → statement M
 write_entries_spec =
     tie.close
     (tie.spec
-    invariant-loop
-    decreases-loop
+    invariant-loop-i
+    decreases-loop-i
     loop_holds
     mul_at
     add_distance

@@ -14,21 +14,21 @@ use Rattle.buckets.proofs.writer.write_head.Tie as tie
 from_position : (s : tie.Start) → BlankFrom head_width position_start s.args.part.now
 from_position s = all_blank_lem _ _ _ s.requires refl
 
-from_cycle : (c : tie.After-print-at) → BlankFrom head_width to_cycle_start c.print-at.new.0
-from_cycle c = blank_behind _ _ _ _ _ c.print-at.ensures (from_position c.before.before.before) refl refl
+from_cycle : (c : tie.After-print_at) → BlankFrom head_width to_cycle_start c.print_at.new.0
+from_cycle c = blank_behind _ _ _ _ _ c.print_at.ensures (from_position c.before.before.before) refl refl
 
-from_segment : (c : tie.After-print-at2) → BlankFrom head_width to_segment_start c.print-at2.new.0
-from_segment c = blank_behind _ _ _ _ _ c.print-at2.ensures (from_cycle c.before.before.before.before) refl refl
+from_segment : (c : tie.After-print_at-2) → BlankFrom head_width to_segment_start c.print_at-2.new.0
+from_segment c = blank_behind _ _ _ _ _ c.print_at-2.ensures (from_cycle c.before.before.before.before) refl refl
 
-from_follow_on : (c : tie.After-print-at3) → BlankFrom head_width follow_on_start c.print-at3.new.0
-from_follow_on c = blank_behind _ _ _ _ _ c.print-at3.ensures (from_segment c.before.before.before.before) refl refl
+from_follow_on : (c : tie.After-print_at-3) → BlankFrom head_width follow_on_start c.print_at-3.new.0
+from_follow_on c = blank_behind _ _ _ _ _ c.print_at-3.ensures (from_segment c.before.before.before.before) refl refl
 
-from_letter : (c : tie.After-print-at4) → BlankFrom head_width letter_column c.print-at4.new.0
-from_letter c = blank_behind _ _ _ _ _ c.print-at4.ensures (from_follow_on c.before.before.before.before) refl refl
+from_letter : (c : tie.After-print_at-4) → BlankFrom head_width letter_column c.print_at-4.new.0
+from_letter c = blank_behind _ _ _ _ _ c.print_at-4.ensures (from_follow_on c.before.before.before.before) refl refl
 
-from_items : (c : tie.After-print-at5) → BlankFrom head_width item_count_start c.print-at5.new.0
+from_items : (c : tie.After-print_at-5) → BlankFrom head_width item_count_start c.print_at-5.new.0
 from_items c =
-    blank_behind _ _ _ _ _ c.print-at5.ensures (set_behind _ _ _ _ _ (from_letter c.before.before.before.before) refl refl) refl refl
+    blank_behind _ _ _ _ _ c.print_at-5.ensures (set_behind _ _ _ _ _ (from_letter c.before.before.before.before) refl refl) refl refl
 
 returns : tie.Need-returns
 unfolding put blanks
@@ -40,12 +40,12 @@ returns c =
     let two = three.before.before.before.before in
     let one = two.before.before.before.before in
     rw (
-      six.print-at6.ensures,
-      five.print-at5.ensures,
-      four.print-at4.ensures,
-      three.print-at3.ensures,
-      two.print-at2.ensures,
-      one.print-at.ensures,
+      six.print_at-6.ensures,
+      five.print_at-5.ensures,
+      four.print_at-4.ensures,
+      three.print_at-3.ensures,
+      two.print_at-2.ensures,
+      one.print_at.ensures,
       one.before.before.before.requires,
     )
 
@@ -62,5 +62,5 @@ write_head_spec =
     (λ c.
     let six = c.before.before in
     let start = six.before.before.before.before.before.before.before.before.before.before.before.before.before.before.before.before.before.before.before.before.before.before.before in
-    (blank_behind _ _ _ head_width _ six.print-at6.ensures (from_items six.before.before.before.before) refl refl).wide ∙ sym (from_position start).wide)
+    (blank_behind _ _ _ head_width _ six.print_at-6.ensures (from_items six.before.before.before.before) refl refl).wide ∙ sym (from_position start).wide)
     returns)

@@ -103,16 +103,16 @@ module _ (s part : List ℕ) (from at : ℕ) (plain : Bool) (l : Printed s plain
             ∙ ap (padded lines_width) (line_written (list_lines s) empty o.i more);
       }
 
-abbrev invariant-loop : tie.invariant-loop
-invariant-loop part₀ lines plain from₀ at₀ part from at = Front lines part from at
+abbrev invariant-loop-from : tie.invariant-loop-from
+invariant-loop-from part₀ lines plain from₀ at₀ part from at = Front lines part from at
 
-abbrev decreases-loop : tie.decreases-loop
-decreases-loop part₀ lines plain from₀ at₀ part from at = length lines - from
+abbrev decreases-loop-from : tie.decreases-loop-from
+decreases-loop-from part₀ lines plain from₀ at₀ part from at = length lines - from
 
-abbrev start : tie.At-loop invariant-loop decreases-loop → tie.Start invariant-loop decreases-loop
+abbrev start : tie.At-loop-from invariant-loop-from decreases-loop-from → tie.Start invariant-loop-from decreases-loop-from
 start c = c.before.before.before
 
-printed : (s : tie.Start invariant-loop decreases-loop) → Printed s.args.lines.now s.args.plain
+printed : (s : tie.Start invariant-loop-from decreases-loop-from) → Printed s.args.lines.now s.args.plain
 printed s =
     let whole = s.requires.1.0 in
     record {
@@ -130,46 +130,46 @@ record Ends (s part : List ℕ) (from at : ℕ) : Type 0 where
   place : at + line_columns_width ≤ lines_width
   long : length part ≡ lines_width
 
-ends : (c : tie.In-loop invariant-loop decreases-loop) →
-    Ends (start c.before).args.lines.now c.before.loop.part c.before.loop.from c.before.loop.at
+ends : (c : tie.In-loop-from invariant-loop-from decreases-loop-from) →
+    Ends (start c.before).args.lines.now c.before.loop-from.part c.before.loop-from.from c.before.loop-from.at
 ends c =
     let l = printed (start c.before) in
-    let o = c.before.loop.invariant in
+    let o = c.before.loop-from.invariant in
     record {
-      source = omega (arith, o.source, l.count, c.loop-test.true);
+      source = omega (arith, o.source, l.count, c.loop-from-test.true);
       few = l.few;
-      place = place_end _ _ _ _ _ l o c.loop-test.true;
+      place = place_end _ _ _ _ _ l o c.loop-from-test.true;
       long = long _ _ _ _ _ l o;
     }
 
-loop_holds : tie.Need-loop-init invariant-loop decreases-loop
+loop_holds : tie.Need-loop-from-init invariant-loop-from decreases-loop-from
 loop_holds c = record { i = 0; within = omega arith; source = refl; place = refl; is = c.before.before.requires.0 ∙ sym (padded_nil lines_width) }
 
-put_columns_requires : tie.Need-put-columns-requires invariant-loop decreases-loop
+put_columns_requires : tie.Need-put_columns-requires invariant-loop-from decreases-loop-from
 put_columns_requires c κs =
     let t = c.before.before in
     let l = printed (start t.before) in (
-      lent_wide _ _ _ _ _ l t.before.loop.invariant t.loop-test.true,
-      (line_wide _ _ _ _ _ l t.before.loop.invariant t.loop-test.true, stays _ _ _ _ _ l t.before.loop.invariant t.loop-test.true),
+      lent_wide _ _ _ _ _ l t.before.loop-from.invariant t.loop-from-test.true,
+      (line_wide _ _ _ _ _ l t.before.loop-from.invariant t.loop-from-test.true, stays _ _ _ _ _ l t.before.loop-from.invariant t.loop-from-test.true),
     )
 
-loop_again : tie.Need-loop-preserved invariant-loop decreases-loop
+loop_again : tie.Need-loop-from-preserved invariant-loop-from decreases-loop-from
 loop_again c =
     let t = c.before.before.before.before.before in
-    next _ _ _ _ _ (printed (start t.before)) t.before.loop.invariant t.loop-test.true c.before.before.put-columns.ensures
+    next _ _ _ _ _ (printed (start t.before)) t.before.loop-from.invariant t.loop-from-test.true c.before.before.put_columns.ensures
 
-same_length : tie.Need-same-length invariant-loop decreases-loop
+same_length : tie.Need-shape_of-part invariant-loop-from decreases-loop-from
 same_length c =
     let s = start c.before in
-    long _ _ _ _ _ (printed s) c.before.loop.invariant ∙ sym (ap length s.pre.0 ∙ length_blanks lines_width)
+    long _ _ _ _ _ (printed s) c.before.loop-from.invariant ∙ sym (ap length s.requires.0 ∙ length_blanks lines_width)
 
 pub write_lines_spec : {M : Type 1} → statement M
 write_lines_spec =
     tie.close
-    (tie.spec invariant-loop decreases-loop ▹ loop_holds ▹ (λ c. omega (arith, ends c)) ▹₂ omega arith
+    (tie.spec invariant-loop-from decreases-loop-from ▹ loop_holds ▹ (λ c. omega (arith, ends c)) ▹₂ omega arith
     ▹ (λ c. omega (arith, ends c)) ▹ (λ c. omega (arith, ends c.before)) ▹₂ omega arith
     ▹ (λ c. omega (arith, ends c.before)) ▹ put_columns_requires
     ▹ (λ c. omega (arith, ends c.before.before.before.before.before))
     ▹ (λ c. omega (arith, ends c.before.before.before.before.before))
     ▹ (λ c. omega (arith, ends c.before.before.before.before.before)) ▹ loop_again ▹ same_length
-    ▹ (λ c. done _ _ _ _ _ (printed (start c.before)) c.before.loop.invariant c.loop-test.false))
+    ▹ (λ c. done _ _ _ _ _ (printed (start c.before)) c.before.loop-from.invariant c.loop-from-test.false))

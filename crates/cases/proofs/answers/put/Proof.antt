@@ -15,8 +15,8 @@ few_digits n r fewest h = go (leb r 20) refl
         let reached : 10 ^ (r - 1) ≤ n = fewest.2 (omega arith) in
         omega (arith, pow-le-pow_right {n = 10} (lit< tt) {i = 20} {j = r - 1} (omega arith))
 
-few : (c : tie.After-decimal) → c.decimal.result ≤ 20
-few c = few_digits c.before.before.before.args.x c.decimal.result c.decimal.ensures.1.0 (omega arith)
+few : (c : tie.After-decimal-count) → c.decimal-count.result ≤ 20
+few c = few_digits c.before.before.before.args.x c.decimal-count.result c.decimal-count.ensures.1.0 (omega arith)
 
 pub put_spec : {M : Type 1} → statement M
 put_spec =

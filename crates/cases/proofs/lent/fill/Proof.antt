@@ -3,16 +3,16 @@ use Rattle.std.proofs.Common.{◌≡◌, ◌-◌, ◌≤◌, length, arith, leng
 use Rattle.cases.proofs.lent.fill.Statement.{statement}
 use Rattle.cases.proofs.lent.fill.Tie as tie
 
-abbrev invariant-loop : tie.invariant-loop
-invariant-loop lent₀ i₀ x₀ lent i x = (length lent ≡ length lent₀) × (i ≤ length lent₀)
+abbrev invariant-loop-i : tie.invariant-loop-i
+invariant-loop-i lent₀ i₀ x₀ lent i x = (length lent ≡ length lent₀) × (i ≤ length lent₀)
 
-abbrev decreases-loop : tie.decreases-loop
-decreases-loop lent₀ i₀ x₀ lent i x = length lent₀ - i
+abbrev decreases-loop-i : tie.decreases-loop-i
+decreases-loop-i lent₀ i₀ x₀ lent i x = length lent₀ - i
 
 pub fill_spec : {M : Type 1} → statement M
 fill_spec =
     tie.close
-    (tie.spec invariant-loop decreases-loop
+    (tie.spec invariant-loop-i decreases-loop-i
     (λ c. omega arith) (λ c. omega arith) (λ c κs. tt) (λ c. omega arith) (λ c. omega arith)
     (λ c. simp length-set (omega arith))
     (λ c. omega arith) (λ c. tt))

@@ -4,15 +4,15 @@ use Rattle.std.proofs.Common.{◌-◌, ◌<◌, ◌≤◌, length, arith}
 use Rattle.cases.proofs.lent.hash.Statement.{statement}
 use Rattle.cases.proofs.lent.hash.Tie as tie
 
-abbrev invariant-loop : tie.invariant-loop
-invariant-loop lent h₀ i₀ h i = (h < 2147483647) × (i ≤ length lent)
+abbrev invariant-loop-i : tie.invariant-loop-i
+invariant-loop-i lent h₀ i₀ h i = (h < 2147483647) × (i ≤ length lent)
 
-abbrev decreases-loop : tie.decreases-loop
-decreases-loop lent h₀ i₀ h i = length lent - i
+abbrev decreases-loop-i : tie.decreases-loop-i
+decreases-loop-i lent h₀ i₀ h i = length lent - i
 
 pub hash_spec : {M : Type 1} → statement M
 hash_spec =
     tie.close
-    (tie.spec invariant-loop decreases-loop
+    (tie.spec invariant-loop-i decreases-loop-i
     (λ c. omega arith) (λ c. omega arith) (λ c. omega arith) (λ c κs. tt) (λ c. omega arith) (λ c. omega arith)
     (λ c. omega arith) (λ c. omega arith) (λ c. omega arith) (λ c. tt))

@@ -19,34 +19,34 @@ spelt at i x h e =
     let few : i - at ≤ 11 = omega arith in
     omega (arith, pow-le-pow_right {n = 10} (lit< tt) {i = i - at} {j = 11} few)
 
-abbrev invariant-loop : tie.invariant-loop
-invariant-loop part at x₀ i₀ x i = (at ≤ i) × (i ≤ 12) × (x < 10 ^ (i - at))
+abbrev invariant-loop-i : tie.invariant-loop-i
+invariant-loop-i part at x₀ i₀ x i = (at ≤ i) × (i ≤ 12) × (x < 10 ^ (i - at))
 
-abbrev decreases-loop : tie.decreases-loop
-decreases-loop part at x₀ i₀ x i = 12 - i
+abbrev decreases-loop-i : tie.decreases-loop-i
+decreases-loop-i part at x₀ i₀ x i = 12 - i
 
 -- x before a turn's digit
-small : (c : tie.At-loop invariant-loop decreases-loop) → c.loop.i < 12 → c.loop.x < 10 ^ 11
-small c h = spelt c.before.before.args.at c.loop.i c.loop.x h c.loop.invariant.2
+small : (c : tie.At-loop-i invariant-loop-i decreases-loop-i) → c.loop-i.i < 12 → c.loop-i.x < 10 ^ 11
+small c h = spelt c.before.before.args.at c.loop-i.i c.loop-i.x h c.loop-i.invariant.2
 
-loop_holds : tie.Need-loop-init invariant-loop decreases-loop
+loop_holds : tie.Need-loop-i-init invariant-loop-i decreases-loop-i
 loop_holds c =
     let none : c.before.args.at - c.before.args.at ≡ 0 = omega arith in
     (omega arith, omega arith, rw none (lit< tt))
 
 -- the power of ten that the number is multiplied by
-ten : (c : tie.After-ten-to invariant-loop decreases-loop) → c.ten-to.result ≡ 10
-ten c = c.ten-to.ensures
+ten : (c : tie.After-ten_to invariant-loop-i decreases-loop-i) → c.ten_to.result ≡ 10
+ten c = c.ten_to.ensures
 
-loop_again : tie.Need-loop-preserved invariant-loop decreases-loop
+loop_again : tie.Need-loop-i-preserved invariant-loop-i decreases-loop-i
 loop_again c =
     let s = c.before.before.before.before.before in
-    (omega arith, omega arith, rw (ten c) (digit_more s.before.before.args.at s.loop.i s.loop.x _ s.loop.invariant.0 s.loop.invariant.2 (omega arith)))
+    (omega arith, omega arith, rw (ten c) (digit_more s.before.before.args.at s.loop-i.i s.loop-i.x _ s.loop-i.invariant.0 s.loop-i.invariant.2 (omega arith)))
 
 pub digits_spec : {M : Type 1} → statement M
 digits_spec =
     tie.close
-    (tie.spec invariant-loop decreases-loop loop_holds ▹ (λ c. omega arith) ▹ (λ c. tt) ▹ (λ c. tt)
+    (tie.spec invariant-loop-i decreases-loop-i loop_holds ▹ (λ c. omega arith) ▹ (λ c. tt) ▹ (λ c. tt)
     ▹ (λ c κs. lit< tt) ▹ (λ c. rw (ten c) (omega (arith, small c.before.before.before.before.before (omega arith))))
     ▹ (λ c. omega arith) ▹ (λ c. rw (ten c) (omega (arith, small c.before.before.before.before.before (omega arith))))
     ▹₂ omega arith ▹ loop_again ▹ (λ c. tt))

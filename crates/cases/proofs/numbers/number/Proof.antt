@@ -4,14 +4,14 @@ use Rattle.columns.proofs.Rows.{◌▹◌, ◌▹₂◌, ◌▹₃◌}
 use Rattle.cases.proofs.numbers.number.Statement.{statement}
 use Rattle.cases.proofs.numbers.number.Tie as tie
 
-abbrev invariant-loop : tie.invariant-loop
-invariant-loop part i₀ i = i ≤ 12
+abbrev invariant-loop-i : tie.invariant-loop-i
+invariant-loop-i part i₀ i = i ≤ 12
 
-abbrev decreases-loop : tie.decreases-loop
-decreases-loop part i₀ i = 12 - i
+abbrev decreases-loop-i : tie.decreases-loop-i
+decreases-loop-i part i₀ i = 12 - i
 
 pub number_spec : {M : Type 1} → statement M
 number_spec =
     tie.close
-    (tie.spec invariant-loop decreases-loop ▹₂ omega arith ▹ (λ c κs. (c.before.before.before.before.before.requires, omega arith)) ▹ (λ c. tt)
+    (tie.spec invariant-loop-i decreases-loop-i ▹₂ omega arith ▹ (λ c κs. (c.before.before.before.before.before.requires, omega arith)) ▹ (λ c. tt)
     ▹₃ omega arith ▹ (λ c. tt))

@@ -4,14 +4,14 @@ use Rattle.columns.proofs.Rows.{◌▹◌, ◌▹₂◌, ◌▹₅◌, ◌▹₇
 use Rattle.cases.proofs.requests.read_numbers.Statement.{statement}
 use Rattle.cases.proofs.requests.read_numbers.Tie as tie
 
-abbrev invariant-loop : tie.invariant-loop
-invariant-loop head numbers₀ i₀ numbers i = i ≤ 6
+abbrev invariant-loop-i : tie.invariant-loop-i
+invariant-loop-i head numbers₀ i₀ numbers i = i ≤ 6
 
-abbrev decreases-loop : tie.decreases-loop
-decreases-loop head numbers₀ i₀ numbers i = 6 - i
+abbrev decreases-loop-i : tie.decreases-loop-i
+decreases-loop-i head numbers₀ i₀ numbers i = 6 - i
 
 pub read_numbers_spec : {M : Type 1} → statement M
 read_numbers_spec =
     tie.close
-    (tie.spec invariant-loop decreases-loop ▹₇ omega arith ▹ (λ c κs. simp (length-take, length-drop) (omega arith)) ▹₂ search rules ▹ (λ c. tt)
+    (tie.spec invariant-loop-i decreases-loop-i ▹₇ omega arith ▹ (λ c κs. simp (length-take, length-drop) (omega arith)) ▹₂ search rules ▹ (λ c. tt)
     ▹₅ omega arith ▹ (λ c. tt))

@@ -10,10 +10,10 @@ use Rattle.cycle.specs.Inner.Held.{plan_in, written}
 use Rattle.cycle.specs.declared.Source.TheVariants.{List as InList}
 use Rattle.cycle.proofs.Segmenting.Subtrees.{Behind, own_there, alone, first_fits, none_behind, child_place, child_fits, next_behind, all_behind}
 use Rattle.cycle.proofs.Building.Writings.{writing_kept, begins, room_kept, next_written, all_written}
-use Rattle.cycle.proofs.build.write_subtree.Reads as write-subtree
-use Rattle.cycle.proofs.build.write_subtree.Kinds as write-subtree-kinds
+use Rattle.cycle.proofs.build.write_subtree-next.Reads as write-subtree
+use Rattle.cycle.proofs.build.write_subtree-next.Kinds as write-subtree-kinds
 use Rattle.cycle.proofs.build.+write_subtree.Lts-write_subtree as write-subtree-lts
-use Rattle.cycle.proofs.build.write_tree_bucket.Reads as write-tree-bucket-reads
+use Rattle.cycle.proofs.build.write_tree_bucket-count.Reads as write-tree-bucket-reads
 use Rattle.cycle.proofs.build.+write_subtree.{statement}
 use Rattle.cycle.proofs.build.+write_subtree.Tie.{close}
 
@@ -56,12 +56,12 @@ pub +write-subtree-spec : {M : Type 1} → statement M
     (λ c. let given = c.before.before.before.before.before.before.requires.1 in
     omega (arith, own_there given.0.sending.ready given.0.placed given.1))
     -- same-length
-    (λ c. c.before.before.before.write-tree-bucket.auto.0)
+    (λ c. c.before.before.before.write_tree_bucket-count.auto.0)
     -- returns
     (λ c. let st = c.before.before.before.before.before.before.before in
     let a = st.args in
-    let end = alone st.requires.1.0.sending.ready st.requires.1.0.placed st.requires.1.1 c.if1.true in
-    (end, c.before.before.before.write-tree-bucket.ensures.1 ∙ ap (written (plan_in a.f InList a.list.now) a.image.now a.x) end))
+    let end = alone st.requires.1.0.sending.ready st.requires.1.0.placed st.requires.1.1 c.if-e-eq1.true in
+    (end, c.before.before.before.write_tree_bucket-count.ensures.1 ∙ ap (written (plan_in a.f InList a.list.now) a.image.now a.x) end))
     -- sub-below
     (λ c. c.before.before.before.before.before.before.before.requires.1.1.low)
     -- mul-first
@@ -69,50 +69,50 @@ pub +write-subtree-spec : {M : Type 1} → statement M
     first_fits given.0.sending.ready given.0.placed given.1)
     -- loop-holds
     (λ c. let given = c.before.before.before.before.before.before.before.before.requires.1 in
-    let call = c.before.before.before.before.write-tree-bucket in
+    let call = c.before.before.before.before.write_tree_bucket-count in
     (none_behind given.0.sending.ready given.0.placed given.1 call.ensures.0, begins given.0 given.1 call.new.0 call.auto.0))
     -- add-write-subtree
     (λ c. let loop = c.before.before in
     let given = loop.before.before.before.before.before.before.before.before.before.requires.1 in
-    let call = loop.before.before.before.before.before.write-tree-bucket in
-    child_fits given.0.sending.ready given.0.placed given.1 call.ensures.0 loop.loop.invariant.0 loop.before.before.if1.false c.before.loop-test.true)
+    let call = loop.before.before.before.before.before.write_tree_bucket-count in
+    child_fits given.0.sending.ready given.0.placed given.1 call.ensures.0 loop.loop.invariant.0 loop.before.before.if-e-eq1.false c.before.loop-i-test.true)
     -- write-subtree-requires
     (λ c κs. let loop = c.before.before in
     let st = loop.before.before.before.before.before.before.before.before.before in
     let w = st.requires.1.0 in
     let p = st.requires.1.1 in
-    let call = loop.before.before.before.before.before.write-tree-bucket in
-    let more = loop.before.before.if1.false in
+    let call = loop.before.before.before.before.before.write_tree_bucket-count in
+    let more = loop.before.before.if-e-eq1.false in
     let kept = room_kept w p more call.ensures.0 loop.loop.invariant.0 call.new.0 call.auto.0 loop.loop.invariant.1 in (
       omega (arith, st.requires.0, p.low),
       (
         writing_kept st.args.f st.args.list.now st.args.s _ w _ kept,
-        child_place w.sending.ready w.placed p call.ensures.0 loop.loop.invariant.0 more c.before.loop-test.true,
+        child_place w.sending.ready w.placed p call.ensures.0 loop.loop.invariant.0 more c.before.loop-i-test.true,
       ),
     ))
     -- add-i
-    (λ c. omega (arith, c.before.before.before.before.loop-test.true))
+    (λ c. omega (arith, c.before.before.before.before.loop-i-test.true))
     -- loop-less
-    (λ c. omega (arith, c.before.before.before.before.loop-test.true))
+    (λ c. omega (arith, c.before.before.before.before.loop-i-test.true))
     -- loop-again
     (λ c. let loop = c.before.before.before.before.before in
     let given = loop.before.before.before.before.before.before.before.before.before.requires.1 in
-    let call = loop.before.before.before.before.before.write-tree-bucket in
-    let h = c.before.before.before.before.loop-test.true in
-    let next = c.before.before.write-subtree in (
+    let call = loop.before.before.before.before.before.write_tree_bucket-count in
+    let h = c.before.before.before.before.loop-i-test.true in
+    let next = c.before.before.write_subtree-next in (
       next_behind given.0.sending.ready given.0.placed given.1 call.ensures.0 loop.loop.invariant.0 h next.ensures.0,
-      next_written given.0 given.1 loop.before.before.if1.false call.ensures.0 loop.loop.invariant.0 call.new.0 call.auto.0 loop.loop.invariant.1 h next.result next.ensures.0 next.ensures.1,
+      next_written given.0 given.1 loop.before.before.if-e-eq1.false call.ensures.0 loop.loop.invariant.0 call.new.0 call.auto.0 loop.loop.invariant.1 h next.result next.ensures.0 next.ensures.1,
     ))
     -- same-length-2
     (λ c. let loop = c.before in
     let given = loop.before.before.before.before.before.before.before.before.before.requires.1 in
-    let call = loop.before.before.before.before.before.write-tree-bucket in
-    room_kept given.0 given.1 loop.before.before.if1.false call.ensures.0 loop.loop.invariant.0 call.new.0 call.auto.0 loop.loop.invariant.1)
+    let call = loop.before.before.before.before.before.write_tree_bucket-count in
+    room_kept given.0 given.1 loop.before.before.if-e-eq1.false call.ensures.0 loop.loop.invariant.0 call.new.0 call.auto.0 loop.loop.invariant.1)
     -- returns-2
     (λ c. let loop = c.before in
     let st = loop.before.before.before.before.before.before.before.before.before in
     let w = st.requires.1.0 in
-    let call = loop.before.before.before.before.before.write-tree-bucket in (
-      all_behind w.sending.ready w.placed st.requires.1.1 call.ensures.0 loop.loop.invariant.0 c.loop-test.false,
-      all_written w st.requires.1.1 loop.before.before.if1.false call.ensures.0 loop.loop.invariant.0 call.new.0 call.auto.0 loop.loop.invariant.1 c.loop-test.false st.args.image.now refl call.ensures.1,
+    let call = loop.before.before.before.before.before.write_tree_bucket-count in (
+      all_behind w.sending.ready w.placed st.requires.1.1 call.ensures.0 loop.loop.invariant.0 c.loop-i-test.false,
+      all_written w st.requires.1.1 loop.before.before.if-e-eq1.false call.ensures.0 loop.loop.invariant.0 call.new.0 call.auto.0 loop.loop.invariant.1 c.loop-i-test.false st.args.image.now refl call.ensures.1,
     ))

@@ -16,46 +16,46 @@ use Rattle.cycle.proofs.build.build.Tie as tie
 abbrev set : tie.Start → Settings
 set s = settings s.args.n s.args.p s.args.layout s.args.copies
 
-abbrev start : tie.After-judge-list → tie.Start
+abbrev start : tie.After-judge_list-told → tie.Start
 start c = c.before.before.before
 
 abbrev room : tie.Start → ℕ
 room s = length s.args.out.now
 
 -- what judging answered
-known : (c : tie.After-judge-list) → judge (set (start c)) (start c).args.list.now (room (start c)) ≡ c.judge-list.result.judged
+known : (c : tie.After-judge_list-told) → judge (set (start c)) (start c).args.list.now (room (start c)) ≡ c.judge_list-told.result.judged
 known c =
-    sym (judged_told c.judge-list.result.judged (judge (set (start c)) (start c).args.list.now (room (start c))) c.judge-list.ensures.0)
+    sym (judged_told c.judge_list-told.result.judged (judge (set (start c)) (start c).args.list.now (room (start c))) c.judge_list-told.ensures.0)
 
 -- it answered with figures
-abbrev made : tie.After-judged2 → Figures
-made c = c.judged2.given.0.0
+abbrev made : tie.In-Cycle-2 → Figures
+made c = c.judged-in-Cycle-1.given.0.0
 
 figured :
-    (c : tie.After-judged2) →
+    (c : tie.In-Cycle-2) →
     let s = start c.before.before in judge (set s) s.args.list.now (room s) ≡ Cycle (made c)
-figured c = known c.before.before ∙ c.judged2.given.1
+figured c = known c.before.before ∙ c.judged-in-Cycle-1.given.1
 
-write_cycle_requires : tie.Need-write-cycle-requires
+write_cycle_requires : tie.Need-write_cycle-requires
 write_cycle_requires c κs =
     let told = c.before.before in
     let s = start told.before.before in
     let all = sending_judged (set s) s.args.list.now (room s) (made told) (figured told) in
-    (all.0, all.1, told.before.before.judge-list.ensures.1)
+    (all.0, all.1, told.before.before.judge_list-told.ensures.1)
 
-returns : tie.Need-returns
+returns : tie.Need-returns-in-Refused
 returns c =
     let j = c.before.before.before in
     let s = start j in
-    builds_refusal (set s) s.args.list.now (room s) _ _ s.args.out.now (known j ∙ c.before.judged.given.1)
+    builds_refusal (set s) s.args.list.now (room s) _ _ s.args.out.now (known j ∙ c.before.judged-1.given.1)
 
-returns_2 : tie.Need-returns-2
+returns_2 : tie.Need-returns-in-Cycle
 returns_2 c =
     let wrote = c.before.before in
     let told = wrote.before.before.before in
     let s = start told.before.before in
     let all = builds_judged (set s) s.args.list.now (room s) (made told) (figured told) s.args.out.now refl in
-    (all.0, wrote.write-cycle.ensures ∙ all.1)
+    (all.0, wrote.write_cycle.ensures ∙ all.1)
 
 pub build_spec : {M : Type 1} → statement M
 build_spec =

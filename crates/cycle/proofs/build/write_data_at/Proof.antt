@@ -50,29 +50,29 @@ small s =
     let t = data_text s.args.f s.args.list.now s.requires.0.sending s.args.q _ _ (in_data s) refl refl in
     (omega (arith, t.low, t.few_all), t.next)
 
-list_follow_on_requires : tie.Need-list-follow-on-requires
+list_follow_on_requires : tie.Need-list_follow_on-follow_on-requires
 list_follow_on_requires c κs =
     let s = c.before.before in (s.requires.0.sending, in_data s, stands s)
 
-add_lesser : tie.Need-overflow-add-lesser
+add_lesser : tie.Need-overflow_add-q
 add_lesser c =
     let s = c.before.before.before.before in
     omega (arith, in_data s, data_high s.args.f s.requires.0.sending.ready.shaped)
 
-head_at_requires : tie.Need-head-at-requires
+head_at_requires : tie.Need-head_at-requires
 head_at_requires c κs =
     let s = start c.before in
-    head_asked s.args.f s.args.s s.pre.0.sending.ready s.pre.0.placed s.args.x
-    (omega (arith, seated s, s.pre.1.here)) (below s)
+    head_asked s.args.f s.args.s s.requires.0.sending.ready s.requires.0.placed s.args.x
+    (omega (arith, seated s, s.requires.1.here)) (below s)
 
-write_data_requires : tie.Need-write-data-requires
+write_data_requires : tie.Need-write_data-requires
 write_data_requires c κs =
     let call = c.before.before.before in
     let s = start call in
     let t = text call in
-    let room : bucket_length * s.args.x + bucket_length ≤ length s.args.image.now = omega (arith, seated s, below s, s.pre.0.roomy) in
+    let room : bucket_length * s.args.x + bucket_length ≤ length s.args.image.now = omega (arith, seated s, below s, s.requires.0.roomy) in
     let wide : bucket_length * s.args.x + bucket_length - bucket_length * s.args.x ≡ bucket_length = omega arith in
-    (length_part s.args.image.now (bucket_length * s.args.x) _ (omega (arith, room, wide)) ∙ wide, (t.whole_lines_lem, (t.few, (t.printed, λ told. t.no_zeros (s.pre.0.no_zeros told)))))
+    (length_part s.args.image.now (bucket_length * s.args.x) _ (omega (arith, room, wide)) ∙ wide, (t.whole_lines_lem, (t.few, (t.printed, λ told. t.no_zeros (s.requires.0.no_zeros told)))))
 
 returns : tie.Need-returns
 returns c =
@@ -81,11 +81,11 @@ returns c =
     let call = head.before.before in
     let s = start call in
     let t = text call in
-    let room : bucket_length * s.args.x + bucket_length ≤ length s.args.image.now = omega (arith, seated s, below s, s.pre.0.roomy) in
-    lent_written s.args.image.now (bucket_length * s.args.x) bucket_length _ _ room wrote.write-data.auto.0 wrote.write-data.ensures
-    ∙ data_written s.args.f s.args.list.now s.pre.0.sending s.args.x (omega (arith, seated s, below s))
-    s.args.image.now s.pre.0.roomy _ head.head_at.ensures s.args.q _ _ (stands s)
-    call.before.before.before.list-follow-on.ensures t.lines_are
+    let room : bucket_length * s.args.x + bucket_length ≤ length s.args.image.now = omega (arith, seated s, below s, s.requires.0.roomy) in
+    lent_written s.args.image.now (bucket_length * s.args.x) bucket_length _ _ room wrote.write_data.auto.0 wrote.write_data.ensures
+    ∙ data_written s.args.f s.args.list.now s.requires.0.sending s.args.x (omega (arith, seated s, below s))
+    s.args.image.now s.requires.0.roomy _ head.head_at.ensures s.args.q _ _ (stands s)
+    call.before.before.before.list_follow_on-follow_on.ensures t.lines_are
 
 pub write_data_at_spec : {M : Type 1} → statement M
 write_data_at_spec =

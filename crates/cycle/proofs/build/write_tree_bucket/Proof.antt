@@ -11,7 +11,7 @@ use Rattle.cycle.proofs.build.write_tree_bucket.Statement.{statement}
 use Rattle.cycle.proofs.build.write_tree_bucket.Tie as tie
 
 -- what the columns of the bucket are told from, and room for them
-abbrev begun : tie.After-child-count → tie.Start
+abbrev begun : tie.After-child_count-count → tie.Start
 begun c = c.before.before.before
 
 seated : (c : tie.Start) → Seated c.args.f c.args.s
@@ -25,12 +25,12 @@ below c =
       tree_before c.args.f c.args.list.now c.args.s (length c.args.image.now) c.requires.0 c.args.e c.args.j c.args.x c.requires.1,
     )
 
-print_tree_bucket_requires : tie.Need-print-tree-bucket-requires
+print_tree_bucket_requires : tie.Need-print_tree_bucket-requires
 print_tree_bucket_requires c κs =
     let s = begun c.before in
     let image = s.args.image.now in (
-      lent_wide s.args.f s.args.list.now s.args.s (length image) s.pre.0 s.args.x (below s) image refl,
-      (printing s.args.f s.args.list.now s.args.s (length image) s.pre.0, (s.pre.1, c.before.child-count.ensures)),
+      lent_wide s.args.f s.args.list.now s.args.s (length image) s.requires.0 s.args.x (below s) image refl,
+      (printing s.args.f s.args.list.now s.args.s (length image) s.requires.0, (s.requires.1, c.before.child_count-count.ensures)),
     )
 
 returns : tie.Need-returns
@@ -39,9 +39,9 @@ returns c =
     let told = wrote.before.before in
     let s = begun told in
     let image = s.args.image.now in (
-      told.child-count.ensures,
-      bucket_written s.args.f s.args.list.now s.args.s (length image) s.pre.0 s.args.x (below s) image refl
-          wrote.print-tree-bucket.auto.0 wrote.print-tree-bucket.ensures,
+      told.child_count-count.ensures,
+      bucket_written s.args.f s.args.list.now s.args.s (length image) s.requires.0 s.args.x (below s) image refl
+          wrote.print_tree_bucket.auto.0 wrote.print_tree_bucket.ensures,
     )
 
 pub write_tree_bucket_spec : {M : Type 1} → statement M
@@ -53,7 +53,7 @@ write_tree_bucket_spec =
     (λ c. omega (arith, seated (begun c), below (begun c)))
     (λ c. search rules)
     (λ c. search rules)
-    (λ c. let s = begun c in lent_room s.args.f s.args.list.now s.args.s (length s.args.image.now) s.pre.0 s.args.x (below s) s.args.image.now refl)
+    (λ c. let s = begun c in lent_room s.args.f s.args.list.now s.args.s (length s.args.image.now) s.requires.0 s.args.x (below s) s.args.image.now refl)
     print_tree_bucket_requires
     (λ c. search rules)
     returns)

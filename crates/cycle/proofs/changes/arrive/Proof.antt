@@ -23,21 +23,21 @@ bytes s = s.args.buffer.now
 abbrev line : tie.Start → List ℕ
 line s = s.args.given.now
 
-abbrev start : tie.After-judge-given → tie.Start
+abbrev start : tie.After-judge_given-told → tie.Start
 start c = c.before.before.before.before.before
 
 -- what was found, whatever the copies
-told : (c : tie.After-judge-given) {r : GivenJudged} → c.judge-given.result ≡ r →
+told : (c : tie.After-judge_given-told) {r : GivenJudged} → c.judge_given-told.result ≡ r →
     let s = start c in GivenTold (given_conditions (set s) (bytes s) s.args.lines (line s)) (list_in (bytes s) s.args.lines) r
 told c {r} e =
     let s = start c in
     told_any_copies s.args.n s.args.p s.args.layout 0 s.args.copies (bytes s) s.args.lines (line s)
-    c.judge-given.result r e c.judge-given.ensures
+    c.judge_given-told.result r e c.judge_given-told.ensures
 
-arrive_judged_requires : tie.Need-arrive-judged-requires
-arrive_judged_requires c κs = let found = c.before.before.before in told found.before.before found.told2.given.1
+arrive_judged_requires : tie.Need-arrive_judged-requires
+arrive_judged_requires c κs = let found = c.before.before.before in told found.before.before found.told-in-Passed-1.given.1
 
-returns : tie.Need-returns
+returns : tie.Need-returns-in-Refused
 returns c =
     let found = c.before in
     let call = found.before.before in

@@ -8,13 +8,13 @@ use Rattle.cycle.proofs.Changing.Searches.{other_tag, spelled_part}
 use Rattle.cycle.proofs.changes.equals_at.Statement.{statement}
 use Rattle.cycle.proofs.changes.equals_at.Tie as tie
 
-returns : tie.Need-returns
+returns : tie.Need-returns-then-spelled_tag-line
 returns c =
     let call = c.before.before in
     let a = call.before.before.args in
-    sym (other_tag a.line (drop a.at a.list.now) call.spelled_tag.result call.spelled_tag.ensures c.if1.true)
+    sym (other_tag a.line (drop a.at a.list.now) call.spelled_tag.result call.spelled_tag.ensures c.if-spelled_tag-line.true)
 
-returns_2 : tie.Need-returns-2
+returns_2 : tie.Need-returns
 returns_2 c =
     let call = c.before in
     let a = call.before.before.before.before.before.before.args in

@@ -12,41 +12,41 @@ use Rattle.cycle.proofs.Changing.Searches.{fails_here, passes_here, none_passes}
 use Rattle.cycle.proofs.changes.first_equal.Statement.{statement}
 use Rattle.cycle.proofs.changes.first_equal.Tie as tie
 
-abbrev invariant-loop : tie.invariant-loop
-invariant-loop list lines line i₀ i =
+abbrev invariant-loop-i : tie.invariant-loop-i
+invariant-loop-i list lines line i₀ i =
     (i ≤ lines) × (first_from (same_numbers line) 0 (list_lines list) ≡ first_from (same_numbers line) i (drop i (list_lines list)))
 
-abbrev decreases-loop : tie.decreases-loop
-decreases-loop list lines line i₀ i = lines - i
+abbrev decreases-loop-i : tie.decreases-loop-i
+decreases-loop-i list lines line i₀ i = lines - i
 
-returns : tie.Need-returns invariant-loop decreases-loop
+returns : tie.Need-returns-then-equals_at invariant-loop-i decreases-loop-i
 returns c =
     let turn = c.before.before in
     let loop = turn.before in
     let start = loop.before.before in
-    passes_here (same_numbers start.args.line) start.args.list.now start.args.lines start.requires.0 loop.loop.i loop.loop.invariant.1 turn.loop-test.true
-    (sym c.before.equals-at.ensures ∙ c.if1.true)
+    passes_here (same_numbers start.args.line) start.args.list.now start.args.lines start.requires.0 loop.loop.i loop.loop.invariant.1 turn.loop-i-test.true
+    (sym c.before.equals_at.ensures ∙ c.if-equals_at.true)
 
-loop_again : tie.Need-loop-preserved invariant-loop decreases-loop
+loop_again : tie.Need-loop-i-preserved invariant-loop-i decreases-loop-i
 loop_again c =
     let turn = c.before.before in
     let loop = turn.before in
     let start = loop.before.before in (
       omega arith,
-      fails_here (same_numbers start.args.line) start.args.list.now start.args.lines start.requires.0 loop.loop.i loop.loop.invariant.1 turn.loop-test.true
-          (sym c.before.equals-at.ensures ∙ c.if1.false),
+      fails_here (same_numbers start.args.line) start.args.list.now start.args.lines start.requires.0 loop.loop.i loop.loop.invariant.1 turn.loop-i-test.true
+          (sym c.before.equals_at.ensures ∙ c.if-equals_at.false),
     )
 
-returns_2 : tie.Need-returns-2 invariant-loop decreases-loop
+returns_2 : tie.Need-returns invariant-loop-i decreases-loop-i
 returns_2 c =
     let loop = c.before in
     let start = loop.before.before in
-    none_passes (same_numbers start.args.line) start.args.list.now start.args.lines start.requires.0 loop.loop.i loop.loop.invariant.1 c.loop-test.false
+    none_passes (same_numbers start.args.line) start.args.list.now start.args.lines start.requires.0 loop.loop.i loop.loop.invariant.1 c.loop-i-test.false
 
 pub first_equal_spec : {M : Type 1} → statement M
 first_equal_spec =
     tie.close
-    (tie.spec invariant-loop decreases-loop
+    (tie.spec invariant-loop-i decreases-loop-i
     (λ c. (omega arith, refl))
     (λ c. omega arith) (λ c κs. omega arith)
     returns

@@ -25,64 +25,64 @@ abbrev given : tie.Start → List ℕ
 given s = s.args.given.now
 
 -- the entry, seen from behind each test
-abbrev start1 : tie.Else1 → tie.Start
+abbrev start1 : tie.Else-not-settings_fit → tie.Start
 start1 c = c.before.before.before.before
 
-abbrev start2 : tie.Else2 → tie.Start
+abbrev start2 : tie.Else-lines-gt-LINES_MOST → tie.Start
 start2 c = start1 c.before
 
-abbrev start3 : tie.Else3 → tie.Start
+abbrev start3 : tie.Else-not-places_for → tie.Start
 start3 c = start2 c.before.before
 
 -- what does not hold there
-fit1 : (c : tie.Else1) → settings_fit (set (start1 c)) ≡ true
-fit1 c = sym c.before.settings_fit_lem.ensures ∙ not-false _ c.if1.false
+fit1 : (c : tie.Else-not-settings_fit) → settings_fit (set (start1 c)) ≡ true
+fit1 c = sym c.before.settings_fit_lem.ensures ∙ not-false _ c.if-not-settings_fit.false-raw
 
-places3 : (c : tie.Else3) → places_for (bytes (start3 c)) (start3 c).args.lines ≡ true
-places3 c = sym c.before.places-for.ensures ∙ not-false _ c.if3.false
+places3 : (c : tie.Else-not-places_for) → places_for (bytes (start3 c)) (start3 c).args.lines ≡ true
+places3 c = sym c.before.places_for.ensures ∙ not-false _ c.if-not-places_for.false-raw
 
 -- the list that is judged
 long4 :
-    (c : tie.Else4) →
+    (c : tie.Else-given-ne-LENGTH) →
     length (list_in (bytes (start3 c.before)) (start3 c.before).args.lines) ≡ line_length * (start3 c.before).args.lines
 long4 c =
     let s = start3 c.before in
     length_in (bytes s) s.args.lines (places_fit (bytes s) s.args.lines (places3 c.before))
 
-returns : tie.Need-returns
+returns : tie.Need-returns-then-not-settings_fit
 returns c =
     let s = c.before.before.before.before in
     settings_refused (set s) (bytes s) s.args.lines (given s)
-    (sym c.before.settings_fit_lem.ensures ∙ not-true _ c.if1.true)
+    (sym c.before.settings_fit_lem.ensures ∙ not-true _ c.if-not-settings_fit.true-raw)
 
-returns_2 : tie.Need-returns-2
+returns_2 : tie.Need-returns-then-lines-gt-LINES_MOST
 returns_2 c =
     let s = start1 c.before in
-    too_many_lines_lem (set s) (bytes s) s.args.lines (given s) (fit1 c.before) c.if2.true
+    too_many_lines_lem (set s) (bytes s) s.args.lines (given s) (fit1 c.before) c.if-lines-gt-LINES_MOST.true
 
-returns_3 : tie.Need-returns-3
+returns_3 : tie.Need-returns-then-not-places_for
 returns_3 c =
     let met = c.before.before in
     let s = start2 met in
-    no_places (set s) (bytes s) s.args.lines (given s) (fit1 met.before) met.if2.false
-    (sym c.before.places-for.ensures ∙ not-true _ c.if3.true)
+    no_places (set s) (bytes s) s.args.lines (given s) (fit1 met.before) met.if-lines-gt-LINES_MOST.false
+    (sym c.before.places_for.ensures ∙ not-true _ c.if-not-places_for.true-raw)
 
-returns_4 : tie.Need-returns-4
+returns_4 : tie.Need-returns-then-given-ne-LENGTH
 returns_4 c =
     let met = c.before in
     let few = met.before.before in
     let s = start3 met in
-    given_length_out_lem (set s) (bytes s) s.args.lines (given s) (fit1 few.before) few.if2.false (places3 met) c.if4.true
+    given_length_out_lem (set s) (bytes s) s.args.lines (given s) (fit1 few.before) few.if-lines-gt-LINES_MOST.false (places3 met) c.if-given-ne-LENGTH.true
 
-slice_aggregate_judge_lines_given : tie.Need-slice-aggregate-judge-lines-given
+slice_aggregate_judge_lines_given : tie.Need-slice_bounds-judge_lines_given-end
 unfolding list_in
 slice_aggregate_judge_lines_given c = sym (long4 c.before)
 
-judge_lines_given_requires : tie.Need-judge-lines-given-requires
+judge_lines_given_requires : tie.Need-judge_lines_given-requires
 unfolding list_in
-judge_lines_given_requires c κs = (long4 c.before, c.before.before.before.before.if2.false)
+judge_lines_given_requires c κs = (long4 c.before, c.before.before.before.before.if-lines-gt-LINES_MOST.false)
 
-returns_5 : tie.Need-returns-5
+returns_5 : tie.Need-returns
 unfolding list_in
 returns_5 c =
     let met = c.before.before in
@@ -90,9 +90,9 @@ returns_5 c =
     let s = start3 met.before in
     let list = list_in (bytes s) s.args.lines in
     told_by (given_conditions (set s) (bytes s) s.args.lines (given s)) (line_conditions list s.args.lines (given s)) list
-    c.judge-lines-given.result
-    (lines_decide (set s) (bytes s) s.args.lines (given s) (fit1 few.before) few.if2.false (places3 met.before) met.if4.false)
-    c.judge-lines-given.ensures
+    c.judge_lines_given.result
+    (lines_decide (set s) (bytes s) s.args.lines (given s) (fit1 few.before) few.if-lines-gt-LINES_MOST.false (places3 met.before) met.if-given-ne-LENGTH.false)
+    c.judge_lines_given.ensures
 
 pub judge_given_spec : {M : Type 1} → statement M
 judge_given_spec =

@@ -14,62 +14,62 @@ use Rattle.cycle.proofs.changes.judge_lines_given.Statement.{statement}
 use Rattle.cycle.proofs.changes.judge_lines_given.Tie as tie
 
 -- the entry, seen from behind the lines' judgement
-abbrev start : tie.After-judge-lines → tie.Start
+abbrev start : tie.After-judge_lines-told → tie.Start
 start c = c.before.before.before
 
-abbrev list : tie.After-judge-lines → List ℕ
+abbrev list : tie.After-judge_lines-told → List ℕ
 list c = (start c).args.list.now
 
-abbrev lines : tie.After-judge-lines → ℕ
+abbrev lines : tie.After-judge_lines-told → ℕ
 lines c = (start c).args.lines
 
-abbrev given : tie.After-judge-lines → List ℕ
+abbrev given : tie.After-judge_lines-told → List ℕ
 given c = (start c).args.given.now
 
-lines_told : (c : tie.After-judge-lines) {r : LinesJudged} → c.judge-lines.result ≡ r → LinesTold (list c) r
-lines_told c e = subst (LinesTold (list c)) e c.judge-lines.ensures
+lines_told : (c : tie.After-judge_lines-told) {r : LinesJudged} → c.judge_lines-told.result ≡ r → LinesTold (list c) r
+lines_told c e = subst (LinesTold (list c)) e c.judge_lines-told.ensures
 
 -- the lines' judgement, seen from behind the given line's reading
-abbrev falls : tie.After-line-tag → tie.After-judge-lines
+abbrev falls : tie.After-line_tag → tie.After-judge_lines-told
 falls c = c.before.before.before.before
 
-abbrev passes : tie.After-line-tag2 → tie.After-judge-lines
+abbrev passes : tie.After-line_tag-in-Passed → tie.After-judge_lines-told
 passes c = c.before.before.before.before
 
-returns : tie.Need-returns
+returns : tie.Need-returns-then-line_tag-eq-MISPRINT
 returns c =
     let read = c.before in
     let call = falls read in
-    given_misprinted_lem (list call) (lines call) (given call) (lines_told call read.before.before.told2.given.1).0
-    (tag_none (read_line (given call)) (line_tag_small (given call)) read.line-tag.ensures c.if1.true)
+    given_misprinted_lem (list call) (lines call) (given call) (lines_told call read.before.before.told-in-Falls-1.given.1).0
+    (tag_none (read_line (given call)) (line_tag_small (given call)) read.line_tag.ensures c.if-line_tag-eq-MISPRINT.true)
 
-returns_2 : tie.Need-returns-2
+returns_2 : tie.Need-returns-then-line_tag-eq-MISPRINT-2
 returns_2 c =
     let read = c.before in
     let call = passes read in
-    given_misprinted_lem (list call) (lines call) (given call) (lines_told call read.before.before.told3.given.1).0
-    (tag_none (read_line (given call)) (line_tag_small (given call)) read.line-tag2.ensures c.if2.true)
+    given_misprinted_lem (list call) (lines call) (given call) (lines_told call read.before.before.told-in-Passed-1.given.1).0
+    (tag_none (read_line (given call)) (line_tag_small (given call)) read.line_tag-in-Passed.ensures c.if-line_tag-eq-MISPRINT-2.true)
 
-returns_3 : tie.Need-returns-3
+returns_3 : tie.Need-returns-in-Misprinted
 returns_3 c =
     let call = c.before.before.before in
-    list_misprinted (list call) (lines call) (given call) _ (lines_told call c.before.told.given.1)
+    list_misprinted (list call) (lines call) (given call) _ (lines_told call c.before.told-1.given.1)
 
-returns_4 : tie.Need-returns-4
+returns_4 : tie.Need-returns-else-line_tag-eq-MISPRINT
 returns_4 c =
     let read = c.before in
     let call = falls read in
-    let told = lines_told call read.before.before.told2.given.1 in
+    let told = lines_told call read.before.before.told-in-Falls-1.given.1 in
     list_falls (list call) (lines call) (given call) told.0
-    (ap taken (tag_found (read_line (given call)) read.line-tag.ensures c.if1.false).1) _ told.1
+    (ap taken (tag_found (read_line (given call)) read.line_tag.ensures c.if-line_tag-eq-MISPRINT.false).1) _ told.1
 
-returns_5 : tie.Need-returns-5
+returns_5 : tie.Need-returns-else-line_tag-eq-MISPRINT-2
 returns_5 c =
     let read = c.before in
     let call = passes read in
-    let told = lines_told call read.before.before.told3.given.1 in (
+    let told = lines_told call read.before.before.told-in-Passed-1.given.1 in (
       lines_passed (list call) (lines call) (given call) told.0
-          (ap taken (tag_found (read_line (given call)) read.line-tag2.ensures c.if2.false).1) told.1,
+          (ap taken (tag_found (read_line (given call)) read.line_tag-in-Passed.ensures c.if-line_tag-eq-MISPRINT-2.false).1) told.1,
       told.2,
     )
 

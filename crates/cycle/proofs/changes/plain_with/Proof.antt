@@ -19,10 +19,10 @@ use Rattle.cycle.proofs.changes.plain_with.Tie as tie
 tag_taken : (o : Option Line) {x : ℕ} → x ≡ tag_or_misprint o → not (eqb x 18446744073709551615) ≡ true → taken o ≡ true
 tag_taken o {x} e h = ap taken (tag_found o e (eqb-false x 18446744073709551615 (not-true (eqb x 18446744073709551615) h))).1
 
-returns : tie.Need-returns
+returns : tie.Need-returns-then-plain
 returns c e =
     let test = c.before in
-    (test.if1.true, tag_taken (read_plain test.before.before.args.line.now) c.plain-tag.ensures e)
+    (test.if-plain.true, tag_taken (read_plain test.before.before.args.line.now) c.plain_tag.ensures e)
 
 pub plain_with_spec : {M : Type 1} → statement M
 plain_with_spec = tie.close (tie.spec (λ c κs. search rules) returns (λ c e. absurd (true≢false (sym e))))

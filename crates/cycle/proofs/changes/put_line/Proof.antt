@@ -11,13 +11,13 @@ returns c =
     let copied = c.before.before in
     let opened = copied.before.before.before.before in
     let s = opened.before.before.before.before in
-    line_in s.args.list.now s.args.at s.args.end s.args.line.now opened.open-place.new.0
-    copied.copy-columns.new.0
+    line_in s.args.list.now s.args.at s.args.end s.args.line.now opened.open_place.new.0
+    copied.copy_columns.new.0
     s.requires.0
     s.requires.1
     s.requires.2
-    opened.open-place.ensures
-    copied.copy-columns.ensures
+    opened.open_place.ensures
+    copied.copy_columns.ensures
 
 pub put_line_spec : {M : Type 1} → statement M
 put_line_spec =

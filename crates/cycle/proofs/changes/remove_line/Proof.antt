@@ -11,12 +11,12 @@ returns c =
     let blanked = c.before.before in
     let closed = blanked.before.before.before.before in
     let s = closed.before.before.before in
-    line_out s.args.list.now s.args.at s.args.end closed.close-place.new.0 blanked.print-blanks.new.0
+    line_out s.args.list.now s.args.at s.args.end closed.close_place.new.0 blanked.print_blanks.new.0
     s.requires.0
     s.requires.1
-    closed.close-place.auto.0
-    closed.close-place.ensures
-    blanked.print-blanks.ensures
+    closed.close_place.auto.0
+    closed.close_place.ensures
+    blanked.print_blanks.ensures
 
 pub remove_line_spec : {M : Type 1} → statement M
 remove_line_spec =

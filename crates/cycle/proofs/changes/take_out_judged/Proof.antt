@@ -56,34 +56,34 @@ known s = given_passed (set s) (bytes s) s.args.lines (line s) s.requires.0
 
 -- ---- the line is looked for
 
-slice_first_equal : tie.Need-slice-reshare-prefix-first-equal
+slice_first_equal : tie.Need-slice_bounds-first_equal-end
 slice_first_equal c = (known c.before.before.before).places
 
-length_first_equal : tie.Need-slice-aggregate-first-equal
+length_first_equal : tie.Need-slice_bounds-first_equal-end-2
 length_first_equal c =
     let s = c.before.before.before.before in
     sym (length-take-le (line_length * s.args.lines) (bytes s) (known s).places)
 
-first_equal_requires : tie.Need-first-equal-requires
+first_equal_requires : tie.Need-first_equal-place-requires
 first_equal_requires c κs =
     let s = c.before.before.before.before.before.before in
     (length-take-le (line_length * s.args.lines) (bytes s) (known s).places, (known s).few)
 
 -- the entry, seen from behind the search
-abbrev start : tie.After-first-equal → tie.Start
+abbrev start : tie.After-first_equal-place → tie.Start
 start c = c.before.before.before.before.before.before.before
 
-module _ (c : tie.After-first-equal) where
+module _ (c : tie.After-first_equal-place) where
   abbrev s : tie.Start
   s = start c
 
   abbrev place : ℕ
-  place = c.first-equal.result
+  place = c.first_equal-place.result
 
   found : place ≡ place_or s.args.lines (first_from (same_numbers (spelled (line s))) 0 (list_lines (former s)))
   unfolding list_in
   found =
-      c.first-equal.ensures
+      c.first_equal-place.ensures
       ∙ ap (λ l. place_or s.args.lines (first_from (same_numbers l) 0 (list_lines (take (line_length * s.args.lines) (bytes s)))))
       (c.before.spelled_line_lem.ensures ∙ spelled_part (line s) 0)
 
@@ -92,23 +92,23 @@ module _ (c : tie.After-first-equal) where
 
 -- ---- 15
 
-returns : tie.Need-returns
+returns : tie.Need-returns-then-place-lines
 unfolding departure not_in_list
 returns c =
     let s = start c.before in
     change_refused (set s) (bytes s) s.args.lines (line s) (change s) (room s) 15 0 s.args.out.now
-    (own_holds (set s) (bytes s) s.args.lines (line s) (change s) (room s) s.pre.0 0
+    (own_holds (set s) (bytes s) s.args.lines (line s) (change s) (room s) s.requires.0 0
     (line_absent (line s) (former s)
-    (equal_nowhere (line s) (former s) s.args.lines (known s).listed (place c.before) (found c.before) c.if1.true)))
+    (equal_nowhere (line s) (former s) s.args.lines (known s).listed (place c.before) (found c.before) c.if-place-lines.true)))
 
 -- ---- the line is there
 
-abbrev start1 : tie.Else1 → tie.Start
+abbrev start1 : tie.Else-place-lines → tie.Start
 start1 c = start c.before
 
-module _ (c : tie.Else1) where
+module _ (c : tie.Else-place-lines) where
   inside : place c.before < (start1 c).args.lines
-  inside = omega (arith, low c.before, c.if1.false)
+  inside = omega (arith, low c.before, c.if-place-lines.false)
 
   there : any (equals (line (start1 c))) (cut_lines (former (start1 c))) ≡ true
   there =
@@ -126,73 +126,73 @@ module _ (c : tie.Else1) where
   few : (start1 c).args.lines - 1 ≤ lines_most
   few = omega (arith, (known (start1 c)).few)
 
-figures_of_requires : tie.Need-figures-of-requires
+figures_of_requires : tie.Need-figures_of-requires
 figures_of_requires c κs = (Accepted.settings_fit_lem (set (start1 c)) (known (start1 c)).settings, few c)
 
 -- the figures are judged as the changed list is
-judged_list : (c : tie.After-judge-room) → let s = start1 c.before.before in judge (set s) (change s).list (room s) ≡ c.judge-room.result
+judged_list : (c : tie.After-judge_room-judged) → let s = start1 c.before.before in judge (set s) (change s).list (room s) ≡ c.judge_room-judged.result
 judged_list c =
     let e1 = c.before.before in
     let s = start1 e1 in
-    let told = c.before.figures-of.ensures in
+    let told = c.before.figures_of.ensures in
     sym
-    (c.judge-room.ensures
+    (c.judge_room-judged.ensures
     ∙ figures_judged (set s) (change s).list (room s) (s.args.lines - 1) (known s).settings (few e1) (listed e1)
-    c.before.figures-of.result told.0 told.1)
+    c.before.figures_of.result told.0 told.1)
 
-returns_2 : tie.Need-returns-2
+returns_2 : tie.Need-returns-in-Refused
 returns_2 c =
     let call = c.before.before.before in
     let e1 = call.before.before in
     let s = start1 e1 in
     change_refused (set s) (bytes s) s.args.lines (line s) (change s) (room s) _ _ s.args.out.now
-    (judged_refused (set s) (bytes s) s.args.lines (line s) (change s) (room s) s.pre.0 (free e1) (s.args.lines - 1) (known s).settings
-    (few e1) (listed e1) _ _ (judged_list call ∙ c.before.judged.given.1))
+    (judged_refused (set s) (bytes s) s.args.lines (line s) (change s) (room s) s.requires.0 (free e1) (s.args.lines - 1) (known s).settings
+    (few e1) (listed e1) _ _ (judged_list call ∙ c.before.judged-1.given.1))
 
 -- ---- the line is removed
 
-abbrev else1 : tie.After-known-told2 → tie.Else1
+abbrev else1 : tie.In-Cycle → tie.Else-place-lines
 else1 c = c.before.before.before.before.before
 
-abbrev made : tie.After-known-told2 → Figures
-made c = c.before.judged2.given.0.0
+abbrev made : tie.In-Cycle → Figures
+made c = c.before.judged-in-Cycle-1.given.0.0
 
-figured : (c : tie.After-known-told2) → let s = start1 (else1 c) in judge (set s) (change s).list (room s) ≡ Judged.Cycle (made c)
-figured c = judged_list c.before.before.before ∙ c.before.judged2.given.1
+figured : (c : tie.In-Cycle) → let s = start1 (else1 c) in judge (set s) (change s).list (room s) ≡ Judged.Cycle (made c)
+figured c = judged_list c.before.before.before ∙ c.before.judged-in-Cycle-1.given.1
 
-within : (c : tie.Else1) → line_length * place c.before + line_length ≤ line_length * (start1 c).args.lines
+within : (c : tie.Else-place-lines) → line_length * place c.before + line_length ≤ line_length * (start1 c).args.lines
 within c =
     let s = start1 c in
     line_within (bytes s) s.args.lines (line s) (known s).places (known s).listed (place c.before) (found c.before) (inside c)
 
-remove_line_requires : tie.Need-remove-line-requires
+remove_line_requires : tie.Need-remove_line-requires
 remove_line_requires c κs = let e1 = else1 c.before in (within e1, (known (start1 e1)).places)
 
-mul_remove_line : tie.Need-overflow-mul-remove-line
+mul_remove_line : tie.Need-overflow_mul-place
 mul_remove_line c = let e1 = else1 c.before in omega (arith, inside e1, (known (start1 e1)).few)
 
 -- ---- the changed list
 
-abbrev told2 : tie.After-remove-line → tie.After-known-told2
+abbrev told2 : tie.After-remove_line → tie.In-Cycle
 told2 c = c.before.before
 
-changed : (c : tie.After-remove-line) → let s = start1 (else1 (told2 c)) in
-    take (line_length * s.args.lines - line_length) c.remove-line.new.0 ≡ (change s).list
+changed : (c : tie.After-remove_line) → let s = start1 (else1 (told2 c)) in
+    take (line_length * s.args.lines - line_length) c.remove_line.new.0 ≡ (change s).list
 changed c =
     let e1 = else1 (told2 c) in
     let s = start1 e1 in
-    ap (take (line_length * s.args.lines - line_length)) c.remove-line.ensures
+    ap (take (line_length * s.args.lines - line_length)) c.remove_line.ensures
     ∙ gone_front (bytes s) s.args.lines (line s) (known s).places (known s).listed (place e1.before) (found e1.before) (inside e1)
 
-roomy : (c : tie.After-remove-line) → let s = start1 (else1 (told2 c)) in
-    line_length * s.args.lines - line_length ≤ length c.remove-line.new.0
-roomy c = omega (arith, (known (start1 (else1 (told2 c)))).places, c.remove-line.auto.0)
+roomy : (c : tie.After-remove_line) → let s = start1 (else1 (told2 c)) in
+    line_length * s.args.lines - line_length ≤ length c.remove_line.new.0
+roomy c = omega (arith, (known (start1 (else1 (told2 c)))).places, c.remove_line.auto.0)
 
-slice_send : tie.Need-slice-reshare-prefix-send
+slice_send : tie.Need-slice_bounds-send-end
 slice_send c = roomy c.before.before
 
-length_send : tie.Need-slice-aggregate-send
-length_send c = sym (length-take-le _ c.before.before.before.remove-line.new.0 (roomy c.before.before.before))
+length_send : tie.Need-slice_bounds-send-end-in-Cycle
+length_send c = sym (length-take-le _ c.before.before.before.remove_line.new.0 (roomy c.before.before.before))
 
 send_requires : tie.Need-send-requires
 unfolding departure
@@ -203,10 +203,10 @@ send_requires c κs =
     let sent = sending_judged (set s) (change s).list (room s) (made told) (figured told) in (
       subst (AcceptedList (made told)) (sym (changed gone)) sent.0,
       sent.1,
-      λ e. subst PlainList (sym (changed gone)) (taken_plain (line s) (former s) s.args.lines (known s).listed (s.pre.1 e)),
+      λ e. subst PlainList (sym (changed gone)) (taken_plain (line s) (former s) s.args.lines (known s).listed (s.requires.1 e)),
     )
 
-returns_3 : tie.Need-returns-3
+returns_3 : tie.Need-returns-in-Cycle
 returns_3 c =
     let call = c.before.before in
     let gone = call.before.before.before.before.before in
@@ -215,10 +215,10 @@ returns_3 c =
     let s = start1 e1 in
     let f = made told in
     let all =
-    change_sent (set s) (bytes s) s.args.lines (line s) (change s) (room s) s.pre.0 (free e1) (s.args.lines - 1) (known s).settings
+    change_sent (set s) (bytes s) s.args.lines (line s) (change s) (room s) s.requires.0 (free e1) (s.args.lines - 1) (known s).settings
     (few e1) (listed e1) f s.args.out.now (figured told) refl in (
       ap numbers call.send.ensures.0 ∙ all.0,
-      gone.remove-line.ensures
+      gone.remove_line.ensures
           ∙ line_gone (bytes s) s.args.lines (line s) (known s).places (known s).listed (place e1.before) (found e1.before) (inside e1)
           ∙ all.1,
       call.send.ensures.1 ∙ ap (λ (l : List ℕ). written (plan_in f InList l) s.args.out.now 0 f.size) (changed gone) ∙ all.2,

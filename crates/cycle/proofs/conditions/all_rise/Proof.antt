@@ -24,15 +24,15 @@ use Rattle.cycle.proofs.Building.Refusals.{all_plain, count_lines, plain_read, p
 use Rattle.cycle.proofs.conditions.all_rise.Statement.{statement}
 use Rattle.cycle.proofs.conditions.all_rise.Tie as tie
 
-abbrev invariant-loop : tie.invariant-loop
-invariant-loop list lines plain last₀ i₀ last i =
+abbrev invariant-loop-i : tie.invariant-loop-i
+invariant-loop-i list lines plain last₀ i₀ last i =
     (i ≤ lines) ×
     (misprint_from 0 (cut_lines list) ≡ misprint_from i (drop i (cut_lines list))) ×
     (fall_from 0 0 (list_lines list) ≡ fall_from i last (drop i (list_lines list))) ×
     (plain ≡ true → all_plain (take i (cut_lines list)) ≡ true)
 
-abbrev decreases-loop : tie.decreases-loop
-decreases-loop list lines plain last₀ i₀ last i = lines - i
+abbrev decreases-loop-i : tie.decreases-loop-i
+decreases-loop-i list lines plain last₀ i₀ last i = lines - i
 
 wide : (a : ℕ) → a + line_length - a ≡ line_length
 wide a = omega arith
@@ -75,7 +75,7 @@ tag_spelled : (s : List ℕ) → (spelled (take line_length s)).tag ≡ value 0 
 unfolding spelled
 tag_spelled s = ap (λ k. k.tag) (spelled_front line_length s (omega arith))
 
-loop_again : tie.Need-loop-preserved invariant-loop decreases-loop
+loop_again : tie.Need-loop-i-preserved invariant-loop-i decreases-loop-i
 loop_again c =
     let met = c.before in
     let call = met.before in
@@ -85,15 +85,15 @@ loop_again c =
     let list = start.args.list.now in
     let lines = start.args.lines in
     let i = loop.loop.i in
-    let told = line_told start.args.plain (line_length * i) (drop (line_length * i) list) call.tag_read.ensures met.if1.false in (
+    let told = line_told start.args.plain (line_length * i) (drop (line_length * i) list) call.tag_read-tag.ensures met.if-tag.false in (
       omega arith,
-      line_read list lines start.requires.0 i loop.loop.invariant.1 turn.loop-test.true told.reads,
-      tag_rises list lines start.requires.0 i loop.loop.last loop.loop.invariant.2 turn.loop-test.true
-          call.tag_read.result (told.tag_is ∙ tag_spelled (drop (line_length * i) list)) c.if2.false,
-      λ e. plain_read list lines start.requires.0 i (loop.loop.invariant.3 e) turn.loop-test.true (told.reads_plain e),
+      line_read list lines start.requires.0 i loop.loop.invariant.1 turn.loop-i-test.true told.reads,
+      tag_rises list lines start.requires.0 i loop.loop.last loop.loop.invariant.2 turn.loop-i-test.true
+          call.tag_read-tag.result (told.tag_is ∙ tag_spelled (drop (line_length * i) list)) c.if-tag-last.false,
+      λ e. plain_read list lines start.requires.0 i (loop.loop.invariant.3 e) turn.loop-i-test.true (told.reads_plain e),
     )
 
-returns_3 : tie.Need-returns-3 invariant-loop decreases-loop
+returns_3 : tie.Need-returns invariant-loop-i decreases-loop-i
 returns_3 c told =
     let loop = c.before in
     let start = loop.before.before in
@@ -101,16 +101,16 @@ returns_3 c told =
     let lines = start.args.lines in
     let i = loop.loop.i in (
       no_place_misprint 0 (cut_lines list) lines (omega (arith, length_cut_lines list, count_lines list lines start.requires.0))
-          (omega (arith, lines_read_lem list lines start.requires.0 i loop.loop.invariant.1 c.loop-test.false)),
+          (omega (arith, lines_read_lem list lines start.requires.0 i loop.loop.invariant.1 c.loop-i-test.false)),
       no_place_fall 0 0 (list_lines list) lines (omega (arith, length_list_lines list, count_lines list lines start.requires.0))
-          (omega (arith, tags_rise list lines start.requires.0 i loop.loop.last loop.loop.invariant.2 c.loop-test.false)),
-      λ e. plains_read list lines start.requires.0 i (loop.loop.invariant.3 e) c.loop-test.false,
+          (omega (arith, tags_rise list lines start.requires.0 i loop.loop.last loop.loop.invariant.2 c.loop-i-test.false)),
+      λ e. plains_read list lines start.requires.0 i (loop.loop.invariant.3 e) c.loop-i-test.false,
     )
 
 pub all_rise_spec : {M : Type 1} → statement M
 all_rise_spec =
     tie.close
-    (tie.spec invariant-loop decreases-loop
+    (tie.spec invariant-loop-i decreases-loop-i
     (λ c. (omega arith, refl, refl, λ e. refl))
     (λ c. omega arith) (λ c. omega arith) (λ c. omega arith) (λ c. omega arith) (λ c. omega arith) (λ c κs. tt)
     (λ c e. absurd (true≢false (sym e)))

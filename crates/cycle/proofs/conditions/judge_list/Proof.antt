@@ -33,30 +33,30 @@ abbrev bytes : tie.Start → List ℕ
 bytes s = s.args.list.now
 
 -- the entry, seen from behind each test
-abbrev start1 : tie.Else1 → tie.Start
+abbrev start1 : tie.Else-not-settings_fit → tie.Start
 start1 c = c.before.before.before
 
-abbrev start3 : tie.Else3 → tie.Start
+abbrev start3 : tie.Else-lines-gt-LINES_MOST → tie.Start
 start3 c = start1 c.before.before
 
 -- what does not hold, at each place
-tested : (c : tie.After-settings-fit) → settings_fit (set c.before.before) ≡ c.settings_fit_lem.result
+tested : (c : tie.After-settings_fit) → settings_fit (set c.before.before) ≡ c.settings_fit_lem.result
 tested c =
     let s = c.before.before in
     any_copies s.args.n s.args.p s.args.layout 0 s.args.copies ∙ sym c.settings_fit_lem.ensures
 
-fit1 : (c : tie.Else1) → settings_fit (set (start1 c)) ≡ true
-fit1 c = tested c.before ∙ not-false _ c.if1.false
+fit1 : (c : tie.Else-not-settings_fit) → settings_fit (set (start1 c)) ≡ true
+fit1 c = tested c.before ∙ not-false _ c.if-not-settings_fit.false-raw
 
-fit3 : (c : tie.Else3) → settings_fit (set (start3 c)) ≡ true
+fit3 : (c : tie.Else-lines-gt-LINES_MOST) → settings_fit (set (start3 c)) ≡ true
 fit3 c = fit1 c.before.before
 
-whole3 : (c : tie.Else3) → whole_lines (length (bytes (start3 c))) ≡ true
-whole3 c = lines_fit (length (bytes (start3 c))) c.before.if2.false (omega (arith, c.if3.false))
+whole3 : (c : tie.Else-lines-gt-LINES_MOST) → whole_lines (length (bytes (start3 c))) ≡ true
+whole3 c = lines_fit (length (bytes (start3 c))) c.before.if-length-ne0.false (omega (arith, c.if-lines-gt-LINES_MOST.false))
 
 -- what was found of the lines
-lines_told : (c : tie.After-judge-lines) {r : LinesJudged} → c.judge-lines.result ≡ r → LinesTold (bytes (start3 c.before)) r
-lines_told c e = subst (LinesTold (bytes (start3 c.before))) e c.judge-lines.ensures
+lines_told : (c : tie.After-judge_lines-told) {r : LinesJudged} → c.judge_lines-told.result ≡ r → LinesTold (bytes (start3 c.before)) r
+lines_told c e = subst (LinesTold (bytes (start3 c.before))) e c.judge_lines-told.ensures
 
 -- what a refusal answers
 refuses :
@@ -69,54 +69,54 @@ refuses s told e = (
   λ t. absurd (true≢false (sym t ∙ told.1)),
 )
 
-returns : tie.Need-returns
+returns : tie.Need-returns-then-not-settings_fit
 returns c =
     let met = c.before.before in
     let s = met.before.before in
     refuses s c.refused.ensures
-    (refused_1 (set s) (bytes s) s.args.room (tested met ∙ not-true _ c.before.if1.true))
+    (refused_1 (set s) (bytes s) s.args.room (tested met ∙ not-true _ c.before.if-not-settings_fit.true-raw))
 
-returns_2 : tie.Need-returns-2
+returns_2 : tie.Need-returns-then-length-ne0
 returns_2 c =
     let met = c.before.before in
     let s = start1 met in
-    refuses s c.refused2.ensures
-    (refused_2 (set s) (bytes s) s.args.room (fit1 met) (no_multiple (length (bytes s)) c.before.if2.true))
+    refuses s c.refused-then-length-ne0.ensures
+    (refused_2 (set s) (bytes s) s.args.room (fit1 met) (no_multiple (length (bytes s)) c.before.if-length-ne0.true))
 
-returns_3 : tie.Need-returns-3
+returns_3 : tie.Need-returns-then-lines-gt-LINES_MOST
 returns_3 c =
     let met = c.before.before in
     let s = start1 met.before in
-    refuses s c.refused3.ensures
+    refuses s c.refused-then-lines-gt-LINES_MOST.ensures
     (refused_2 (set s) (bytes s) s.args.room (fit1 met.before)
-    (too_long (length (bytes s)) met.if2.false (omega (arith, c.before.if3.true))))
+    (too_long (length (bytes s)) met.if-length-ne0.false (omega (arith, c.before.if-lines-gt-LINES_MOST.true))))
 
-figures_of_requires : tie.Need-figures-of-requires
+figures_of_requires : tie.Need-figures_of-requires
 figures_of_requires c κs =
     let e3 = c.before.before.before.before in
-    (Accepted.settings_fit_lem (set (start3 e3)) (fit3 e3), omega (arith, e3.if3.false))
+    (Accepted.settings_fit_lem (set (start3 e3)) (fit3 e3), omega (arith, e3.if-lines-gt-LINES_MOST.false))
 
-returns_4 : tie.Need-returns-4
+returns_4 : tie.Need-returns-in-Misprinted
 returns_4 c =
     let found = c.before.before in
     let call = found.before.before in
     let e3 = call.before in
     let s = start3 e3 in
-    refuses s c.refused4.ensures
+    refuses s c.refused-in-Misprinted.ensures
     (refused_3 (set s) (bytes s) s.args.room (fit3 e3) (whole3 e3) _ (lines_told call found.told.given.1))
 
-returns_5 : tie.Need-returns-5
+returns_5 : tie.Need-returns-in-Falls
 returns_5 c =
     let found = c.before.before in
     let call = found.before.before in
     let e3 = call.before in
     let s = start3 e3 in
-    let lines = lines_told call found.told2.given.1 in
-    refuses s c.refused5.ensures
+    let lines = lines_told call found.told-in-Falls-1.given.1 in
+    refuses s c.refused-in-Falls.ensures
     (refused_4 (set s) (bytes s) s.args.room (fit3 e3) (whole3 e3) _ lines.0 lines.1)
 
 -- figures that the settings and the list's length give are judged as the list is
-returns_6 : tie.Need-returns-6
+returns_6 : tie.Need-returns-in-Passed
 returns_6 c =
     let made = c.before in
     let found = made.before.before in
@@ -124,14 +124,14 @@ returns_6 c =
     let e3 = call.before in
     let s = start3 e3 in
     let list = bytes s in
-    let risen = lines_told call found.told3.given.1 in
-    let told = made.figures-of.ensures in
+    let risen = lines_told call found.told-in-Passed-1.given.1 in
+    let told = made.figures_of.ensures in
     let lines = told.1 ∙ sym (length_list_lines list) in (
       ap Judging.numbers
-          (c.judge-room.ensures
-          ∙ room_judged made.figures-of.result (set s) list s.args.room
+          (c.judge_room-judged.ensures
+          ∙ room_judged made.figures_of.result (set s) list s.args.room
           (passed (set s) list s.args.room (fit3 e3) (whole3 e3) risen.0 risen.1)
-          (plan_same (set s) made.figures-of.result (list_lines list) told.0 (sym lines))
+          (plan_same (set s) made.figures_of.result (list_lines list) told.0 (sym lines))
           lines),
       risen.2,
     )

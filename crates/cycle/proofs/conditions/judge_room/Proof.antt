@@ -24,49 +24,49 @@ whole s = sized s.args.f (cycle_size (planned s))
 
 -- ---- the figures pass 5 and 6
 
-abbrev call : tie.After-known-told2 → tie.After-judge-figures
+abbrev call : tie.In-Cycle → tie.After-judge_figures-judged
 call c = c.before.before.before
 
-abbrev made : tie.After-known-told2 → Figures
-made c = c.before.judged2.given.0.0
+abbrev made : tie.In-Cycle → Figures
+made c = c.before.judged-in-Cycle-1.given.0.0
 
 passed :
-    (c : tie.After-known-told2) →
+    (c : tie.In-Cycle) →
     (first_refusal (size_conditions (planned (call c).before)) ≡ none) × (whole (call c).before ≡ made c)
 passed c =
     judged_cycle (first_refusal (size_conditions (planned (call c).before))) (whole (call c).before) (made c)
-    (sym (call c).judge-figures.ensures ∙ c.before.judged2.given.1)
+    (sym (call c).judge_figures-judged.ensures ∙ c.before.judged-in-Cycle-1.given.1)
 
-size_is : (c : tie.After-known-told2) → (made c).size ≡ cycle_size (planned (call c).before)
+size_is : (c : tie.In-Cycle) → (made c).size ≡ cycle_size (planned (call c).before)
 size_is c = sym (ap (λ (g : Figures). g.size) (passed c).1) ∙ size_held (call c).before.args.f _
 
-mul_if1 : tie.Need-overflow-mul-if1
+mul_if1 : tie.Need-overflow_mul-sized
 mul_if1 c =
     let told = c.before in
     omega (arith, size_is told, size_short (planned (call told).before) (passed told).0)
 
-returns : tie.Need-returns
+returns : tie.Need-returns-then-room-sized
 returns c =
     let told = c.before.before in
     let s = (call told).before in
     refusal_judged 7 0 _ (whole s)
-    (refused_7 (planned s) s.args.room (passed told).0 (omega (arith, size_is told, c.if1.true)))
+    (refused_7 (planned s) s.args.room (passed told).0 (omega (arith, size_is told, c.if-room-sized.true)))
 
-returns_2 : tie.Need-returns-2
+returns_2 : tie.Need-returns-in-Refused
 returns_2 c =
     let figures = c.before.before.before in
     let s = figures.before in
     refusal_judged _ _ _ (whole s)
     (refused_before_7 (planned s) s.args.room _
     (judged_refusal (first_refusal (size_conditions (planned s))) (whole s) _ _
-    (sym figures.judge-figures.ensures ∙ c.before.judged.given.1)))
+    (sym figures.judge_figures-judged.ensures ∙ c.before.judged-1.given.1)))
 
-returns_3 : tie.Need-returns-3
+returns_3 : tie.Need-returns-else-room-sized
 returns_3 c =
     let told = c.before.before in
     let s = (call told).before in
     cycle_judged _ (whole s) _
-    (plan_passed (planned s) s.args.room (passed told).0 (omega (arith, size_is told, c.if1.false))) (sym (passed told).1)
+    (plan_passed (planned s) s.args.room (passed told).0 (omega (arith, size_is told, c.if-room-sized.false))) (sym (passed told).1)
 
 pub judge_room_spec : {M : Type 1} → statement M
 judge_room_spec =

@@ -16,15 +16,15 @@ use Rattle.cycle.proofs.conditions.tag_read.Tie as tie
 abbrev told : List ℕ → Bool → ℕ
 told s plain = tag_or_misprint (pick plain (read_plain s) (read_line s))
 
-returns : tie.Need-returns
+returns : tie.Need-returns-then-plain
 returns c =
     let met = c.before in
-    c.plain-tag.ensures ∙ sym (ap (told met.before.before.args.part.now) met.if1.true)
+    c.plain_tag.ensures ∙ sym (ap (told met.before.before.args.part.now) met.if-plain.true)
 
-returns_2 : tie.Need-returns-2
+returns_2 : tie.Need-returns
 returns_2 c =
     let met = c.before in
-    c.line-tag.ensures ∙ sym (ap (told met.before.before.args.part.now) met.if1.false)
+    c.line_tag.ensures ∙ sym (ap (told met.before.before.args.part.now) met.if-plain.false)
 
 pub tag_read_spec : {M : Type 1} → statement M
 tag_read_spec = tie.close (tie.spec (λ c κs. search rules) returns (λ c κs. search rules) returns_2)

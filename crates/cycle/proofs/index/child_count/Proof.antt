@@ -35,48 +35,48 @@ counted :
     ≡ min (c.args.j * c.args.f.n + c.args.f.n) (up c.args.f.d (span c)) - c.args.j * c.args.f.n
 counted c = children_count c.args.f c.requires.0 c.args.e c.args.j c.requires.1 c.requires.2
 
-power_requires : tie.Need-power-requires
+power_requires : tie.Need-power-span-requires
 power_requires c κs = let s = c.before in (s.requires.0.shaped.n_low, s.requires.0.shaped.n_high, omega (arith, (at s).height))
 
-mul_if1 : tie.Need-overflow-mul-if1
+mul_if1 : tie.Need-overflow_mul-from-2
 mul_if1 c =
     let s = c.before.before.before in
     let m : (s.args.j * s.args.f.n + s.args.f.n) * span s ≤ (span_most + entries_most) * span_most =
     mul-le-mul {n₂ = span_most + entries_most} {m₂ = span_most} (omega (arith, small s, s.requires.0.shaped.n_high)) ((at s).small (s.args.e - 1) (omega arith)) in
-    rw c.before.power.ensures (omega arith)
+    rw c.before.power-span.ensures (omega arith)
 
-returns : tie.Need-returns
+returns : tie.Need-returns-then-from-f
 returns c =
     let s = c.before.before.before.before.before in
     let from : ℕ = s.args.j * s.args.f.n in
-    let full : (from + s.args.f.n) * span s ≤ s.args.f.d = rw (sym c.before.before.before.power.ensures) c.if1.true in
+    let full : (from + s.args.f.n) * span s ≤ s.args.f.d = rw (sym c.before.before.before.power-span.ensures) c.if-from-f.true in
     let wide : from + s.args.f.n ≤ up s.args.f.d (span s) = le_up s.args.f.d (span s) (from + s.args.f.n) (some s) full in
     rw (counted s) (omega arith)
 
-up_requires : tie.Need-up-requires
+up_requires : tie.Need-up-behind-requires
 up_requires c κs =
     let s = c.before.before.before.before.before in
-    rw c.before.before.before.power.ensures (some s, omega (arith, (at s).small (s.args.e - 1) (omega arith), (at s).few))
+    rw c.before.before.before.power-span.ensures (some s, omega (arith, (at s).small (s.args.e - 1) (omega arith), (at s).few))
 
 -- where a child is missing, the children's level ends with this bucket's
 ends :
-    (c : tie.After-up) →
+    (c : tie.After-up-behind) →
     let s = c.before.before.before.before.before.before in
-    (c.up.result ≡ up s.args.f.d (span s)) × (up s.args.f.d (span s) ≤ s.args.j * s.args.f.n + s.args.f.n)
+    (c.up-behind.result ≡ up s.args.f.d (span s)) × (up s.args.f.d (span s) ≤ s.args.j * s.args.f.n + s.args.f.n)
 ends c =
     let s = c.before.before.before.before.before.before in
-    let p = c.before.before.before.before.power.ensures in
+    let p = c.before.before.before.before.power-span.ensures in
     let to : ℕ = s.args.j * s.args.f.n + s.args.f.n in
-    let short : s.args.f.d < to * span s = rw (sym p) c.before.if1.false in
-    (c.up.ensures ∙ ap (up s.args.f.d) p, up_least s.args.f.d (span s) to (some s) (omega arith))
+    let short : s.args.f.d < to * span s = rw (sym p) c.before.if-from-f.false in
+    (c.up-behind.ensures ∙ ap (up s.args.f.d) p, up_least s.args.f.d (span s) to (some s) (omega arith))
 
-returns_2 : tie.Need-returns-2
+returns_2 : tie.Need-returns-then-behind-from
 returns_2 c =
     let s = c.before.before.before.before.before.before.before in
     let e = ends c.before in
-    rw (counted s) (omega (arith, c.if2.true))
+    rw (counted s) (omega (arith, c.if-behind-from.true))
 
-returns_3 : tie.Need-returns-3
+returns_3 : tie.Need-returns
 returns_3 c =
     let s = c.before.before.before.before.before.before.before in
     let e = ends c.before in

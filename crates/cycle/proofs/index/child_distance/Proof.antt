@@ -36,14 +36,14 @@ bounds c =
       few_children = few f c.requires.0 c.args.e c.args.j p.low p.inside c.args.i c.requires.1.1.1.1;
     }
 
-first_place_requires : tie.Need-first-place-requires
+first_place_requires : tie.Need-first_place-requires
 unfolding plan_of
 first_place_requires c κs =
     let s = c.before.before.before.before in
     let f = s.args.f in
     let p = place s in
     let b = bounds s in
-    let above = c.before.before.if1.true in
+    let above = c.before.before.if-s-e.true in
     let one : f.layout ≡ 1 = p.on_path_lem above in
     let tall : s.args.s.height ≡ f.k - f.copies = (s.requires.1.0 []).height_is ∙ rw (eq-eqb f.layout 1 one) in
     let height : s.args.e - 1 ≡ f.k + 1 - (f.k + 2 - s.args.e) = omega (arith, b) in (
@@ -63,26 +63,26 @@ ahead_requires c κs =
 told : (c : tie.Start) → tree_height (plan_of c.args.f []) ≡ c.args.s.height
 told c = sym (c.requires.1.0 []).height_is
 
-returns : tie.Need-returns
+returns : tie.Need-returns-then-s-e
 unfolding child_distance plan_of
 returns c =
     let s = c.before.before.before.before.before.before in
     let f = s.args.f in
     c.ahead.ensures
     ∙ ap (ahead_of f.size s.args.x) c.before.first_place_lem.ensures
-    ∙ sym (rw (lt-ltb (tree_height (plan_of f [])) s.args.e (omega (arith, told s, c.before.before.before.before.if1.true))))
+    ∙ sym (rw (lt-ltb (tree_height (plan_of f [])) s.args.e (omega (arith, told s, c.before.before.before.before.if-s-e.true))))
 
-tree_distance_requires : tie.Need-tree-distance-requires
+tree_distance_requires : tie.Need-tree_distance-requires
 tree_distance_requires c κs =
     let s = c.before.before in
-    (s.requires.0, (s.requires.1.0, ((place s).in_tree (omega (arith, c.if1.false)), (s.requires.1.1.1.0, s.requires.1.1.1.1))))
+    (s.requires.0, (s.requires.1.0, ((place s).in_tree (omega (arith, c.if-s-e.false)), (s.requires.1.1.1.0, s.requires.1.1.1.1))))
 
-returns_2 : tie.Need-returns-2
+returns_2 : tie.Need-returns
 unfolding child_distance
 returns_2 c =
     let s = c.before.before.before in
-    c.tree-distance.ensures
-    ∙ sym (rw (le-ltb (tree_height (plan_of s.args.f [])) s.args.e (omega (arith, told s, c.before.if1.false))))
+    c.tree_distance.ensures
+    ∙ sym (rw (le-ltb (tree_height (plan_of s.args.f [])) s.args.e (omega (arith, told s, c.before.if-s-e.false))))
 
 pub child_distance_spec : {M : Type 1} → statement M
 child_distance_spec =

@@ -21,11 +21,11 @@ at c = reached c.args.f (c.args.f.k + 1 - c.args.level) c.args.place c.requires.
 bounds : (c : tie.Start) → (c.args.f.copies ≤ pairs_most) × (c.args.f.copies + 1 ≤ c.args.f.k) × (c.args.f.k ≤ levels_most)
 bounds c = few_copies c.args.f c.requires.0 c.requires.2
 
-returns : tie.Need-returns
+returns : tie.Need-returns-then-sibling-f-eq0
 unfolding plan_of
 returns c =
     let s = c.before.before.before.before in
-    sym (reach_last (plan_of s.args.f []) s.args.f.size s.args.x s.args.level s.args.place c.before.if1.true)
+    sym (reach_last (plan_of s.args.f []) s.args.f.size s.args.x s.args.level s.args.place c.before.if-sibling-f-eq0.true)
 
 power_requires : tie.Need-power-requires
 power_requires c κs =
@@ -47,7 +47,7 @@ wide c =
     ∙ ap (up s.args.f.d) c.before.power.ensures
     ∙ sym (level_width s.args.f s.requires.0 s.requires.2 s.args.level (omega (arith, s.requires.3)) (omega (arith, s.requires.4)))
 
-first_place_requires : tie.Need-first-place-requires
+first_place_requires : tie.Need-first_place-requires
 first_place_requires c κs =
     let s = c.before.before.before.before.before.before in (
       s.requires.0,
@@ -55,35 +55,35 @@ first_place_requires c κs =
       omega (arith, s.requires.3),
       omega (arith, s.requires.4),
       width_inside s.args.f s.requires.0 s.requires.2 s.args.level (omega (arith, s.requires.3)) (omega (arith, s.requires.4)) (s.args.place + 1)
-          (omega (arith, wide c.before, c.if2.true)),
+          (omega (arith, wide c.before, c.if-sibling-up.true)),
     )
 
 -- the place of the next bucket is ahead
-ahead : (c : tie.After-first-place) → c.before.before.before.before.before.before.before.args.x < c.first_place_lem.result
+ahead : (c : tie.After-first_place) → c.before.before.before.before.before.before.before.args.x < c.first_place_lem.result
 ahead c =
     let s = c.before.before.before.before.before.before.before in
     omega (
       arith,
       c.first_place_lem.ensures,
-      s.requires.7 (omega (arith, wide c.before.before, c.before.if2.true)) c.before.before.before.before.if1.false,
+      s.requires.7 (omega (arith, wide c.before.before, c.before.if-sibling-up.true)) c.before.before.before.before.if-sibling-f-eq0.false,
     )
 
-returns_2 : tie.Need-returns-2
+returns_2 : tie.Need-returns-then-sibling-up
 unfolding plan_of
 returns_2 c =
     let s = c.before.before.before.before.before.before.before in
     ap (λ z. z - 1 - s.args.x) c.first_place_lem.ensures
     ∙ sym
-    (reach_turn (plan_of s.args.f []) s.args.f.size s.args.x s.args.level s.args.place c.before.before.before.before.if1.false
-    (omega (arith, wide c.before.before, c.before.if2.true)))
+    (reach_turn (plan_of s.args.f []) s.args.f.size s.args.x s.args.level s.args.place c.before.before.before.before.if-sibling-f-eq0.false
+    (omega (arith, wide c.before.before, c.before.if-sibling-up.true)))
 
-returns_3 : tie.Need-returns-3
+returns_3 : tie.Need-returns
 unfolding plan_of
 returns_3 c =
     let s = c.before.before.before.before.before.before.before in
     sym
-    (reach_end (plan_of s.args.f []) s.args.f.size s.args.x s.args.level s.args.place c.before.before.before.before.if1.false
-    (omega (arith, wide c.before.before, c.before.if2.false)))
+    (reach_end (plan_of s.args.f []) s.args.f.size s.args.x s.args.level s.args.place c.before.before.before.before.if-sibling-f-eq0.false
+    (omega (arith, wide c.before.before, c.before.if-sibling-up.false)))
 
 pub pair_distance_spec : {M : Type 1} → statement M
 pair_distance_spec =

@@ -20,31 +20,31 @@ use Rattle.cycle.proofs.Reach.PairReach.{reach_ahead}
 use Rattle.cycle.proofs.index.pair_distances.Statement.{statement}
 use Rattle.cycle.proofs.index.pair_distances.Tie as tie
 
-abbrev invariant-loop : tie.invariant-loop
-invariant-loop f b i x distances₀ level₀ distances level =
+abbrev invariant-loop-level : tie.invariant-loop-level
+invariant-loop-level f b i x distances₀ level₀ distances level =
     (2 ≤ level)
     × (level ≤ i + 1)
     × (distances
     ≡ filled pairs_most ((f.size - x) ∷ map (λ j. pair_reach (plan_of f []) f.size x j (place_over (plan_of f []) b j)) (range 2 level)))
 
-abbrev decreases-loop : tie.decreases-loop
-decreases-loop f b i x distances₀ level₀ distances level = i + 1 - level
+abbrev decreases-loop-level : tie.decreases-loop-level
+decreases-loop-level f b i x distances₀ level₀ distances level = i + 1 - level
 
-one : (c : tie.Start invariant-loop decreases-loop) → c.args.f.layout ≡ 1
+one : (c : tie.Start invariant-loop-level decreases-loop-level) → c.args.f.layout ≡ 1
 unfolding plan_of
 one c = c.requires.3.distributed
 
-bounds : (c : tie.Start invariant-loop decreases-loop) → (c.args.f.copies ≤ pairs_most) × (c.args.f.copies + 1 ≤ c.args.f.k) × (c.args.f.k ≤ levels_most)
+bounds : (c : tie.Start invariant-loop-level decreases-loop-level) → (c.args.f.copies ≤ pairs_most) × (c.args.f.copies + 1 ≤ c.args.f.k) × (c.args.f.k ≤ levels_most)
 bounds c = few_copies c.args.f c.requires.0 (one c)
 
-high : (c : tie.Start invariant-loop decreases-loop) → c.args.i ≤ c.args.f.copies
+high : (c : tie.Start invariant-loop-level decreases-loop-level) → c.args.i ≤ c.args.f.copies
 unfolding plan_of
 high c = c.requires.3.high
 
-sub_t9 : tie.Need-overflow-sub-t9 invariant-loop decreases-loop
+sub_t9 : tie.Need-overflow_sub-distances invariant-loop-level decreases-loop-level
 sub_t9 c = omega arith
 
-loop_holds : tie.Need-loop-init invariant-loop decreases-loop
+loop_holds : tie.Need-loop-level-init invariant-loop-level decreases-loop-level
 unfolding filled plan_of
 loop_holds c =
     let s = c.before in (
@@ -53,24 +53,24 @@ loop_holds c =
       refl,
     )
 
-add_h : tie.Need-overflow-add-h invariant-loop decreases-loop
+add_h : tie.Need-overflow_add-h invariant-loop-level decreases-loop-level
 add_h c = omega (arith, (bounds c.before.before.before.before).0)
 
-sub_h : tie.Need-overflow-sub-h invariant-loop decreases-loop
+sub_h : tie.Need-overflow_sub-h invariant-loop-level decreases-loop-level
 sub_h c = omega (arith, high c.before.before.before.before)
 
-sub_at : tie.Need-overflow-sub-at invariant-loop decreases-loop
+sub_at : tie.Need-overflow_sub-at invariant-loop-level decreases-loop-level
 sub_at c = omega arith
 
-power_requires : tie.Need-power-requires invariant-loop decreases-loop
+power_requires : tie.Need-power-requires invariant-loop-level decreases-loop-level
 power_requires c κs =
     let s = c.before.before.before.before in
     (s.requires.0.shaped.n_low, s.requires.0.shaped.n_high, omega (arith, (bounds s).0))
 
-div_pair_distance : tie.Need-nonzero-div-pair-distance invariant-loop decreases-loop
+div_pair_distance : tie.Need-nonzero_div-b invariant-loop-level decreases-loop-level
 div_pair_distance c =
     let s = c.before.before.before.before.before in
-    power_some s.args.f s.requires.0 (one s) c.before.before.before.loop.level (omega arith) (omega (arith, high s)) c.power.result c.power.ensures
+    power_some s.args.f s.requires.0 (one s) c.before.before.before.loop-level.level (omega arith) (omega (arith, high s)) c.power.result c.power.ensures
 
 -- the next bucket of the pair's level is ahead
 reaches :
@@ -84,12 +84,12 @@ reaches f ready d b i x j p low to more apart =
     rw (path_here p)
     (reach_ahead t (sound f [] ready.shaped ready.copies_fit_lem) d b i (block_count t - suc b) p.top p.high (omega arith) j low to apart more)
 
-pair_distance_requires : tie.Need-pair-distance-requires invariant-loop decreases-loop
+pair_distance_requires : tie.Need-pair_distance-requires invariant-loop-level decreases-loop-level
 pair_distance_requires c κs =
     let s = c.before.before.before.before.before in
     let f = s.args.f in
     let b : ℕ = s.args.b in
-    let level : ℕ = c.before.before.before.loop.level in
+    let level : ℕ = c.before.before.before.loop-level.level in
     let low : 1 ≤ level = omega arith in
     let end : level ≤ f.copies + 1 = omega (arith, high s) in
     let over = place_over_lem f s.requires.0 (one s) level low end [] b c.power.result c.power.ensures in (
@@ -103,39 +103,39 @@ pair_distance_requires c κs =
       rw over (reaches f s.requires.0 (one s) b s.args.i s.args.x level s.requires.3 (omega arith) (omega arith)),
     )
 
-mul_distances : tie.Need-overflow-mul-distances invariant-loop decreases-loop
+mul_distances : tie.Need-offset_bounds-distances-at invariant-loop-level decreases-loop-level
 mul_distances c = let s = c.before.before.before.before.before.before in omega (arith, (bounds s).0, high s)
 
-array_write_distances : tie.Need-array-write-distances invariant-loop decreases-loop
+array_write_distances : tie.Need-bounds-distances-at invariant-loop-level decreases-loop-level
 array_write_distances c = let s = c.before.before.before.before.before.before in omega (arith, (bounds s).0, high s)
 
-add_level : tie.Need-overflow-add-level invariant-loop decreases-loop
+add_level : tie.Need-overflow_add-level invariant-loop-level decreases-loop-level
 add_level c = let s = c.before.before.before.before.before.before in omega (arith, (bounds s).0, high s)
 
-loop_less : tie.Need-loop-smaller invariant-loop decreases-loop
+loop_less : tie.Need-loop-level-smaller invariant-loop-level decreases-loop-level
 loop_less c = omega arith
 
-loop_again : tie.Need-loop-preserved invariant-loop decreases-loop
+loop_again : tie.Need-loop-level-preserved invariant-loop-level decreases-loop-level
 loop_again c =
     let s = c.before.before.before.before.before.before in
-    let l = c.before.before.before.before.loop in
+    let l = c.before.before.before.before.loop-level in
     let f = s.args.f in
     let t = plan_of f [] in
     let level : ℕ = l.level in (
       omega arith,
       omega arith,
-      fill_turn_behind pairs_most (λ j. pair_reach t f.size s.args.x j (place_over t s.args.b j)) (f.size - s.args.x) level c.pair-distance.result l.distances l.invariant.2
-          (c.pair-distance.ensures
+      fill_turn_behind pairs_most (λ j. pair_reach t f.size s.args.x j (place_over t s.args.b j)) (f.size - s.args.x) level c.pair_distance.result l.distances l.invariant.2
+          (c.pair_distance.ensures
           ∙ ap (pair_reach t f.size s.args.x level)
           (place_over_lem f s.requires.0 (one s) level (omega arith) (omega (arith, high s)) [] s.args.b c.before.power.result c.before.power.ensures))
           (omega arith) (omega (arith, (bounds s).0, high s)),
     )
 
-returns : tie.Need-returns invariant-loop decreases-loop
+returns : tie.Need-returns invariant-loop-level decreases-loop-level
 unfolding pair_distances
 returns c =
     let s = c.before.before.before in
-    let l = c.before.loop in
+    let l = c.before.loop-level in
     let f = s.args.f in
     let t = plan_of f [] in
     let all : l.level ≡ s.args.i + 1 = omega arith in
@@ -146,8 +146,8 @@ pub pair_distances_spec : {M : Type 1} → statement M
 pair_distances_spec =
     tie.close
     (tie.spec
-    invariant-loop
-    decreases-loop
+    invariant-loop-level
+    decreases-loop-level
     sub_t9
     loop_holds
     add_h

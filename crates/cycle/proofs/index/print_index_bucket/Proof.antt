@@ -15,27 +15,27 @@ use Rattle.cycle.proofs.Segmenting.TreePlaces.{head_asked}
 use Rattle.cycle.proofs.index.print_index_bucket.Statement.{statement}
 use Rattle.cycle.proofs.index.print_index_bucket.Tie as tie
 
-abbrev start : tie.After-start-index-arg → tie.Start
+abbrev start : tie.After-start_index-arg-1 → tie.Start
 start c = c.before.before.before.before.before
 
 -- where the bucket is started
-abbrev begun : tie.After-start-index → tie.Start
+abbrev begun : tie.After-start_index → tie.Start
 begun c = start c.before.before.before
 
-head_at_requires : tie.Need-head-at-requires
+head_at_requires : tie.Need-head_at-requires
 head_at_requires c κs =
     let s = start c in
-    let w = s.pre.1.0 in
-    head_asked s.args.f s.args.s w.ready w.placed s.args.x s.pre.1.1.1.1.0.0 s.pre.1.1.1.1.0.1
+    let w = s.requires.1.0 in
+    head_asked s.args.f s.args.s w.ready w.placed s.args.x s.requires.1.1.1.1.0.0 s.requires.1.1.1.1.0.1
 
-put_entries_requires : tie.Need-put-entries-requires
+put_entries_requires : tie.Need-put_entries-requires
 put_entries_requires c κs =
     let b = c.before.before.before in
     let s = begun b in (
-      b.start-index.auto.0 ∙ s.pre.0,
+      b.start_index.auto.0 ∙ s.requires.0,
       (
-        started_blank _ (eqb s.args.s.first 0) s.args.pairs s.args.tags.now s.args.distances.now _ s.pre.1.1.1.1.1.0 b.start-index.ensures,
-        (s.pre.1.0, (s.pre.1.1.0, s.pre.1.1.1.0)),
+        started_blank _ (eqb s.args.s.first 0) s.args.pairs s.args.tags.now s.args.distances.now _ s.requires.1.1.1.1.1.0 b.start_index.ensures,
+        (s.requires.1.0, (s.requires.1.1.0, s.requires.1.1.1.0)),
       ),
     )
 
@@ -46,7 +46,7 @@ returns c =
     let s = begun b in
     last.put_entries.ensures
     ∙ ap (λ d. put d entries_start (joined print_entry (child_entries s.args.f s.args.source s.args.text.now s.args.e s.args.j s.args.x s.args.count)))
-    (b.start-index.ensures
+    (b.start_index.ensures
     ∙ ap (λ h. padded bucket_end (index_front h (pairs_of (eqb s.args.s.first 0) (take s.args.pairs (entries_of s.args.tags.now s.args.distances.now))) s.args.count) ++ newline ∷ [])
     b.before.before.head_at.ensures)
 

@@ -37,7 +37,7 @@ power_requires c κs =
 abbrev begun : tie.After-power → tie.Start
 begun c = c.before.before.before.before.before
 
-div_j : tie.Need-nonzero-div-j
+div_j : tie.Need-nonzero_div-j
 div_j c =
     let s = begun c in
     power_some s.args.f (printing s).ready (path_one (printing s) (on_path_lem s)) s.args.i (path_low (printing s) (on_path_lem s)) (omega (arith, (on_path_lem s).high))
@@ -56,52 +56,52 @@ over c =
 there : (c : tie.After-power) → IndexPlace (begun c).args.f (begun c).args.s ((begun c).args.f.k + 1 - (begun c).args.i) (place c) (begun c).args.x
 there c = path_place_lem (printing (begun c)) (on_path_lem (begun c)) (over c)
 
-child_count_requires : tie.Need-child-count-requires
+child_count_requires : tie.Need-child_count-count-requires
 child_count_requires c κs = ((printing (begun c)).ready, (there c).low, (there c).inside)
 
-last_sent_tag_requires : tie.Need-last-sent-tag-requires
+last_sent_tag_requires : tie.Need-last_sent_tag-first-requires
 last_sent_tag_requires c κs = let s = begun c.before in ((printing s).ready, (printing s).fits, first_in s)
 
-pair_tags_requires : tie.Need-pair-tags-requires
+pair_tags_requires : tie.Need-pair_tags-tags-requires
 pair_tags_requires c κs =
     let s = begun c.before.before in
     let w = printing s in
     let p = on_path_lem s in
     (w.ready, w.fits, path_some w p, path_one w p, path_low w p, p.high, path_block w p)
 
-pair_distances_requires : tie.Need-pair-distances-requires
+pair_distances_requires : tie.Need-pair_distances-distances-requires
 pair_distances_requires c κs =
     let b = c.before.before.before in
     let s = begun b in
     ((printing s).ready, path_some (printing s) (on_path_lem s), (there b).below, path_on (printing s) (on_path_lem s) [])
 
 -- the pairs
-abbrev paired : tie.After-distances → tie.After-pair-distances
+abbrev paired : tie.After-distances-1 → tie.After-pair_distances-distances
 paired c = c.before.before.before
 
-abbrev counted : tie.After-distances → tie.After-child-count
+abbrev counted : tie.After-distances-1 → tie.After-child_count-count
 counted c = (paired c).before.before.before
 
-abbrev start : tie.After-distances → tie.Start
+abbrev start : tie.After-distances-1 → tie.Start
 start c = begun (counted c).before
 
-few_there : (c : tie.After-distances) → (start c).args.i ≤ pairs_most
+few_there : (c : tie.After-distances-1) → (start c).args.i ≤ pairs_most
 few_there c = omega (arith, (bounds (start c)).0, (on_path_lem (start c)).high)
 
-print_index_bucket_requires : tie.Need-print-index-bucket-requires
+print_index_bucket_requires : tie.Need-print_index_bucket-requires
 print_index_bucket_requires c κs =
     let s = start c in
     let w = printing s in
-    let tags = filled_wide pairs_most _ (paired c).before.pair-tags.ensures in
-    let distances = filled_wide pairs_most _ (paired c).pair-distances.ensures in
+    let tags = filled_wide pairs_most _ (paired c).before.pair_tags-tags.ensures in
+    let distances = filled_wide pairs_most _ (paired c).pair_distances-distances.ensures in
     let sits = seated s.args.f s.args.s w.ready w.placed in (
-      s.pre.0,
+      s.requires.0,
       (
         w,
         (
           there (counted c).before,
           (
-            (counted c).child-count.ensures,
+            (counted c).child_count-count.ensures,
             (
               (omega (arith, (on_path_lem s).here), omega (arith, on_path_lem s, sits, path_size s.args.f s.args.s w.ready w.placed)),
               (few_there c, omega (arith, few_there c, tags), omega (arith, few_there c, distances)),
@@ -117,8 +117,8 @@ returns c =
     let b = put.before in
     let s = start b in
     let t = paired b in
-    path_printed (printing s) (on_path_lem s) (over (counted b).before) t.before.before.last-sent-tag.ensures t.before.pair-tags.ensures t.pair-distances.ensures
-    _ _ _ _ refl (counted b).child-count.ensures refl put.print-index-bucket.ensures
+    path_printed (printing s) (on_path_lem s) (over (counted b).before) t.before.before.last_sent_tag-first.ensures t.before.pair_tags-tags.ensures t.pair_distances-distances.ensures
+    _ _ _ _ refl (counted b).child_count-count.ensures refl put.print_index_bucket.ensures
 
 pub print_path_bucket_spec : {M : Type 1} → statement M
 print_path_bucket_spec =

@@ -16,29 +16,29 @@ first_in : (c : tie.Start) → c.args.s.first < max 1 c.args.f.d
 unfolding plan_of
 first_in c = (c.requires.1.0.placed []).first_in
 
-first_tag_requires : tie.Need-first-tag-requires
+first_tag_requires : tie.Need-first_tag-requires
 first_tag_requires c κs =
     let s = c.before.before.before in
     (s.requires.1.0.ready, (s.requires.1.0.fits, first_in s))
 
 -- where the tag of the first pair is told
-abbrev tagged : tie.After-distances → tie.After-first-tag
+abbrev tagged : tie.After-distances-1 → tie.After-first_tag
 tagged c = c.before.before.before.before
 
-abbrev start : tie.After-distances → tie.Start
+abbrev start : tie.After-distances-1 → tie.Start
 start c = (tagged c).before.before.before.before
 
-few_there : (c : tie.After-distances) → (tagged c).before.tree-pairs.result ≤ 1
-few_there c = one_at_most (eqb (start c).args.f.layout 2) (eqb (start c).args.e (start c).args.f.k) (tagged c).before.tree-pairs.ensures
+few_there : (c : tie.After-distances-1) → (tagged c).before.tree_pairs-pairs.result ≤ 1
+few_there c = one_at_most (eqb (start c).args.f.layout 2) (eqb (start c).args.e (start c).args.f.k) (tagged c).before.tree_pairs-pairs.ensures
 
-print_index_bucket_requires : tie.Need-print-index-bucket-requires
+print_index_bucket_requires : tie.Need-print_index_bucket-requires
 print_index_bucket_requires c κs =
     let s = start c in
-    let w = s.pre.1.0 in
-    let p = s.pre.1.1.0 in
+    let w = s.requires.1.0 in
+    let p = s.requires.1.1.0 in
     let sits = seated s.args.f s.args.s w.ready w.placed in (
-      s.pre.0,
-      (w, (tree_place w p, (s.pre.1.1.1, ((omega (arith, sits, p.behind_path_lem), omega (arith, sits, before_data w p)), (omega (arith, few_there c), few_there c, few_there c))))),
+      s.requires.0,
+      (w, (tree_place w p, (s.requires.1.1.1, ((omega (arith, sits, p.behind_path_lem), omega (arith, sits, before_data w p)), (omega (arith, few_there c), few_there c, few_there c))))),
     )
 
 returns : tie.Need-returns
@@ -46,8 +46,8 @@ returns c =
     let put = c.before.before in
     let s = start put.before in
     let t = tagged put.before in
-    tree_printed s.pre.1.0 s.pre.1.1.0 t.before.tree-pairs.ensures t.first_tag_lem.ensures
-    _ _ _ _ refl s.pre.1.1.1 refl put.print-index-bucket.ensures
+    tree_printed s.requires.1.0 s.requires.1.1.0 t.before.tree_pairs-pairs.ensures t.first_tag_lem.ensures
+    _ _ _ _ refl s.requires.1.1.1 refl put.print_index_bucket.ensures
 
 pub print_tree_bucket_spec : {M : Type 1} → statement M
 print_tree_bucket_spec =

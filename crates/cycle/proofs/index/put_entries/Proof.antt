@@ -15,14 +15,14 @@ use Rattle.cycle.proofs.Buckets.ChildEntries.{columns_to, few_left, place_asked,
 use Rattle.cycle.proofs.index.put_entries.Statement.{statement}
 use Rattle.cycle.proofs.index.put_entries.Tie as tie
 
-abbrev invariant-loop : tie.invariant-loop
-invariant-loop part₀ text plain f source s e j x count below span full first i₀ part i = (i ≤ count) × (part ≡ columns_to f source text e j x part₀ i)
+abbrev invariant-loop-i : tie.invariant-loop-i
+invariant-loop-i part₀ text plain f source s e j x count below span full first i₀ part i = (i ≤ count) × (part ≡ columns_to f source text e j x part₀ i)
 
-abbrev decreases-loop : tie.decreases-loop
-decreases-loop part₀ text plain f source s e j x count below span full first i₀ part i = count - i
+abbrev decreases-loop-i : tie.decreases-loop-i
+decreases-loop-i part₀ text plain f source s e j x count below span full first i₀ part i = count - i
 
 abbrev Start : Type 0
-Start = tie.Start invariant-loop decreases-loop
+Start = tie.Start invariant-loop-i decreases-loop-i
 
 abbrev printing : (c : Start) → Printing c.args.f c.args.source c.args.text.now c.args.plain c.args.s
 printing c = c.requires.1.1.0
@@ -30,14 +30,14 @@ printing c = c.requires.1.1.0
 abbrev place : (c : Start) → IndexPlace c.args.f c.args.s c.args.e c.args.j c.args.x
 place c = c.requires.1.1.1.0
 
-power_requires : tie.Need-power-requires invariant-loop decreases-loop
+power_requires : tie.Need-power-span-requires invariant-loop-i decreases-loop-i
 power_requires c κs =
     let s = c.before.before in
     let shaped = (printing s).ready.shaped in
     let at = reached s.args.f s.args.e s.args.j shaped (place s).inside in
     (shaped.n_low, shaped.n_high, omega (arith, at.height))
 
-full_size_requires : tie.Need-full-size-requires invariant-loop decreases-loop
+full_size_requires : tie.Need-full_size-full-requires invariant-loop-i decreases-loop-i
 full_size_requires c κs =
     let s = c.before.before.before in
     let shaped = (printing s).ready.shaped in
@@ -47,84 +47,84 @@ full_size_requires c κs =
 small : (c : Start) → c.args.j * c.args.f.n ≤ span_most
 small c = first_small c.args.f (printing c).ready c.args.e c.args.j (place c).low (place c).inside
 
-loop_holds : tie.Need-loop-init invariant-loop decreases-loop
+loop_holds : tie.Need-loop-i-init invariant-loop-i decreases-loop-i
 loop_holds c = (omega arith, sym (put_nil _ entries_start))
 
 -- ---- a turn
 
-abbrev start : tie.At-loop invariant-loop decreases-loop → Start
+abbrev start : tie.At-loop-i invariant-loop-i decreases-loop-i → Start
 start c = c.before.before.before.before.before.before
 
-abbrev turn : tie.In-loop invariant-loop decreases-loop → Start
+abbrev turn : tie.In-loop-i invariant-loop-i decreases-loop-i → Start
 turn c = start c.before
 
-child : (c : tie.In-loop invariant-loop decreases-loop) → c.before.loop.i < length (children (plan_of (turn c).args.f []) ((turn c).args.f.k + 1 - (turn c).args.e) (turn c).args.j)
-child c = omega (arith, (turn c).requires.1.1.1.1, c.loop-test.true)
+child : (c : tie.In-loop-i invariant-loop-i decreases-loop-i) → c.before.loop-i.i < length (children (plan_of (turn c).args.f []) ((turn c).args.f.k + 1 - (turn c).args.e) (turn c).args.j)
+child c = omega (arith, (turn c).requires.1.1.1.1, c.loop-i-test.true)
 
-tag_place_requires : tie.Need-tag-place-requires invariant-loop decreases-loop
+tag_place_requires : tie.Need-tag_place-from-requires invariant-loop-i decreases-loop-i
 tag_place_requires c κs =
     let s = turn c in
-    ((printing s).ready, ((printing s).placed, place_asked (printing s) (place s) (child c) c.before.before.before.before.power.ensures))
+    ((printing s).ready, ((printing s).placed, place_asked (printing s) (place s) (child c) c.before.before.before.before.power-span.ensures))
 
-child_distance_requires : tie.Need-child-distance-requires invariant-loop decreases-loop
+child_distance_requires : tie.Need-child_distance-distance-requires invariant-loop-i decreases-loop-i
 child_distance_requires c κs =
     let t = c.before in
     let s = turn t in
-    ((printing s).ready, ((printing s).placed, (place s, (t.before.before.before.full_size.ensures, child t))))
+    ((printing s).ready, ((printing s).placed, (place s, (t.before.before.before.full_size-full.ensures, child t))))
 
-put_entry_requires : tie.Need-put-entry-requires invariant-loop decreases-loop
+put_entry_requires : tie.Need-put_entry-requires invariant-loop-i decreases-loop-i
 put_entry_requires c κs =
     let g = c.before.before in
     let t = g.before in
     let s = turn t in
-    let l = t.before.loop in
-    let power = t.before.before.before.before.power.ensures in (
-      columns_wide (printing s) (place s) s.args.part.now s.pre.0 l.i l.invariant.1 (omega (arith, child t)),
+    let l = t.before.loop-i in
+    let power = t.before.before.before.before.power-span.ensures in (
+      columns_wide (printing s) (place s) s.args.part.now s.requires.0 l.i l.invariant.1 (omega (arith, child t)),
       (
         few_left (printing s) (place s) (child t),
         (
-          tag_within (printing s) (place s) (child t) power g.tag-place.ensures,
+          tag_within (printing s) (place s) (child t) power g.tag_place-from.ensures,
           (
-            blank_there (printing s) (place s) s.args.part.now s.pre.0 l.i l.invariant.1 (child t) s.pre.1.0,
-            tag_stays (printing s) (place s) (child t) power g.tag-place.ensures,
+            blank_there (printing s) (place s) s.args.part.now s.requires.0 l.i l.invariant.1 (child t) s.requires.1.0,
+            tag_stays (printing s) (place s) (child t) power g.tag_place-from.ensures,
           ),
         ),
       ),
     )
 
-abbrev turn2 : tie.After-slice-known2 invariant-loop decreases-loop → tie.In-loop invariant-loop decreases-loop
+abbrev turn2 : tie.After-slice_known-in-loop-i-1 invariant-loop-i decreases-loop-i → tie.In-loop-i invariant-loop-i decreases-loop-i
 turn2 c = c.before.before.before.before.before.before
 
-loop_again : tie.Need-loop-preserved invariant-loop decreases-loop
+loop_again : tie.Need-loop-i-preserved invariant-loop-i decreases-loop-i
 loop_again c =
     let t = turn2 c in
     let s = turn t in
     let d = c.before.before.before.before in
-    let l = t.before.loop in (
-      omega (arith, t.loop-test.taken),
-      one_entry (printing s) (place s) s.args.part.now s.pre.0 l.i l.inv.1 (child t)
-          t.before.before.before.before.power.ensures d.before.tag-place.ensures d.child_distance_lem.ensures c.before.before.put-entry.ensures,
+    let l = t.before.loop-i in (
+      omega (arith, t.loop-i-test.taken),
+      one_entry (printing s) (place s) s.args.part.now s.requires.0 l.i l.invariant.1 (child t)
+          t.before.before.before.before.power-span.ensures d.before.tag_place-from.ensures d.child_distance_lem.ensures c.before.before.put_entry.ensures,
     )
 
-same_length : tie.Need-same-length invariant-loop decreases-loop
+same_length : tie.Need-shape_of-part invariant-loop-i decreases-loop-i
 same_length c =
     let s = start c.before in
-    let l = c.before.loop in
-    columns_wide (printing s) (place s) s.args.part.now s.pre.0 l.i l.invariant.1 (omega (arith, l.invariant.0, s.pre.1.1.1.1)) ∙ sym s.pre.0
+    let l = c.before.loop-i in
+    columns_wide (printing s) (place s) s.args.part.now s.requires.0 l.i l.invariant.1 (omega (arith, l.invariant.0, s.requires.1.1.1.1)) ∙ sym s.requires.0
 
-returns : tie.Need-returns invariant-loop decreases-loop
+returns : tie.Need-returns invariant-loop-i decreases-loop-i
 returns c =
     let s = start c.before in
-    let l = c.before.loop in
-    let all : l.i ≡ s.args.count = omega (arith, l.invariant.0, c.loop-test.false) in
+    let l = c.before.loop-i in
+    let all : l.i ≡ s.args.count = omega (arith, l.invariant.0, c.loop-i-test.false) in
     l.invariant.1 ∙ ap (columns_to s.args.f s.args.source s.args.text.now s.args.e s.args.j s.args.x s.args.part.now) all
 
 pub put_entries_spec : {M : Type 1} → statement M
 put_entries_spec =
     tie.close
     (tie.spec
-    invariant-loop
-    decreases-loop
+    invariant-loop-i
+    decreases-loop-i
     (λ c. (place c.before.before).low)
     power_requires
     full_size_requires
@@ -135,7 +135,7 @@ put_entries_spec =
     child_distance_requires
     put_entry_requires
     (λ c. omega (arith, few_left (printing (turn (turn2 c))) (place (turn (turn2 c))) (child (turn2 c))))
-    (λ c. omega (arith, (turn2 c).loop-test.true))
+    (λ c. omega (arith, (turn2 c).loop-i-test.true))
     loop_again
     same_length
     returns)

@@ -103,14 +103,14 @@ full_small c =
     (le_of_lt (few f c.requires.0 c.args.e c.args.j p.low p.inside c.args.i c.requires.1.1.1.1))
     (omega (arith, c.requires.1.1.1.0, at.full_small (c.args.e - 1) (omega arith)))
 
-returns : tie.Need-returns
+returns : tie.Need-returns-then-e-ne1
 returns c =
     let s = c.before in
     let p = s.requires.1.1.0 in
     ap (λ z. 1 + s.args.i * z) s.requires.1.1.1.0
-    ∙ near s.args.f s.requires.0 s.args.e s.args.j p.low p.inside s.args.x s.args.i c.if1.true s.requires.1.1.1.1
+    ∙ near s.args.f s.requires.0 s.args.e s.args.j p.low p.inside s.args.x s.args.i c.if-e-ne1.true s.requires.1.1.1.1
 
-abbrev start4 : tie.After-struct-known4 → tie.Start
+abbrev start4 : tie.After-struct_known-then-f-eq1-2-1 → tie.Start
 start4 c = c.before.before.before.before.before.before
 
 -- the data bucket's place in layout 1
@@ -126,30 +126,30 @@ there c one layout =
 before_data : (c : tie.Start) → c.args.x < c.args.s.data_at
 before_data c = tree_before c.args.f c.args.s c.requires.0 c.requires.1.0 c.args.e c.args.j c.args.x c.requires.1.1.0
 
-sub_result : tie.Need-overflow-sub-result
+sub_result : tie.Need-overflow_sub-result
 sub_result c =
-    let one = c.before.before.before.before.if1.false in
-    omega (arith, (row c.before.before.before.before.before one c.before.if2.true).low)
+    let one = c.before.before.before.before.if-e-ne1.false in
+    omega (arith, (row c.before.before.before.before.before one c.before.if-f-eq1.true).low)
 
-add_result_2 : tie.Need-overflow-add-result-2
+add_result_2 : tie.Need-overflow_add-result-then-f-eq1
 add_result_2 c =
     let s = start4 c in
-    let one = c.before.before.before.before.before.if1.false in
-    let r = row s one c.before.before.if2.true in
+    let one = c.before.before.before.before.before.if-e-ne1.false in
+    let r = row s one c.before.before.if-f-eq1.true in
     omega (arith, r, (child s one).few_children)
 
-returns_2 : tie.Need-returns-2
+returns_2 : tie.Need-returns-then-f-eq1
 returns_2 c =
     let s = start4 c in
-    let one = c.before.before.before.before.before.if1.false in
-    let layout = c.before.before.if2.true in
+    let one = c.before.before.before.before.before.if-e-ne1.false in
+    let layout = c.before.before.if-f-eq1.true in
     onward s.args.f.size s.args.x _ (omega (arith, before_data s))
     ∙ far s.args.f s.args.x s.args.e s.args.j (s.args.j * s.args.f.n + s.args.i) _ one (there s one layout)
 
-data_place_requires : tie.Need-data-place-requires
+data_place_requires : tie.Need-data_place-requires
 data_place_requires c κs =
     let s = c.before.before.before.before in
-    (s.requires.0, (child s c.before.before.before.if1.false).below)
+    (s.requires.0, (child s c.before.before.before.if-e-ne1.false).below)
 
 ahead_requires : tie.Need-ahead-requires
 ahead_requires c κs =
@@ -157,11 +157,11 @@ ahead_requires c κs =
     let sits = seated s.args.f s.args.s s.requires.0 s.requires.1.0 in
     omega (arith, sits, before_data s)
 
-returns_3 : tie.Need-returns-3
+returns_3 : tie.Need-returns
 returns_3 c =
     let s = c.before.before.before.before.before.before in
     c.ahead.ensures
-    ∙ far s.args.f s.args.x s.args.e s.args.j (s.args.j * s.args.f.n + s.args.i) _ c.before.before.before.before.before.if1.false
+    ∙ far s.args.f s.args.x s.args.e s.args.j (s.args.j * s.args.f.n + s.args.i) _ c.before.before.before.before.before.if-e-ne1.false
     c.before.data_place.ensures
 
 pub tree_distance_spec : {M : Type 1} → statement M
@@ -171,8 +171,8 @@ tree_distance_spec =
     (λ c. omega (arith, full_small c.before))
     (λ c. omega (arith, full_small c.before))
     returns
-    (λ c. omega (arith, child c.before.before c.before.if1.false))
-    (λ c. omega (arith, child c.before.before c.before.if1.false))
+    (λ c. omega (arith, child c.before.before c.before.if-e-ne1.false))
+    (λ c. omega (arith, child c.before.before c.before.if-e-ne1.false))
     sub_result
     add_result_2
     (λ c. omega (arith, before_data (start4 c)))

@@ -5,4 +5,4 @@ use Rattle.cycle.proofs.judge.judge.Statement.{statement}
 use Rattle.cycle.proofs.judge.judge.Tie as tie
 
 pub judge_spec : {M : Type 1} → statement M
-judge_spec = tie.close (tie.spec (λ c κs. search rules) (λ c. c.judge-list.ensures.0))
+judge_spec = tie.close (tie.spec (λ c κs. search rules) (λ c. c.judge_list.ensures.0))

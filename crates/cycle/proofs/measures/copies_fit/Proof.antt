@@ -23,13 +23,13 @@ one_test m h =
     (λ (l : 1 < m). ne_eqb m 1 (λ e. omega arith) ∙ sym (lt-leb m 1 l))
     (le_or_lt m 1)
 
-returns : tie.Need-returns
+returns : tie.Need-returns-then-f
 unfolding plan_of
 returns c =
     let f = c.before.before.before.before.args.f in
     sym (copies_distributed (plan_of f []) (omega arith) ∙ lt-leb f.copies (min pairs_most (f.k - 1)) (omega arith))
 
-returns_2 : tie.Need-returns-2
+returns_2 : tie.Need-returns-then-f-eq1
 unfolding plan_of
 returns_2 c =
     let f = c.before.before.before.before.before.args.f in
@@ -37,13 +37,13 @@ returns_2 c =
     same_ltb_leb f.copies f.k f.copies (min pairs_most (f.k - 1)) (λ h. omega (arith, l.low)) (λ h. omega (arith, l.low))
     ∙ sym (copies_distributed (plan_of f []) (omega arith))
 
-returns_3 : tie.Need-returns-3
+returns_3 : tie.Need-returns-then-f-lt1
 unfolding plan_of
 returns_3 c =
     let f = c.before.before.before.before.args.f in
     sym (copies_whole (plan_of f []) (λ e. omega arith) ∙ ap (λ b. b && leb f.copies (max 1 f.d)) (lt-leb 1 f.copies (omega arith)))
 
-returns_4 : tie.Need-returns-4
+returns_4 : tie.Need-returns-then-f-eq0
 unfolding plan_of
 returns_4 c =
     let f = c.before.before.before.before.before.before.before.args.f in
@@ -51,7 +51,7 @@ returns_4 c =
     let none : f.d ≡ 0 = omega arith in
     one_test f.copies (omega arith) ∙ sym (copies_whole (plan_of f []) (λ e. omega arith) ∙ rw (some, none))
 
-returns_5 : tie.Need-returns-5
+returns_5 : tie.Need-returns
 unfolding plan_of
 returns_5 c =
     let f = c.before.before.before.before.before.before.before.args.f in

@@ -23,30 +23,30 @@ abbrev whole : tie.Start → Figures
 whole s = sized s.args.f (cycle_size (planned s))
 
 -- 5 does not hold
-fit : (c : tie.Else1) → copies_fit (planned c.before.before) ≡ true
-fit c = sym c.before.copies_fit_lem.ensures ∙ not-false _ c.if1.false
+fit : (c : tie.Else-not-copies_fit) → copies_fit (planned c.before.before) ≡ true
+fit c = sym c.before.copies_fit_lem.ensures ∙ not-false _ c.if-not-copies_fit.false-raw
 
 -- N is what `with_size` found
-size_is : (c : tie.After-with-size) → c.with_size.result.size ≡ cycle_size (planned c.before.before.before)
-size_is c = ap (λ (g : Figures). g.size) c.with_size.ensures ∙ size_held c.before.before.before.args.f _
+size_is : (c : tie.After-with_size-sized) → c.with_size-sized.result.size ≡ cycle_size (planned c.before.before.before)
+size_is c = ap (λ (g : Figures). g.size) c.with_size-sized.ensures ∙ size_held c.before.before.before.args.f _
 
-returns : tie.Need-returns
+returns : tie.Need-returns-then-not-copies_fit
 returns c =
     let s = c.before.before in
-    refusal_judged 5 0 _ (whole s) (refused_5 (planned s) (sym c.before.copies_fit_lem.ensures ∙ not-true _ c.if1.true))
+    refusal_judged 5 0 _ (whole s) (refused_5 (planned s) (sym c.before.copies_fit_lem.ensures ∙ not-true _ c.if-not-copies_fit.true-raw))
 
-returns_2 : tie.Need-returns-2
+returns_2 : tie.Need-returns-then-sized-gt-BUCKETS_MOST
 returns_2 c =
     let call = c.before.before in
     let s = call.before.before.before in
-    refusal_judged 6 0 _ (whole s) (refused_6 (planned s) (fit call.before) (omega (arith, size_is call, c.if2.true)))
+    refusal_judged 6 0 _ (whole s) (refused_6 (planned s) (fit call.before) (omega (arith, size_is call, c.if-sized-gt-BUCKETS_MOST.true)))
 
-returns_3 : tie.Need-returns-3
+returns_3 : tie.Need-returns
 returns_3 c =
     let call = c.before.before in
     let s = call.before.before.before in
     cycle_judged _ (whole s) _
-    (size_passed (planned s) (fit call.before) (omega (arith, size_is call, c.if2.false))) call.with_size.ensures
+    (size_passed (planned s) (fit call.before) (omega (arith, size_is call, c.if-sized-gt-BUCKETS_MOST.false))) call.with_size-sized.ensures
 
 pub judge_figures_spec : {M : Type 1} → statement M
 judge_figures_spec = tie.close

@@ -9,7 +9,7 @@ use Rattle.cycle.proofs.Trees.Readiness.{data_high}
 use Rattle.cycle.proofs.measures.last_root.Statement.{statement}
 use Rattle.cycle.proofs.measures.last_root.Tie as tie
 
-returns : tie.Need-returns
+returns : tie.Need-returns-then-f-eq0
 unfolding last_place
 returns c =
     let start = c.before.before in
@@ -27,7 +27,7 @@ part c =
     let start = c.before.before.before in
     last_part start.args.f.d start.args.span (omega arith) start.requires.1
 
-returns_2 : tie.Need-returns-2
+returns_2 : tie.Need-returns
 unfolding last_place
 returns_2 c = omega (arith, c.up.ensures, (part c).some)
 

@@ -21,12 +21,12 @@ use Rattle.cycle.proofs.measures.levels_of.Tie as tie
 abbrev rest : ℕ → ℕ → ℕ → ℕ
 rest n d k = least (levels_most + 1 - k) k (λ x. leb d (n ^ x))
 
-abbrev invariant-loop : tie.invariant-loop
-invariant-loop n d k₀ power₀ k power =
+abbrev invariant-loop-power : tie.invariant-loop-power
+invariant-loop-power n d k₀ power₀ k power =
     (1 ≤ k) × (k ≤ levels_most) × (power ≡ n ^ k) × (levels n d ≡ rest n d k)
 
-abbrev decreases-loop : tie.decreases-loop
-decreases-loop n d k₀ power₀ k power = levels_most - k
+abbrev decreases-loop-power : tie.decreases-loop-power
+decreases-loop-power n d k₀ power₀ k power = levels_most - k
 
 -- one level more is looked at
 look : (n d k : ℕ) → 2 ≤ n → d ≤ lines_most → n ^ k + 1 ≤ d → (k + 1 ≤ levels_most) × (rest n d k ≡ rest n d (k + 1))
@@ -38,47 +38,47 @@ look n d k low few l =
     (omega arith, rw (e, add-one k) (least_next (levels_most + 1 - suc k) k (λ x. leb d (n ^ x)) (lt-leb d (n ^ k) (omega arith)))))
     (le_or_lt levels_most k)
 
-loop_holds : tie.Need-loop-init invariant-loop decreases-loop
+loop_holds : tie.Need-loop-power-init invariant-loop-power decreases-loop-power
 unfolding levels
 loop_holds c =
     let n = c.args.n in
     let one : n ^ 1 ≡ n = pow-succ' n 0 ∙ rw pow-zero (mul-one n) in
     (omega arith, omega arith, sym one, refl)
 
-mul_power : tie.Need-overflow-mul-power invariant-loop decreases-loop
+mul_power : tie.Need-overflow_mul-power invariant-loop-power decreases-loop-power
 mul_power c =
-    let m : c.before.loop.power * c.before.before.args.n ≤ lines_most * entries_most = mul-le-mul {n₂ = lines_most} {m₂ = entries_most} (omega arith) (omega arith) in
+    let m : c.before.loop-power.power * c.before.before.args.n ≤ lines_most * entries_most = mul-le-mul {n₂ = lines_most} {m₂ = entries_most} (omega arith) (omega arith) in
     omega arith
 
-abbrev rest_at : tie.In-loop invariant-loop decreases-loop → ℕ → ℕ
+abbrev rest_at : tie.In-loop-power invariant-loop-power decreases-loop-power → ℕ → ℕ
 rest_at c k = rest c.before.before.args.n c.before.before.args.d k
 
 turned :
-    (c : tie.In-loop invariant-loop decreases-loop) →
-    (c.before.loop.k + 1 ≤ levels_most) × (rest_at c c.before.loop.k ≡ rest_at c (c.before.loop.k + 1))
-turned c = look c.before.before.args.n c.before.before.args.d c.before.loop.k (omega arith) (omega arith) (omega arith)
+    (c : tie.In-loop-power invariant-loop-power decreases-loop-power) →
+    (c.before.loop-power.k + 1 ≤ levels_most) × (rest_at c c.before.loop-power.k ≡ rest_at c (c.before.loop-power.k + 1))
+turned c = look c.before.before.args.n c.before.before.args.d c.before.loop-power.k (omega arith) (omega arith) (omega arith)
 
-loop_again : tie.Need-loop-preserved invariant-loop decreases-loop
+loop_again : tie.Need-loop-power-preserved invariant-loop-power decreases-loop-power
 loop_again c =
     let n = c.before.before.args.n in
-    let k = c.before.loop.k in
-    let inv = c.before.loop.invariant in
+    let k = c.before.loop-power.k in
+    let inv = c.before.loop-power.invariant in
     let g = turned c in
     let p : n ^ (k + 1) ≡ n ^ k * n = rw (add-one k) (pow-succ' n k ∙ mul_comm n (n ^ k)) in
     (omega arith, g.0, ap (λ x. x * n) inv.2 ∙ sym p, inv.3 ∙ g.1)
 
-returns : tie.Need-returns invariant-loop decreases-loop
+returns : tie.Need-returns invariant-loop-power decreases-loop-power
 returns c =
     let n = c.before.before.args.n in
     let d = c.before.before.args.d in
-    let k = c.before.loop.k in
-    let inv = c.before.loop.invariant in
+    let k = c.before.loop-power.k in
+    let inv = c.before.loop-power.invariant in
     sym (inv.3 ∙ least_found (levels_most + 1 - k) k (λ x. leb d (n ^ x)) (le-leb d (n ^ k) (omega arith)))
 
 pub levels_of_spec : {M : Type 1} → statement M
 levels_of_spec =
     tie.close
-    (tie.spec invariant-loop decreases-loop
+    (tie.spec invariant-loop-power decreases-loop-power
     loop_holds
     mul_power
     (λ c. omega arith)

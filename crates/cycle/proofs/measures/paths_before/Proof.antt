@@ -15,18 +15,18 @@ use Rattle.cycle.proofs.Trees.Readiness.{path_facts}
 use Rattle.cycle.proofs.measures.paths_before.Statement.{statement}
 use Rattle.cycle.proofs.measures.paths_before.Tie as tie
 
-abbrev invariant-loop : tie.invariant-loop
-invariant-loop f b left₀ count₀ sum₀ left count sum =
+abbrev invariant-loop-left : tie.invariant-loop-left
+invariant-loop-left f b left₀ count₀ sum₀ left count sum =
     (1 ≤ left)
     × (climbs f.n f.copies b ≡ sum + climbs f.n (left - 1) (up count f.n))
     × (count ≤ lines_most)
     × (sum + lines_most * (left - 1) ≤ pairs_most * lines_most)
 
-abbrev decreases-loop : tie.decreases-loop
-decreases-loop f b left₀ count₀ sum₀ left count sum = left
+abbrev decreases-loop-left : tie.decreases-loop-left
+decreases-loop-left f b left₀ count₀ sum₀ left count sum = left
 
 -- copies is at most 4
-few : (c : tie.Start invariant-loop decreases-loop) → c.args.f.copies ≤ pairs_most
+few : (c : tie.Start invariant-loop-left decreases-loop-left) → c.args.f.copies ≤ pairs_most
 unfolding plan_of
 few c = (path_facts (plan_of c.args.f []) c.requires.2 c.requires.1).0
 
@@ -44,7 +44,7 @@ climb_added n total left sum x y l e inv =
     ∙ ap (λ z. sum + z) (climb_one n (left - 1) x (omega arith))
     ∙ sym (add_assoc sum x (climbs n (left - 1 - 1) (up x n)))
 
-returns : tie.Need-returns invariant-loop decreases-loop
+returns : tie.Need-returns-then-f-eq0 invariant-loop-left decreases-loop-left
 unfolding plan_of
 returns c =
     let start = c.before.before in
@@ -52,42 +52,42 @@ returns c =
     let none : f.copies ≡ 0 = omega arith in
     sym (length_paths (plan_of f []) (omega (arith, start.requires.0.n_low)) start.args.b ∙ ap (λ r. climbs f.n r start.args.b) none)
 
-loop_holds : tie.Need-loop-init invariant-loop decreases-loop
+loop_holds : tie.Need-loop-left-init invariant-loop-left decreases-loop-left
 loop_holds c =
     let start = c.before.before in
     let f = start.args.f in
     (omega arith, climb_one f.n f.copies start.args.b (omega arith), omega arith, omega (arith, few start))
 
-up_requires : tie.Need-up-requires invariant-loop decreases-loop
+up_requires : tie.Need-up-count-requires invariant-loop-left decreases-loop-left
 up_requires c κs = let s = c.before.before.before.before.requires.0 in (omega (arith, s.n_low), omega (arith, s.n_high))
 
 -- what `up` gave is no more than there were
-counted : (c : tie.After-up invariant-loop decreases-loop) → c.up.result ≤ lines_most
+counted : (c : tie.After-up-count invariant-loop-left decreases-loop-left) → c.up-count.result ≤ lines_most
 counted c =
     let n : ℕ = c.before.before.before.before.before.args.f.n in
-    let count : ℕ = c.before.before.loop.count in
+    let count : ℕ = c.before.before.loop-left.count in
     let pos : 0 < n = omega (arith, c.before.before.before.before.before.requires.0.n_low) in
     let much : count * 1 ≤ count * n = mul-le-mul_left count pos in
     let least = up_least count n count pos (omega arith) in
-    omega (arith, c.up.ensures)
+    omega (arith, c.up-count.ensures)
 
-loop_again : tie.Need-loop-preserved invariant-loop decreases-loop
+loop_again : tie.Need-loop-left-preserved invariant-loop-left decreases-loop-left
 loop_again c =
     let start = c.before.before.before.before.before in
     let f = start.args.f in
-    let l = c.before.before.loop in (
+    let l = c.before.before.loop-left in (
       omega arith,
-      climb_added f.n (climbs f.n f.copies start.args.b) l.left l.sum c.up.result (up l.count f.n) (omega arith) c.up.ensures l.invariant.1,
+      climb_added f.n (climbs f.n f.copies start.args.b) l.left l.sum c.up-count.result (up l.count f.n) (omega arith) c.up-count.ensures l.invariant.1,
       counted c,
       omega (arith, counted c),
     )
 
-returns_2 : tie.Need-returns-2 invariant-loop decreases-loop
+returns_2 : tie.Need-returns invariant-loop-left decreases-loop-left
 unfolding plan_of
 returns_2 c =
     let start = c.before.before.before.before in
     let f = start.args.f in
-    let l = c.before.loop in
+    let l = c.before.loop-left in
     let none : l.left - 1 ≡ 0 = omega arith in
     let all : climbs f.n f.copies start.args.b ≡ l.sum + 0 = l.invariant.1 ∙ rw none in
     sym (length_paths (plan_of f []) (omega (arith, start.requires.0.n_low)) start.args.b ∙ all ∙ add-zero l.sum)
@@ -95,7 +95,7 @@ returns_2 c =
 pub paths_before_spec : {M : Type 1} → statement M
 paths_before_spec =
     tie.close
-    (tie.spec invariant-loop decreases-loop
+    (tie.spec invariant-loop-left decreases-loop-left
     returns
     loop_holds
     up_requires

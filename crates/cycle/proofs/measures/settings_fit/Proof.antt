@@ -19,11 +19,11 @@ n_fits n p layout low high = rw (le-leb 2 n low, le-leb n 8 high)
 p_fits : (n p layout : ℕ) → 2 ≤ n → n ≤ 8 → 1 ≤ p → p ≤ 8 → settings_fit (settings n p layout 0) ≡ (leb 1 layout && leb layout 2)
 p_fits n p layout a b low high = n_fits n p layout a b ∙ rw (le-leb 1 p low, le-leb p 8 high)
 
-returns : tie.Need-returns
+returns : tie.Need-returns-then-n-lt2
 unfolding settings_fit
 returns c = rw (lt-leb 2 c.before.args.n (omega arith))
 
-returns_2 : tie.Need-returns-2
+returns_2 : tie.Need-returns-then-n-gt8
 unfolding settings_fit
 returns_2 c = let a = c.before.before.args in rw (le-leb 2 a.n (omega arith), lt-leb a.n 8 (omega arith))
 

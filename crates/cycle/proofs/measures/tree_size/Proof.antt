@@ -14,10 +14,10 @@ use Rattle.cycle.proofs.measures.tree_size.Tie as tie
 at : (c : tie.Start) → Reached c.args.f c.args.e c.args.j
 at c = reached c.args.f c.args.e c.args.j c.requires.0 c.requires.2
 
-full_size_requires : tie.Need-full-size-requires
+full_size_requires : tie.Need-full_size-requires
 full_size_requires c κs = let start = c.before.before.before in (start.requires.0.n_low, start.requires.0.n_high, (at start).height)
 
-returns : tie.Need-returns
+returns : tie.Need-returns-then-j-power
 unfolding plan_of InTree
 returns c =
     let start = c.before.before.before.before in
@@ -26,12 +26,12 @@ returns c =
     c.full_size.ensures
     ∙ sym
     (tree_full (plan_of start.args.f []) (omega (arith, start.requires.0.n_low)) e j start.requires.2.0
-    (rw (← add-one j) (rw c.before.before.before.power.ensures at c.before.if1.true)))
+    (rw (← add-one j) (rw c.before.before.before.power.ensures at c.before.if-j-power.true)))
 
-last_tree_size_requires : tie.Need-last-tree-size-requires
+last_tree_size_requires : tie.Need-last_tree_size-requires
 last_tree_size_requires c κs =
     let start = c.before.before.before in
-    (start.requires.0, start.requires.1, start.requires.2, let l = rw c.before.before.power.ensures at c.if1.false in omega arith)
+    (start.requires.0, start.requires.1, start.requires.2, let l = rw c.before.before.power.ensures at c.if-j-power.false in omega arith)
 
 pub tree_size_spec : {M : Type 1} → statement M
 tree_size_spec =
@@ -43,4 +43,4 @@ tree_size_spec =
     full_size_requires
     returns
     last_tree_size_requires
-    (λ c. c.last-tree-size.ensures))
+    (λ c. c.last_tree_size.ensures))

@@ -32,18 +32,18 @@ set_size f g m e is =
     let size : m ≡ cycle_size (plan_of f []) = is ∙ ap (λ h. cycle_size (plan_of h [])) e in
     λ i. with_trees (e i) (size i) (e i).span (e i).full (e i).last
 
-returns : tie.Need-returns
-returns c = let made = c.before.before.before in set_size made.before.args.f _ _ made.with-trees.ensures c.distributed-size.ensures
+returns : tie.Need-returns-then-f-eq1
+returns c = let made = c.before.before.before in set_size made.before.args.f _ _ made.with_trees-next.ensures c.distributed_size-size.ensures
 
-returns_2 : tie.Need-returns-2
-returns_2 c = let made = c.before.before.before in set_size made.before.args.f _ _ made.with-trees.ensures c.one-m-size.ensures
+returns_2 : tie.Need-returns
+returns_2 c = let made = c.before.before.before in set_size made.before.args.f _ _ made.with_trees-next.ensures c.one_m_size-size.ensures
 
 pub with_size_spec : {M : Type 1} → statement M
 with_size_spec =
     tie.close
     (tie.spec
     (λ c κs. search rules)
-    (λ c κs. let made = c.before.before in known made.before.args.f made.before.requires (omega arith) made.with-trees.ensures)
+    (λ c κs. let made = c.before.before in known made.before.args.f made.before.requires (omega arith) made.with_trees-next.ensures)
     returns
-    (λ c κs. let made = c.before.before in known made.before.args.f made.before.requires (omega arith) made.with-trees.ensures)
+    (λ c κs. let made = c.before.before in known made.before.args.f made.before.requires (omega arith) made.with_trees-next.ensures)
     returns_2)

@@ -23,7 +23,7 @@ record Height (f : Figures) (h : ℕ) : Type 0 where
   span_low : 1 ≤ f.n ^ h
   span_high : f.n ^ h ≤ span_most
 
-known : (c : tie.After-tree-height) → Height c.before.args.f c.tree_height_lem.result
+known : (c : tie.After-tree_height-e) → Height c.before.args.f c.tree_height_lem.result
 known c =
     let f = c.before.args.f in
     let s = c.before.requires.0 in
@@ -39,24 +39,24 @@ known c =
       span_high = omega (arith, p, l.small);
     })
 
-power_requires : tie.Need-power-requires
+power_requires : tie.Need-power-span-requires
 power_requires c κs = (c.before.requires.0.n_low, c.before.requires.0.n_high, omega (arith, (known c).high, (known c).high_enough))
 
-full_size_requires : tie.Need-full-size-requires
+full_size_requires : tie.Need-full_size-full-requires
 full_size_requires c κs = let k = known c.before in (c.before.before.requires.0.n_low, c.before.before.requires.0.n_high, omega (arith, k.high, k.high_enough))
 
-last_root_requires : tie.Need-last-root-requires
+last_root_requires : tie.Need-last_root-requires
 last_root_requires c κs =
     let k = known c.before.before in
-    (c.before.before.before.requires.0, rw c.before.power.ensures k.span_low, rw c.before.power.ensures k.span_high)
+    (c.before.before.before.requires.0, rw c.before.power-span.ensures k.span_low, rw c.before.power-span.ensures k.span_high)
 
 -- what `last_root` gave
 root :
-    (c : tie.After-last-root) →
-    c.last-root.result ≡ last_place c.before.before.before.before.args.f.d (c.before.before.before.before.args.f.n ^ c.before.before.before.tree_height_lem.result)
-root c = c.last-root.ensures ∙ ap (last_place c.before.before.before.before.args.f.d) c.before.before.power.ensures
+    (c : tie.After-last_root) →
+    c.last_root.result ≡ last_place c.before.before.before.before.args.f.d (c.before.before.before.before.args.f.n ^ c.before.before.before.tree_height_lem.result)
+root c = c.last_root.ensures ∙ ap (last_place c.before.before.before.before.args.f.d) c.before.before.power-span.ensures
 
-tree_size_requires : tie.Need-tree-size-requires
+tree_size_requires : tie.Need-tree_size-last-requires
 unfolding InTree
 tree_size_requires c κs =
     let call = c.before.before.before in
@@ -70,10 +70,10 @@ returns c =
     let f = call.before.args.f in
     let e = call.tree_height_lem.ensures in
     let t = plan_of f [] in
-    let span : c.before.before.before.power.result ≡ f.n ^ tree_height t = c.before.before.before.power.ensures ∙ ap (λ h. f.n ^ h) e in
-    let full : c.before.before.full_size.result ≡ full_size f.n (tree_height t) = c.before.before.full_size.ensures ∙ ap (λ h. full_size f.n h) e in
-    let last : c.tree-size.result ≡ last_tree t =
-    c.tree-size.ensures
+    let span : c.before.before.before.power-span.result ≡ f.n ^ tree_height t = c.before.before.before.power-span.ensures ∙ ap (λ h. f.n ^ h) e in
+    let full : c.before.before.full_size-full.result ≡ full_size f.n (tree_height t) = c.before.before.full_size-full.ensures ∙ ap (λ h. full_size f.n h) e in
+    let last : c.tree_size-last.result ≡ last_tree t =
+    c.tree_size-last.ensures
     ∙ ap (λ j. length (tree_at t call.tree_height_lem.result j)) (root c.before)
     ∙ ap (λ h. length (tree_at t h (last_place f.d (f.n ^ h)))) e in
     λ i. with_trees f f.size (span i) (full i) (last i)

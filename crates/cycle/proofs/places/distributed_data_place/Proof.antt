@@ -60,35 +60,35 @@ summed c =
           (sym t.full);
     })
 
-paths_before_requires : tie.Need-paths-before-requires
+paths_before_requires : tie.Need-paths_before-requires
 paths_before_requires c κs =
     let start = c.before.before.before in
     let s = summed start in
     (start.requires.0.shaped, start.requires.1, start.requires.0.copies_fit_lem, omega arith)
 
-abbrev begun : tie.After-paths-before → tie.Start
+abbrev begun : tie.After-paths_before → tie.Start
 begun c = c.before.before.before.before
 
 -- what `paths_before` gave
 climbed :
-    (c : tie.After-paths-before) →
-    c.paths-before.result
+    (c : tie.After-paths_before) →
+    c.paths_before.result
     ≡ climbs (begun c).args.f.n (begun c).args.f.copies (number (begun c) + 1)
 unfolding plan_of
 climbed c =
     let start = c.before.before.before.before in
-    c.paths-before.ensures
+    c.paths_before.ensures
     ∙ length_paths (plan_of start.args.f []) (known start).pos (number start + 1)
 
-add_result_3 : tie.Need-overflow-add-result-3
+add_result_3 : tie.Need-overflow_add-result-3
 add_result_3 c =
     let s = summed c.before.before.before.before in
-    rw (c.before.segment-tree.ensures, climbed c) (omega arith)
+    rw (c.before.segment_tree.ensures, climbed c) (omega arith)
 
 returns : tie.Need-returns
 returns c =
     let s = summed c.before.before.before.before in
-    rw (c.before.segment-tree.ensures, climbed c) (sym s.is)
+    rw (c.before.segment_tree.ensures, climbed c) (sym s.is)
 
 pub distributed_data_place_spec : {M : Type 1} → statement M
 distributed_data_place_spec =
@@ -98,7 +98,7 @@ distributed_data_place_spec =
     (λ c. let s = summed c.before.before in omega arith)
     (λ c. let s = summed c.before.before in omega arith)
     (λ c κs. let start = c.before.before in (start.requires.0, start.requires.1, (summed start).among))
-    (λ c. let s = summed c.before.before.before in rw c.segment-tree.ensures (omega arith))
+    (λ c. let s = summed c.before.before.before in rw c.segment_tree.ensures (omega arith))
     (λ c. let s = summed c.before.before.before in omega arith)
     paths_before_requires
     add_result_3

@@ -20,32 +20,32 @@ known c = first_held c.args.f c.args.level c.args.j c.requires.0 c.requires.1 c.
 power_requires : tie.Need-power-requires
 power_requires c κs = let s = c.before.requires.0.shaped in (s.n_low, s.n_high, omega (arith, (known c.before).few))
 
-distributed_start_requires : tie.Need-distributed-start-requires
+distributed_start_requires : tie.Need-distributed_start-start-requires
 distributed_start_requires c κs =
     let start = c.before.before in
     (start.requires.0, start.requires.1, rw c.power.ensures (known start).among)
 
-abbrev begun : tie.After-path-top → tie.Start
+abbrev begun : tie.After-path_top → tie.Start
 begun c = c.before.before.before.before
 
 -- what `path_top` and `distributed_start` gave
 top_is :
-    (c : tie.After-path-top) →
-    c.path-top.result
+    (c : tie.After-path_top) →
+    c.path_top.result
     ≡ path_top (begun c).args.f.n (begun c).args.f.copies (number (begun c))
 top_is c =
     let f = (begun c).args.f in
-    c.path-top.ensures ∙ ap (λ x. path_top f.n f.copies ((begun c).args.j * x)) c.before.before.power.ensures
+    c.path_top.ensures ∙ ap (λ x. path_top f.n f.copies ((begun c).args.j * x)) c.before.before.power.ensures
 
 start_is :
-    (c : tie.After-path-top) →
-    c.before.distributed-start.result
+    (c : tie.After-path_top) →
+    c.before.distributed_start-start.result
     ≡ block_at (begun c).args.f (number (begun c))
 start_is c =
     let f = (begun c).args.f in
-    c.before.distributed-start.ensures ∙ ap (λ x. block_at f ((begun c).args.j * x)) c.before.before.power.ensures
+    c.before.distributed_start-start.ensures ∙ ap (λ x. block_at f ((begun c).args.j * x)) c.before.before.power.ensures
 
-add_result : tie.Need-overflow-add-result
+add_result : tie.Need-overflow_add-result
 add_result c =
     let k = known (begun c) in
     rw (start_is c) (omega (arith, k.starts, k.few))

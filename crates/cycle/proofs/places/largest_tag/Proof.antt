@@ -14,7 +14,7 @@ power_requires c κs =
     let s = start.requires.0.shaped in
     (s.n_low, s.n_high, (reached start.args.f start.args.e start.args.j s start.requires.2).height)
 
-last_line_requires : tie.Need-last-line-requires
+last_line_requires : tie.Need-last_line-requires
 last_line_requires c κs =
     let start = c.before.before in
     (start.requires.0, (start.requires.1, record { height = start.args.e; power = c.power.ensures; inside = start.requires.2 }))

@@ -12,7 +12,7 @@ use Rattle.cycle.proofs.places.last_line.Tie as tie
 known : (c : tie.Start) → SpanReached c.args.f c.args.span c.args.j
 known c = span_reached c.args.f c.args.span c.args.j c.requires.0.shaped c.requires.1.0 c.requires.1.1
 
-mul_lesser_2 : tie.Need-overflow-mul-lesser-2
+mul_lesser_2 : tie.Need-overflow_mul-j-2
 mul_lesser_2 c =
     let s = c.before in
     let m : (s.args.j + 1) * s.args.span * s.args.f.p ≤ 360000 * 8 =

@@ -24,13 +24,13 @@ found c = data_in_part c.args.f c.args.q c.requires.0 c.requires.2 (λ e. omega 
 product : (c : tie.Start) → (1 ≤ (c.args.q + 1) * c.args.f.copies) × ((c.args.q + 1) * c.args.f.copies ≤ lines_most * lines_most)
 product c = part_product c.args.f c.args.q c.requires.0 c.requires.2 (λ e. omega arith)
 
-mul_result : tie.Need-overflow-mul-result
+mul_result : tie.Need-overflow_mul-result
 mul_result c =
     let start = c.before.before.before in
     let p = found start in
     rw (tree start) (omega (arith, p.is, p.ends, start.requires.0.size_high))
 
-add_result_2 : tie.Need-overflow-add-result-2
+add_result_2 : tie.Need-overflow_add-result-2
 add_result_2 c =
     let start = c.before.before.before in
     let p = found start in

@@ -21,51 +21,51 @@ abbrev behind : tie.Start → ℕ
 behind c = (c.args.j + 1) * c.args.f.n ^ c.requires.1.1.1.1.spans.height
 
 -- the data bucket
-bucket_is : (c : tie.After-lesser) → c.lesser.result - 1 ≡ last_data c.before.args.f (behind c.before)
+bucket_is : (c : tie.After-lesser-q) → c.lesser-q.result - 1 ≡ last_data c.before.args.f (behind c.before)
 bucket_is c =
     let s = c.before in
-    ap (λ z. z - 1) (c.lesser.ensures ∙ ap (λ m. min s.args.f.d ((s.args.j + 1) * m)) s.requires.1.1.1.1.spans.power)
+    ap (λ z. z - 1) (c.lesser-q.ensures ∙ ap (λ m. min s.args.f.d ((s.args.j + 1) * m)) s.requires.1.1.1.1.spans.power)
 
-room : (c : tie.After-lesser) → Room c.before.args.f c.before.args.s (c.lesser.result - 1)
+room : (c : tie.After-lesser-q) → Room c.before.args.f c.before.args.s (c.lesser-q.result - 1)
 room c =
     let s = c.before in
     let at = s.requires.1.1.1.1 in
     place_room s.args.f s.args.s s.requires.0 s.requires.1.0 s.requires.1.1.0 s.requires.1.1.1.0 at.spans.height s.args.j at.spans.inside at.under
-    (c.lesser.result - 1) (bucket_is c)
+    (c.lesser-q.result - 1) (bucket_is c)
 
-some : (c : tie.After-lesser) → 1 ≤ c.lesser.result
+some : (c : tie.After-lesser-q) → 1 ≤ c.lesser-q.result
 some c =
     let s = c.before in
     let wide : (s.args.j + 1) * s.args.span ≡ s.args.j * s.args.span + s.args.span =
     ap (λ z. z * s.args.span) (add-one s.args.j) ∙ suc-mul s.args.j s.args.span in
-    omega (arith, c.lesser.ensures, wide, (known s).some_data, s.requires.1.1.1.0)
+    omega (arith, c.lesser-q.ensures, wide, (known s).some_data, s.requires.1.1.1.0)
 
-abbrev bucket : tie.After-struct-known4 → tie.After-lesser
+abbrev bucket : tie.After-struct_known-4-1 → tie.After-lesser-q
 bucket c = c.before.before.before.before.before
 
-few : (c : tie.After-struct-known4) → c.before.before.lesser2.result ≤ 8
-few c = omega (arith, c.before.before.lesser2.ensures, (bucket c).before.requires.0.shaped.p_high)
+few : (c : tie.After-struct_known-4-1) → c.before.before.lesser-lines.result ≤ 8
+few c = omega (arith, c.before.before.lesser-lines.ensures, (bucket c).before.requires.0.shaped.p_high)
 
-lines_are : (c : tie.After-struct-known4) → c.before.before.lesser2.result ≡ last_lines (bucket c).before.args.f (behind (bucket c).before)
+lines_are : (c : tie.After-struct_known-4-1) → c.before.before.lesser-lines.result ≡ last_lines (bucket c).before.args.f (behind (bucket c).before)
 lines_are c =
     let f = (bucket c).before.args.f in
-    c.before.before.lesser2.ensures ∙ ap (λ q. min f.p (f.lines - q * f.p)) (bucket_is (bucket c))
+    c.before.before.lesser-lines.ensures ∙ ap (λ q. min f.p (f.lines - q * f.p)) (bucket_is (bucket c))
 
-line_there : (c : tie.After-struct-known4) → LastLine (bucket c).before.args.f (behind (bucket c).before)
+line_there : (c : tie.After-struct_known-4-1) → LastLine (bucket c).before.args.f (behind (bucket c).before)
 line_there c =
     let s = (bucket c).before in
-    let at = s.pre.1.1.1.1 in
-    last_line_there s.args.f s.args.s s.pre.0 s.pre.1.0 s.pre.1.1.0 s.pre.1.1.1.0 at.spans.height s.args.j at.spans.inside at.under
+    let at = s.requires.1.1.1.1 in
+    last_line_there s.args.f s.args.s s.requires.0 s.requires.1.0 s.requires.1.1.0 s.requires.1.1.1.0 at.spans.height s.args.j at.spans.inside at.under
 
 returns : tie.Need-returns
 returns c =
     let at = bucket c in
     let s = at.before in
     let f = s.args.f in
-    let spans = s.pre.1.1.1.1.spans in
-    ap (λ z. bucket_length * (s.args.s.data_at + (at.lesser.result - 1 - s.args.s.first)) + (lines_start + line_columns_width * (z - 1))) (lines_are c)
+    let spans = s.requires.1.1.1.1.spans in
+    ap (λ z. bucket_length * (s.args.s.data_at + (at.lesser-q.result - 1 - s.args.s.first)) + (lines_start + line_columns_width * (z - 1))) (lines_are c)
     ∙ ap (λ q. bucket_length * (s.args.s.data_at + (q - s.args.s.first)) + (lines_start + line_columns_width * (last_lines f (behind s) - 1))) (bucket_is at)
-    ∙ place_there f s.args.s s.pre.0 s.pre.1.0 s.pre.1.1.0 s.pre.1.1.1.0 spans.height s.args.j spans.inside s.pre.1.1.1.1.under
+    ∙ place_there f s.args.s s.requires.0 s.requires.1.0 s.requires.1.1.0 s.requires.1.1.1.0 spans.height s.args.j spans.inside s.requires.1.1.1.1.under
     ∙ ap (λ m. tag_place f InImage m s.args.j) (sym spans.power)
 
 pub segment_place_spec : {M : Type 1} → statement M

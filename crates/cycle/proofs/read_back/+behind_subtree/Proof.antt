@@ -12,10 +12,10 @@ use Rattle.cycle.specs.Inner.Comparing.{Matches}
 use Rattle.cycle.proofs.Basics.Deciding.{decides_not, decides_told, finds_none, finds_some}
 use Rattle.cycle.proofs.ReadingBack.Matching.{matches_one, matches_on, matches_at, matches_part, matches_to}
 use Rattle.cycle.proofs.Segmenting.Subtrees.{Behind, own_there, alone, first_fits, none_behind, child_place, child_fits, child_inside, next_behind, all_behind}
-use Rattle.cycle.proofs.read_back.behind_subtree.Reads as behind-subtree
-use Rattle.cycle.proofs.read_back.behind_subtree.Kinds as behind-subtree-kinds
+use Rattle.cycle.proofs.read_back.behind_subtree-next.Reads as behind-subtree
+use Rattle.cycle.proofs.read_back.behind_subtree-next.Kinds as behind-subtree-kinds
 use Rattle.cycle.proofs.read_back.+behind_subtree.Lts-behind_subtree as behind-subtree-lts
-use Rattle.cycle.proofs.index.child_count.Reads as child-count-reads
+use Rattle.cycle.proofs.index.child_count-count.Reads as child-count-reads
 use Rattle.cycle.proofs.read_back.is_tree_bucket.Reads as is-tree-bucket-reads
 use Rattle.cycle.proofs.read_back.+behind_subtree.{statement}
 use Rattle.cycle.proofs.read_back.+behind_subtree.Tie.{close}
@@ -56,13 +56,13 @@ pub +behind-subtree-spec : {M : Type 1} → statement M
     (st.requires.1.0.comparing.holding.ready, st.requires.1.1.low, st.requires.1.1.inside))
     -- is-tree-bucket-requires
     (λ c κs. let st = c.before.before in
-    (st.requires.1.0, st.requires.1.1, c.child-count.ensures))
+    (st.requires.1.0, st.requires.1.1, c.child_count-count.ensures))
     -- returns
     (λ c. let st = c.before.before.before.before in
     let w = st.requires.1.0.comparing in
     let there = own_there w.holding.ready w.placed st.requires.1.1 in
     finds_none
-    ((decides_not c.if1.true (matches_at st.args.x (omega arith) there.0) c.before.is-tree-bucket.ensures).no refl))
+    ((decides_not c.if-not-is_tree_bucket.true-raw (matches_at st.args.x (omega arith) there.0) c.before.is_tree_bucket.ensures).no refl))
     -- add-next
     (λ c. let given = c.before.before.before.before.requires.1 in
     let w = given.0.comparing in
@@ -71,8 +71,8 @@ pub +behind-subtree-spec : {M : Type 1} → statement M
     (λ c. let told = c.before in
     let st = told.before.before.before.before in
     let w = st.requires.1.0.comparing in
-    let end = alone w.holding.ready w.placed st.requires.1.1 c.if2.true in
-    finds_some (matches_to end (matches_one (decides_told told.if1.false told.before.is-tree-bucket.ensures))) (st.args.x + 1) end (omega arith))
+    let end = alone w.holding.ready w.placed st.requires.1.1 c.if-e-eq1.true in
+    finds_some (matches_to end (matches_one (decides_told told.if-not-is_tree_bucket.false-raw told.before.is_tree_bucket.ensures))) (st.args.x + 1) end (omega arith))
     -- sub-below
     (λ c. c.before.before.before.before.before.requires.1.1.low)
     -- mul-first
@@ -83,44 +83,44 @@ pub +behind-subtree-spec : {M : Type 1} → statement M
     (λ c. let told = c.before.before in
     let given = told.before.before.before.before.requires.1 in
     let w = given.0.comparing in
-    (none_behind w.holding.ready w.placed given.1 told.before.before.child-count.ensures, matches_one (decides_told told.if1.false told.before.is-tree-bucket.ensures)))
+    (none_behind w.holding.ready w.placed given.1 told.before.before.child_count-count.ensures, matches_one (decides_told told.if-not-is_tree_bucket.false-raw told.before.is_tree_bucket.ensures)))
     -- add-behind-subtree
     (λ c. let loop = c.before in
     let given = loop.before.before.before.before.before.before.before.requires.1 in
     let w = given.0.comparing in
-    let count = loop.before.before.before.before.before.child-count.ensures in
-    child_fits w.holding.ready w.placed given.1 count loop.loop.invariant.0 loop.before.before.if2.false c.loop-test.true)
+    let count = loop.before.before.before.before.before.child_count-count.ensures in
+    child_fits w.holding.ready w.placed given.1 count loop.loop.invariant.0 loop.before.before.if-e-eq1.false c.loop-i-test.true)
     -- behind-subtree-requires
     (λ c κs. let loop = c.before in
     let st = loop.before.before.before.before.before.before.before in
     let w = st.requires.1.0.comparing in
-    let count = loop.before.before.before.before.before.child-count.ensures in
-    let place = child_place w.holding.ready w.placed st.requires.1.1 count loop.loop.invariant.0 loop.before.before.if2.false c.loop-test.true in
+    let count = loop.before.before.before.before.before.child_count-count.ensures in
+    let place = child_place w.holding.ready w.placed st.requires.1.1 count loop.loop.invariant.0 loop.before.before.if-e-eq1.false c.loop-i-test.true in
     (omega (arith, st.requires.0, st.requires.1.1.low), (st.requires.1.0, place)))
     -- returns-3
     (λ c. let turn = c.before.before in
     let loop = turn.before in
     let given = loop.before.before.before.before.before.before.before.requires.1 in
     let w = given.0.comparing in
-    let count = loop.before.before.before.before.before.child-count.ensures in
-    let fits = child_inside w.holding.ready w.placed given.1 count loop.loop.invariant.0 loop.before.before.if2.false turn.loop-test.true in
-    finds_none (λ whole. c.before.behind-subtree.ensures.none c.if3.true (matches_part _ _ (omega (arith, loop.loop.invariant.0)) fits whole)))
+    let count = loop.before.before.before.before.before.child_count-count.ensures in
+    let fits = child_inside w.holding.ready w.placed given.1 count loop.loop.invariant.0 loop.before.before.if-e-eq1.false turn.loop-i-test.true in
+    finds_none (λ whole. c.before.behind_subtree-next.ensures.none c.if-next-eq0.true (matches_part _ _ (omega (arith, loop.loop.invariant.0)) fits whole)))
     -- add-i
-    (λ c. omega (arith, c.before.before.loop-test.true))
+    (λ c. omega (arith, c.before.before.loop-i-test.true))
     -- loop-less
-    (λ c. omega (arith, c.before.before.loop-test.true))
+    (λ c. omega (arith, c.before.before.loop-i-test.true))
     -- loop-again
     (λ c. let turn = c.before.before in
     let loop = turn.before in
     let given = loop.before.before.before.before.before.before.before.requires.1 in
     let w = given.0.comparing in
-    let count = loop.before.before.before.before.before.child-count.ensures in
-    let told = c.before.behind-subtree.ensures.found c.if3.false in
-    (next_behind w.holding.ready w.placed given.1 count loop.loop.invariant.0 turn.loop-test.true told.1, matches_to (sym told.1) (matches_on loop.loop.invariant.1 told.0)))
+    let count = loop.before.before.before.before.before.child_count-count.ensures in
+    let told = c.before.behind_subtree-next.ensures.found c.if-next-eq0.false in
+    (next_behind w.holding.ready w.placed given.1 count loop.loop.invariant.0 turn.loop-i-test.true told.1, matches_to (sym told.1) (matches_on loop.loop.invariant.1 told.0)))
     -- returns-4
     (λ c. let loop = c.before in
     let given = loop.before.before.before.before.before.before.before.requires.1 in
     let w = given.0.comparing in
-    let count = loop.before.before.before.before.before.child-count.ensures in
-    let end = all_behind w.holding.ready w.placed given.1 count loop.loop.invariant.0 c.loop-test.false in
+    let count = loop.before.before.before.before.before.child_count-count.ensures in
+    let end = all_behind w.holding.ready w.placed given.1 count loop.loop.invariant.0 c.loop-i-test.false in
     finds_some (matches_to end loop.loop.invariant.1) loop.loop.next end (omega (arith, loop.loop.invariant.0)))

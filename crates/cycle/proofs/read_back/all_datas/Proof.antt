@@ -21,52 +21,52 @@ use Rattle.cycle.proofs.read_back.all_datas.Tie as tie
 abbrev Stand : Figures → List ℕ → ℕ → Type 0
 Stand f image x = DataMatches (plan_in f InImage image) image 0 (sent_by (plan_of f []) x)
 
-abbrev invariant-loop : tie.invariant-loop
-invariant-loop image f count i₀ i = Through f (Stand f image) count i
+abbrev invariant-loop-i : tie.invariant-loop-i
+invariant-loop-i image f count i₀ i = Through f (Stand f image) count i
 
-abbrev decreases-loop : tie.decreases-loop
-decreases-loop image f count i₀ i = count - i
+abbrev decreases-loop-i : tie.decreases-loop-i
+decreases-loop-i image f count i₀ i = count - i
 
-abbrev start : tie.After-segment-count invariant-loop decreases-loop → tie.Start invariant-loop decreases-loop
+abbrev start : tie.After-segment_count-count invariant-loop-i decreases-loop-i → tie.Start invariant-loop-i decreases-loop-i
 start c = c.before.before
 
-comparing : (c : tie.After-segment-of invariant-loop decreases-loop) →
+comparing : (c : tie.After-segment_of invariant-loop-i decreases-loop-i) →
     let s = start c.before.before.before in
-    Comparing s.args.f s.args.image.now c.segment-of.result
-comparing c = record { holding = (start c.before.before.before).pre; placed = c.segment-of.ensures.0 }
+    Comparing s.args.f s.args.image.now c.segment_of.result
+comparing c = record { holding = (start c.before.before.before).requires; placed = c.segment_of.ensures.0 }
 
-returns : tie.Need-returns invariant-loop decreases-loop
+returns : tie.Need-returns-then-not-are_datas invariant-loop-i decreases-loop-i
 returns c =
     let seg = c.before.before in
     let s = start seg.before.before.before in
-    decides_not c.if1.true (datas_within s.args.f s.args.image.now seg.segment-of.result (comparing seg)) c.before.are-datas.ensures
+    decides_not c.if-not-are_datas.true-raw (datas_within s.args.f s.args.image.now seg.segment_of.result (comparing seg)) c.before.are_datas.ensures
 
-loop_again : tie.Need-loop-preserved invariant-loop decreases-loop
+loop_again : tie.Need-loop-i-preserved invariant-loop-i decreases-loop-i
 loop_again c =
     let seg = c.before.before in
     let s = start seg.before.before.before in
-    let told = decides_told c.if1.false c.before.are-datas.ensures in
-    through_next seg.before.before.loop.invariant seg.before.loop-test.true seg.segment-of.ensures
-    (λ d. datas_more s.args.f s.args.image.now seg.segment-of.result (comparing seg) d told)
+    let told = decides_told c.if-not-are_datas.false-raw c.before.are_datas.ensures in
+    through_next seg.before.before.loop-i.invariant seg.before.loop-i-test.true seg.segment_of.ensures
+    (λ d. datas_more s.args.f s.args.image.now seg.segment_of.result (comparing seg) d told)
 
-returns_2 : tie.Need-returns-2 invariant-loop decreases-loop
+returns_2 : tie.Need-returns invariant-loop-i decreases-loop-i
 returns_2 c =
     let count = c.before.before in
     let f = (start count).args.f in
     let ready = (start count).requires.ready in
-    let all = through_all c.before.loop.invariant ready count.segment-count.ensures c.loop-test.false in
+    let all = through_all c.before.loop-i.invariant ready count.segment_count-count.ensures c.loop-i-test.false in
     decides_yes (datas_to (ap (sent_by (plan_of f [])) ready.size_is ∙ all_sent f ready) all)
 
 pub all_datas_spec : {M : Type 1} → statement M
 all_datas_spec =
     tie.close
-    (tie.spec invariant-loop decreases-loop
+    (tie.spec invariant-loop-i decreases-loop-i
     (λ c κs. c.before.requires.ready)
     (λ c. through_none (datas_to (sym (sent_none _)) datas_none))
-    (λ c κs. segment_asked c.before.loop.invariant (start c.before.before).pre.ready c.before.before.segment-count.ensures c.loop-test.true)
+    (λ c κs. segment_asked c.before.loop-i.invariant (start c.before.before).requires.ready c.before.before.segment_count-count.ensures c.loop-i-test.true)
     (λ c κs. comparing c)
     returns
-    (λ c. omega (arith, c.before.before.before.loop-test.true))
-    (λ c. omega (arith, c.before.before.before.loop-test.true))
+    (λ c. omega (arith, c.before.before.before.loop-i-test.true))
+    (λ c. omega (arith, c.before.before.before.loop-i-test.true))
     loop_again
     returns_2)

@@ -14,47 +14,47 @@ use Rattle.cycle.proofs.ReadingBack.Comparisons.{seats}
 use Rattle.cycle.proofs.read_back.are_datas.Statement.{statement}
 use Rattle.cycle.proofs.read_back.are_datas.Tie as tie
 
-abbrev invariant-loop : tie.invariant-loop
-invariant-loop image f s x₀ q₀ x q =
+abbrev invariant-loop-q : tie.invariant-loop-q
+invariant-loop-q image f s x₀ q₀ x q =
     RowAt s.first s.last s.data_at q x × Matches (plan_in f InImage image) image s.data_at x
 
-abbrev decreases-loop : tie.decreases-loop
-decreases-loop image f s x₀ q₀ x q = s.last - q
+abbrev decreases-loop-q : tie.decreases-loop-q
+decreases-loop-q image f s x₀ q₀ x q = s.last - q
 
-abbrev start : tie.At-loop invariant-loop decreases-loop → tie.Start invariant-loop decreases-loop
+abbrev start : tie.At-loop-q invariant-loop-q decreases-loop-q → tie.Start invariant-loop-q decreases-loop-q
 start c = c.before.before
 
-returns : tie.Need-returns invariant-loop decreases-loop
+returns : tie.Need-returns-then-not-is_data invariant-loop-q decreases-loop-q
 returns c =
     let turn = c.before.before in
     let loop = turn.before.before in
-    row_not ((start loop).requires.placed []).ends loop.loop.invariant.0 turn.if1.true c.if2.true c.before.is_data_lem.ensures
+    row_not ((start loop).requires.placed []).ends loop.loop.invariant.0 turn.loop-q-test.true c.if-not-is_data.true-raw c.before.is_data_lem.ensures
 
-add_x : tie.Need-overflow-add-x invariant-loop decreases-loop
+add_x : tie.Need-overflow_add-x invariant-loop-q decreases-loop-q
 add_x c =
     let turn = c.before.before in
     let loop = turn.before.before in
     let s = start loop in
-    omega (arith, seats s.args.f s.args.image.now s.args.s s.pre, row_inside (s.pre.placed []).ends loop.loop.invariant.0 turn.if1.true)
+    omega (arith, seats s.args.f s.args.image.now s.args.s s.requires, row_inside (s.requires.placed []).ends loop.loop.invariant.0 turn.loop-q-test.true)
 
-loop_again : tie.Need-loop-preserved invariant-loop decreases-loop
+loop_again : tie.Need-loop-q-preserved invariant-loop-q decreases-loop-q
 loop_again c =
     let turn = c.before.before in
     let loop = turn.before.before in (
-      row_next ((start loop).requires.placed []).ends loop.loop.invariant.0 turn.if1.true,
-      matches_next loop.loop.invariant.1 (decides_told c.if2.false c.before.is_data_lem.ensures),
+      row_next ((start loop).requires.placed []).ends loop.loop.invariant.0 turn.loop-q-test.true,
+      matches_next loop.loop.invariant.1 (decides_told c.if-not-is_data.false-raw c.before.is_data_lem.ensures),
     )
 
 pub are_datas_spec : {M : Type 1} → statement M
 are_datas_spec =
     tie.close
-    (tie.spec invariant-loop decreases-loop
+    (tie.spec invariant-loop-q decreases-loop-q
     (λ c. (row_start, matches_none _))
-    (λ c κs. let loop = c.before.before in ((start loop).requires, data_place loop.loop.invariant.0 c.if1.true))
+    (λ c κs. let loop = c.before.before in ((start loop).requires, data_place loop.loop.invariant.0 c.loop-q-test.true))
     returns
     add_x
-    (λ c. omega (arith, c.before.before.if1.true, c.before.before.before.struct_known.given))
-    (λ c. omega (arith, c.before.before.if1.true))
+    (λ c. omega (arith, c.before.before.loop-q-test.true, c.before.before.before.struct_known-1.given))
+    (λ c. omega (arith, c.before.before.loop-q-test.true))
     loop_again
     (λ c. let loop = c.before.before in
-    row_all ((start loop).requires.placed []).ends loop.loop.invariant.0 c.if1.false loop.loop.invariant.1))
+    row_all ((start loop).requires.placed []).ends loop.loop.invariant.0 c.loop-q-test.false loop.loop.invariant.1))

@@ -46,77 +46,77 @@ none_builds_lem c h = (every_read_back (set c) (bytes c) (length c.args.out.now)
 
 -- ---- with their size
 
-abbrev entry : tie.After-with-size → tie.Start
+abbrev entry : tie.After-with_size-sized → tie.Start
 entry c = c.before.before.before.before.before
 
-copies_are : (c : tie.Else1) → copies_fit (plan_of c.before.before.before.before.args.f []) ≡ true
-copies_are c = sym c.before.copies_fit_lem.ensures ∙ not-false _ c.if1.false
+copies_are : (c : tie.Else-not-copies_fit) → copies_fit (plan_of c.before.before.before.before.args.f []) ≡ true
+copies_are c = sym c.before.copies_fit_lem.ensures ∙ not-false _ c.if-not-copies_fit.false-raw
 
-sizes : (c : tie.After-with-size) → Sized (entry c).args.f c.with_size.result
-sizes c = ReadBackAnswers.with_size (entry c).args.f c.with_size.result (entry c).requires.0 c.with_size.ensures
+sizes : (c : tie.After-with_size-sized) → Sized (entry c).args.f c.with_size-sized.result
+sizes c = ReadBackAnswers.with_size-sized (entry c).args.f c.with_size-sized.result (entry c).requires.0 c.with_size-sized.ensures
 
-count : (c : tie.After-with-size) → c.with_size.result.lines ≡ counted c.with_size.result.p (bytes (entry c))
+count : (c : tie.After-with_size-sized) → c.with_size-sized.result.lines ≡ counted c.with_size-sized.result.p (bytes (entry c))
 count c = (sizes c).lines_same ∙ ((entry c).requires.4 ∙ ap (λ p. counted p (bytes (entry c))) (sym (sizes c).p_same))
 
-held : (c : tie.Else2) → Holding c.before.before.with_size.result (bytes (entry c.before.before))
+held : (c : tie.Else-sized-count) → Holding c.before.before.with_size-sized.result (bytes (entry c.before.before))
 held c =
     let sized = c.before.before in
     let s = entry sized in
-    holding s.args.f sized.with_size.result (bytes s) s.pre.0 (sizes sized) (copies_are sized.before) c.if2.false s.pre.2 s.pre.3
+    holding s.args.f sized.with_size-sized.result (bytes s) s.requires.0 (sizes sized) (copies_are sized.before) c.if-sized-count.false s.requires.2 s.requires.3
 
-returns : tie.Need-returns
+returns : tie.Need-returns-then-not-copies_fit
 returns c =
     let s = c.before.before.before.before in
     refuses 13 0 _ s.args.out.now
     (none_builds_lem s
-    (copies_refused (set s) s.args.f (bytes s) (figured s) s.requires.4 (sym c.before.copies_fit_lem.ensures ∙ not-true _ c.if1.true)))
+    (copies_refused (set s) s.args.f (bytes s) (figured s) s.requires.4 (sym c.before.copies_fit_lem.ensures ∙ not-true _ c.if-not-copies_fit.true-raw)))
 
-returns_2 : tie.Need-returns-2
+returns_2 : tie.Need-returns-then-sized-count
 returns_2 c =
     let sized = c.before.before in
     let s = entry sized in
     refuses 13 0 _ s.args.out.now
     (none_builds_lem s
-    (size_refused (set s) s.args.f (bytes s) (figured s) s.pre.4 (λ e. c.if2.true ((sizes sized).same_size ∙ e))))
+    (size_refused (set s) s.args.f (bytes s) (figured s) s.requires.4 (λ e. c.if-sized-count.true ((sizes sized).same_size ∙ e))))
 
-returns_3 : tie.Need-returns-3
+returns_3 : tie.Need-returns-then-not-is_cycle
 returns_3 c =
     let sized = c.before.before.before.before in
     let s = entry sized in
     refuses 13 0 _ s.args.out.now
     (none_builds_lem s
-    (cycle_refused (set s) sized.with_size.result (bytes s) (sizes sized).figured (count sized) (sizes sized).size_is
-    (c.before.is-cycle.ensures.no (not-true _ c.if3.true))))
+    (cycle_refused (set s) sized.with_size-sized.result (bytes s) (sizes sized).figured (count sized) (sizes sized).size_is
+    (c.before.is_cycle.ensures.no (not-true _ c.if-not-is_cycle.true-raw))))
 
-mul_if4 : tie.Need-overflow-mul-if4
+mul_if4 : tie.Need-overflow_mul-sized
 mul_if4 c =
     let matched = c.before.before.before in
     omega (arith, (held matched).ready.shaped.lines_high)
 
-returns_4 : tie.Need-returns-4
+returns_4 : tie.Need-returns-then-room-sized
 returns_4 c =
     let same = c.before.before in
     let sized = same.before.before.before.before in
     let s = entry sized in
     refuses 7 0 _ s.args.out.now
-    (room_refused (set s) sized.with_size.result (bytes s) (fit s) (sizes sized).figured (held same.before.before)
-    (decides_told same.if3.false same.before.is-cycle.ensures) (length s.args.out.now) (omega (arith, c.if4.true)))
+    (room_refused (set s) sized.with_size-sized.result (bytes s) (fit s) (sizes sized).figured (held same.before.before)
+    (decides_told same.if-not-is_cycle.false-raw same.before.is_cycle.ensures) (length s.args.out.now) (omega (arith, c.if-room-sized.true)))
 
-write_list_requires : tie.Need-write-list-requires
+write_list_requires : tie.Need-write_list-requires
 write_list_requires c κs =
     let roomy = c.before in
     let matched = roomy.before.before.before.before in
-    (held matched, omega (arith, roomy.if4.false))
+    (held matched, omega (arith, roomy.if-room-sized.false))
 
-returns_5 : tie.Need-returns-5
+returns_5 : tie.Need-returns
 returns_5 c =
     let wrote = c.before.before in
     let roomy = wrote.before.before in
     let same = roomy.before.before in
     let sized = same.before.before.before.before in
     let s = entry sized in
-    list_written (set s) sized.with_size.result (bytes s) (fit s) (sizes sized).figured (held same.before.before)
-    (decides_told same.if3.false same.before.is-cycle.ensures) s.args.out.now _ (omega (arith, roomy.if4.false)) wrote.write-list.ensures
+    list_written (set s) sized.with_size-sized.result (bytes s) (fit s) (sizes sized).figured (held same.before.before)
+    (decides_told same.if-not-is_cycle.false-raw same.before.is_cycle.ensures) s.args.out.now _ (omega (arith, roomy.if-room-sized.false)) wrote.write_list.ensures
 
 pub hand_out_spec : {M : Type 1} → statement M
 hand_out_spec =

@@ -10,7 +10,7 @@ use Rattle.cycle.proofs.read_back.is_at.Tie as tie
 returns : tie.Need-returns
 returns c =
     let s = c.before.before.before.before in
-    subst (λ b. Decides (b ≡ s.args.wanted.now) c.same-bucket.result) (part_bytes s.args.image.now s.args.x) c.same-bucket.ensures
+    subst (λ b. Decides (b ≡ s.args.wanted.now) c.same_bucket.result) (part_bytes s.args.image.now s.args.x) c.same_bucket.ensures
 
 pub is_at_spec : {M : Type 1} → statement M
 is_at_spec =

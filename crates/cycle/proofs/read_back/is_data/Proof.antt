@@ -50,10 +50,10 @@ lines_low c =
 
 -- ---- what is read
 
-abbrev seen : tie.After-read-bucket → Option Bucket
+abbrev seen : tie.After-read_bucket-r → Option Bucket
 seen c = read_bucket (bucket_at c.before.before.before.args.image.now c.before.before.before.args.x)
 
-read_is : (c : tie.After-read-bucket) → c.read_bucket_lem.result ≡ as_reading (seen c)
+read_is : (c : tie.After-read_bucket-r) → c.read_bucket_lem.result ≡ as_reading (seen c)
 read_is c = c.read_bucket_lem.ensures ∙ ap (λ s. as_reading (read_bucket s)) (part_bytes _ _)
 
 -- the facts decide
@@ -85,61 +85,61 @@ misprint_apart e = let z : ◌≡◌ {A = ℕ} 0 1 = cc in omega arith
 -- ---- the needs
 
 -- the place behind the reading, and the entry
-abbrev met : tie.After-head → tie.After-read-bucket
+abbrev met : tie.After-head-1 → tie.After-read_bucket-r
 met c = c.before.before.before
 
-abbrev entry : tie.After-read-bucket → tie.Start
+abbrev entry : tie.After-read_bucket-r → tie.Start
 entry c = c.before.before.before
 
-head_at_requires : tie.Need-head-at-requires
+head_at_requires : tie.Need-head_at-requires
 head_at_requires c κs =
     let s = entry (met c) in
-    head_asked s.args.f s.args.s s.pre.0.holding.ready s.pre.0.placed s.args.x
-    (omega (arith, seated s, s.pre.1.here)) (below s)
+    head_asked s.args.f s.args.s s.requires.0.holding.ready s.requires.0.placed s.args.x
+    (omega (arith, seated s, s.requires.1.here)) (below s)
 
-returns : tie.Need-returns
+returns : tie.Need-returns-then-not-same_head
 returns c =
     let called = c.before.before in
     let at = met called.before in
     by_facts (entry at) _ _ _ false called.head_at.ensures refl refl
-    (decides_not c.if1.true (λ g. ap (λ r. r.head) (read_is at) ∙ g.0.head_is) c.before.same_head.ensures)
+    (decides_not c.if-not-same_head.true-raw (λ g. ap (λ r. r.head) (read_is at) ∙ g.0.head_is) c.before.same_head.ensures)
 
-abbrev headed : tie.Else1 → tie.After-head-at
+abbrev headed : tie.Else-not-same_head → tie.After-head_at
 headed c = c.before.before
 
-mul_from : tie.Need-overflow-mul-from
+mul_from : tie.Need-overflow_mul-from
 mul_from c =
     let s = entry (met (headed c.before).before) in
-    omega (arith, lines_low s, s.pre.0.holding.ready.shaped.lines_high)
+    omega (arith, lines_low s, s.requires.0.holding.ready.shaped.lines_high)
 
-sub_lesser : tie.Need-overflow-sub-lesser
+sub_lesser : tie.Need-overflow_sub-f
 sub_lesser c =
     let s = entry (met (headed c.before.before).before) in
     omega (arith, lines_low s)
 
-returns_2 : tie.Need-returns-2
+returns_2 : tie.Need-returns-then-r-lesser
 returns_2 c =
     let called = headed c.before.before.before.before in
     let at = met called.before in
     by_facts (entry at) _ _ _ false called.head_at.ensures c.before.lesser.ensures refl
-    (decides_no (λ g. c.if2.true (ap (λ r. r.lines) (read_is at) ∙ g.0.count_is)))
+    (decides_no (λ g. c.if-r-lesser.true (ap (λ r. r.lines) (read_is at) ∙ g.0.count_is)))
 
 -- behind the test of the number of lines
-abbrev told : tie.Else2 → tie.After-head-at
+abbrev told : tie.Else-r-lesser → tie.After-head_at
 told c = headed c.before.before.before.before
 
-some_lines : (c : tie.Else2) →
+some_lines : (c : tie.Else-r-lesser) →
     let r = (met (told c).before).read_bucket_lem.result in
     (1 ≤ r.lines) × (r.lines ≤ bucket_lines_most)
 some_lines c =
     let s = entry (met (told c).before) in
-    let shaped = s.pre.0.holding.ready.shaped in
+    let shaped = s.requires.0.holding.ready.shaped in
     let least = c.before.lesser.ensures in (
-      omega (arith, c.if2.false, least, lines_low s, shaped.p_low),
-      omega (arith, c.if2.false, least, shaped.p_high),
+      omega (arith, c.if-r-lesser.false, least, lines_low s, shaped.p_low),
+      omega (arith, c.if-r-lesser.false, least, shaped.p_high),
     )
 
-last_read : (c : tie.Else2) →
+last_read : (c : tie.Else-r-lesser) →
     let at = met (told c).before in
     let s = entry at in
     get_or at.read_bucket_lem.result.tags (at.read_bucket_lem.result.lines - 1) 0 ≡ last_tag (plan_in s.args.f InImage s.args.image.now) s.args.q
@@ -147,28 +147,28 @@ last_read c =
     let called = told c in
     let at = met called.before in
     let s = entry at in
-    last_known s.args.f s.args.image.now s.pre.0.holding.ready s.args.x s.args.q
-    (stands_here s.args.f s.args.image.now s.args.s s.pre.0 s.args.q s.args.x s.pre.1.low s.pre.1.high s.pre.1.here)
-    at.read_bucket_lem.result (read_is at) called.before.before.enum-told3.given.1 (c.if2.false ∙ c.before.lesser.ensures) (some_lines c).0
+    last_known s.args.f s.args.image.now s.requires.0.holding.ready s.args.x s.args.q
+    (stands_here s.args.f s.args.image.now s.args.s s.requires.0 s.args.q s.args.x s.requires.1.low s.requires.1.high s.requires.1.here)
+    at.read_bucket_lem.result (read_is at) called.before.before.enum_told-in-Data-1.given.1 (c.if-r-lesser.false ∙ c.before.lesser.ensures) (some_lines c).0
 
-is_followed_requires : tie.Need-is-followed-requires
+is_followed_requires : tie.Need-is_followed-requires
 is_followed_requires c κs =
     let s = entry (met (told c.before).before) in
-    (s.pre.0, s.pre.1, last_read c.before)
+    (s.requires.0, s.requires.1, last_read c.before)
 
-returns_3 : tie.Need-returns-3
+returns_3 : tie.Need-returns-in-Index
 returns_3 c =
     let at = c.before.before in
     by_facts (entry at) _ _ _ false refl refl refl
     (other_kind (seen at) at.read_bucket_lem.result KindIndex _ _ _ (read_is at) c.enum_told.given.1 index_apart)
 
-returns_4 : tie.Need-returns-4
+returns_4 : tie.Need-returns-in-Misprinted
 returns_4 c =
     let at = c.before.before in
     by_facts (entry at) _ _ _ false refl refl refl
-    (other_kind (seen at) at.read_bucket_lem.result KindMisprinted _ _ _ (read_is at) c.enum-told2.given.1 misprint_apart)
+    (other_kind (seen at) at.read_bucket_lem.result KindMisprinted _ _ _ (read_is at) c.enum_told-in-Misprinted-1.given.1 misprint_apart)
 
-returns_5 : tie.Need-returns-5
+returns_5 : tie.Need-returns-else-r-lesser
 returns_5 c =
     let third = c.before.before in
     let second = third.before.before.before.before in
@@ -178,15 +178,15 @@ returns_5 c =
     (decides_by
     (λ w. (
       record {
-        kind_is = sym (ap (λ r. r.kind) (read_is at)) ∙ called.before.before.enum-told3.given.1;
-        head_is = sym (ap (λ r. r.head) (read_is at)) ∙ decides_told second.if1.false second.before.same_head.ensures;
-        count_is = sym (ap (λ r. r.lines) (read_is at)) ∙ third.if2.false;
+        kind_is = sym (ap (λ r. r.kind) (read_is at)) ∙ called.before.before.enum_told-in-Data-1.given.1;
+        head_is = sym (ap (λ r. r.head) (read_is at)) ∙ decides_told second.if-not-same_head.false-raw second.before.same_head.ensures;
+        count_is = sym (ap (λ r. r.lines) (read_is at)) ∙ third.if-r-lesser.false;
         follow_is = sym (ap (λ r. r.follow_on) (read_is at)) ∙ w.follow_is;
       },
       w.in_order,
     ))
     (λ g. record { follow_is = ap (λ r. r.follow_on) (read_is at) ∙ g.0.follow_is; in_order = g.1 })
-    c.is-followed.ensures)
+    c.is_followed.ensures)
 
 pub is_data_spec : {M : Type 1} → statement M
 is_data_spec =

@@ -20,27 +20,27 @@ below c =
       path_below c.args.f c.args.image.now c.args.s w c.args.i c.requires.1 c.requires.2,
     )
 
-print_path_bucket_requires : tie.Need-print-path-bucket-requires
+print_path_bucket_requires : tie.Need-print_path_bucket-requires
 print_path_bucket_requires c κs =
     let s = c.before.before in
     (refl, (printing s.args.f s.args.image.now s.args.s s.requires.0, record { from_top = s.requires.1; high = s.requires.2; here = s.requires.3 }))
 
-abbrev begun : tie.After-print-path-bucket → tie.Start
+abbrev begun : tie.After-print_path_bucket → tie.Start
 begun c = c.before.before.before
 
-is_at_requires : tie.Need-is-at-requires
+is_at_requires : tie.Need-is_at-requires
 is_at_requires c κs =
     let printed = c.before.before in
     let s = begun printed in
-    let room = room_at s.args.f s.args.image.now s.args.s s.pre.0.comparing s.args.x (below s) in
-    (room.0, room.1, printed.print-path-bucket.auto.0)
+    let room = room_at s.args.f s.args.image.now s.args.s s.requires.0.comparing s.args.x (below s) in
+    (room.0, room.1, printed.print_path_bucket.auto.0)
 
 returns : tie.Need-returns
 returns c =
     let printed = c.before.before.before in
     let s = begun printed in
-    path_decided s.args.f s.args.image.now s.args.s s.pre.0 s.args.i s.args.x s.pre.1 s.pre.2 s.pre.3 c.is_at.result
-    (subst (λ b. Decides (bucket_at s.args.image.now s.args.x ≡ b) c.is_at.result) printed.print-path-bucket.ensures c.is_at.ensures)
+    path_decided s.args.f s.args.image.now s.args.s s.requires.0 s.args.i s.args.x s.requires.1 s.requires.2 s.requires.3 c.is_at.result
+    (subst (λ b. Decides (bucket_at s.args.image.now s.args.x ≡ b) c.is_at.result) printed.print_path_bucket.ensures c.is_at.ensures)
 
 pub is_path_bucket_spec : {M : Type 1} → statement M
 is_path_bucket_spec =

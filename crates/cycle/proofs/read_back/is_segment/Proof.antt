@@ -22,26 +22,26 @@ seated c = seats c.args.f c.args.image.now c.args.s c.requires.comparing
 tree_end : (c : tie.Start) → c.args.s.tree_at + length (tree_at (plan_of c.args.f []) c.args.s.height c.args.s.root) ≡ c.args.s.data_at
 tree_end c = sym (c.requires.comparing.placed []).tree_length
 
-returns : tie.Need-returns
+returns : tie.Need-returns-then-not-is_path
 returns c =
     let start = c.before.before.before in
-    decides_not c.if1.true (matches_part _ _ (omega arith) (omega (arith, seated start))) c.before.is-path.ensures
+    decides_not c.if-not-is_path.true-raw (matches_part _ _ (omega arith) (omega (arith, seated start))) c.before.is_path.ensures
 
-behind_subtree_requires : tie.Need-behind-subtree-requires
+behind_subtree_requires : tie.Need-behind_subtree-requires
 behind_subtree_requires c κs =
     let start = c.before.before.before in
     (start.requires, own_tree start.args.f start.args.s start.requires.comparing.holding.ready start.requires.comparing.placed)
 
-returns_2 : tie.Need-returns-2
+returns_2 : tie.Need-returns
 returns_2 c =
     let path = c.before in
     let start = path.before.before.before in
     decides_by
     (λ tree.
-    matches_on (matches_on (decides_told path.if1.false path.before.is-path.ensures) (matches_to (tree_end start) tree))
+    matches_on (matches_on (decides_told path.if-not-is_path.false-raw path.before.is_path.ensures) (matches_to (tree_end start) tree))
     (datas_within start.args.f start.args.image.now start.args.s start.requires.comparing start.requires.datas))
     (matches_part _ _ (omega (arith, seated start)) (omega (arith, seated start, tree_end start)))
-    (finds_decides c.behind-subtree.ensures)
+    (finds_decides c.behind_subtree.ensures)
 
 pub is_segment_spec : {M : Type 1} → statement M
 is_segment_spec = tie.close (tie.spec (λ c κs. search rules) returns behind_subtree_requires returns_2)

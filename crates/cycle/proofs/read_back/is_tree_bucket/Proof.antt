@@ -20,27 +20,27 @@ below c =
     let w = c.requires.0.comparing in
     tree_before c.args.f c.args.s w.holding.ready w.placed c.args.e c.args.j c.args.x c.requires.1
 
-print_tree_bucket_requires : tie.Need-print-tree-bucket-requires
+print_tree_bucket_requires : tie.Need-print_tree_bucket-requires
 print_tree_bucket_requires c κs =
     let s = c.before.before in
     (refl, (printing s.args.f s.args.image.now s.args.s s.requires.0, (s.requires.1, s.requires.2)))
 
-abbrev begun : tie.After-print-tree-bucket → tie.Start
+abbrev begun : tie.After-print_tree_bucket → tie.Start
 begun c = c.before.before.before
 
-is_at_requires : tie.Need-is-at-requires
+is_at_requires : tie.Need-is_at-requires
 is_at_requires c κs =
     let printed = c.before.before in
     let s = begun printed in
-    let room = room_at s.args.f s.args.image.now s.args.s s.pre.0.comparing s.args.x (omega (arith, seated s, below s)) in
-    (room.0, room.1, printed.print-tree-bucket.auto.0)
+    let room = room_at s.args.f s.args.image.now s.args.s s.requires.0.comparing s.args.x (omega (arith, seated s, below s)) in
+    (room.0, room.1, printed.print_tree_bucket.auto.0)
 
 returns : tie.Need-returns
 returns c =
     let printed = c.before.before.before in
     let s = begun printed in
-    tree_decided s.args.f s.args.image.now s.args.s s.pre.0 s.args.e s.args.j s.args.x s.pre.1 c.is_at.result
-    (subst (λ b. Decides (bucket_at s.args.image.now s.args.x ≡ b) c.is_at.result) printed.print-tree-bucket.ensures c.is_at.ensures)
+    tree_decided s.args.f s.args.image.now s.args.s s.requires.0 s.args.e s.args.j s.args.x s.requires.1 c.is_at.result
+    (subst (λ b. Decides (bucket_at s.args.image.now s.args.x ≡ b) c.is_at.result) printed.print_tree_bucket.ensures c.is_at.ensures)
 
 pub is_tree_bucket_spec : {M : Type 1} → statement M
 is_tree_bucket_spec =

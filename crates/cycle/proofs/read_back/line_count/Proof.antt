@@ -56,59 +56,59 @@ by_digit : (p d last : ℕ) → (d ≡ 0 → ⊥) → 48 ≤ last → lines_by p
 unfolding lines_by
 by_digit p d last f h = rw (ne_eqb d 0 f, le-ltb last 48 h)
 
-abbrev invariant-loop : tie.invariant-loop
-invariant-loop image p count x₀ d₀ last₀ x d last = Counting image p count x d last
+abbrev invariant-loop-x : tie.invariant-loop-x
+invariant-loop-x image p count x₀ d₀ last₀ x d last = Counting image p count x d last
 
-abbrev decreases-loop : tie.decreases-loop
-decreases-loop image p count x₀ d₀ last₀ x d last = count - x
+abbrev decreases-loop-x : tie.decreases-loop-x
+decreases-loop-x image p count x₀ d₀ last₀ x d last = count - x
 
-loop_holds : tie.Need-loop-init invariant-loop decreases-loop
+loop_holds : tie.Need-loop-x-init invariant-loop-x decreases-loop-x
 loop_holds c =
     record { count_is = refl; within = omega arith; few = omega arith; small = omega arith; rest = opened _ _ }
 
-loop_again : tie.Need-loop-preserved invariant-loop decreases-loop
+loop_again : tie.Need-loop-x-preserved invariant-loop-x decreases-loop-x
 loop_again c =
     let known = c.before in
-    let at = known.before.before.loop in
+    let at = known.before.before.loop-x in
     let start = known.before.before.before in
-    let h = known.before.loop-test.true in
+    let h = known.before.loop-x-test.true in
     let next = counted_bucket start.args.image.now start.args.p at.d at.last _ at.x h in
     ⊎_elim
     (λ w.
     rw (w.2, w.3)
     (turn at.invariant h (omega arith) (omega (arith, w.1.given (bucket_length * at.x + item_digit_column))) (next ∙ rw (eq-eqb _ letter_data w.0.taken))))
     (λ w. rw (w.1, w.2) (turn at.invariant h (omega arith) at.invariant.small (next ∙ rw (ne_eqb _ letter_data w.0.left))))
-    c.if1.branch
+    c.if-image-at-eq-DATA.branch
 
-returns : tie.Need-returns invariant-loop decreases-loop
+returns : tie.Need-returns-then-d-eq0 invariant-loop-x decreases-loop-x
 returns c =
-    let o = c.before.before.loop.invariant in
-    sym (ended o c.before.loop-test.false ∙ by_none _ _ _ c.if2.true)
+    let o = c.before.before.loop-x.invariant in
+    sym (ended o c.before.loop-x-test.false ∙ by_none _ _ _ c.if-d-eq0.true)
 
-returns_2 : tie.Need-returns-2 invariant-loop decreases-loop
+returns_2 : tie.Need-returns-then-last-lt48 invariant-loop-x decreases-loop-x
 returns_2 c =
-    let o = c.before.before.before.loop.invariant in
-    sym (ended o c.before.before.loop-test.false ∙ by_low _ _ _ c.before.if2.false c.if3.true)
+    let o = c.before.before.before.loop-x.invariant in
+    sym (ended o c.before.before.loop-x-test.false ∙ by_low _ _ _ c.before.if-d-eq0.false c.if-last-lt48.true)
 
-returns_3 : tie.Need-returns-3 invariant-loop decreases-loop
+returns_3 : tie.Need-returns invariant-loop-x decreases-loop-x
 returns_3 c =
-    let o = c.before.before.before.loop.invariant in
-    sym (ended o c.before.before.loop-test.false ∙ by_digit _ _ _ c.before.if2.false c.if3.false)
+    let o = c.before.before.before.loop-x.invariant in
+    sym (ended o c.before.before.loop-x-test.false ∙ by_digit _ _ _ c.before.if-d-eq0.false c.if-last-lt48.false)
 
 pub line_count_spec : {M : Type 1} → statement M
 line_count_spec =
     tie.close
-    (tie.spec invariant-loop decreases-loop
+    (tie.spec invariant-loop-x decreases-loop-x
     loop_holds
     (λ c. omega arith) (λ c. omega arith) (λ c. omega arith) (λ c. omega arith) (λ c. omega arith)
     (λ c. omega arith) (λ c. omega arith) (λ c. omega arith)
     loop_again
     returns
     returns_2
-    (λ c. omega (arith, c.before.if2.false))
-    (λ c. let start = c.before.before.before.before in omega (arith, most c.before.before.before.loop.invariant start.requires.0 start.requires.1))
-    (λ c. omega (arith, c.before.before.before.loop.invariant.small))
+    (λ c. omega (arith, c.before.if-d-eq0.false))
+    (λ c. let start = c.before.before.before.before in omega (arith, most c.before.before.before.loop-x.invariant start.requires.0 start.requires.1))
+    (λ c. omega (arith, c.before.before.before.loop-x.invariant.small))
     (λ c. let start = c.before.before.before.before in
-    let o = c.before.before.before.loop.invariant in
+    let o = c.before.before.before.loop-x.invariant in
     omega (arith, most o start.requires.0 start.requires.1, o.small))
     returns_3)

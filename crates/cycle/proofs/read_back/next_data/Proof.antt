@@ -13,7 +13,7 @@ use Rattle.cycle.proofs.Sequences.LastSent.{data_first}
 use Rattle.cycle.proofs.read_back.next_data.Statement.{statement}
 use Rattle.cycle.proofs.read_back.next_data.Tie as tie
 
-returns : tie.Need-returns
+returns : tie.Need-returns-then-next-s
 unfolding plan_of
 returns c =
     let start = c.before.before in
@@ -21,7 +21,7 @@ returns c =
     let s = start.args.s in
     let t : Plan = plan_of f [] in
     let fine = keeps t (sound f [] start.requires.0.shaped start.requires.0.copies_fit_lem) in
-    let there = data_first t fine s.data_at s.first s.last (start.args.q + 1) start.requires.1.data_stands (omega (arith, start.requires.2.low)) c.if1.true in
+    let there = data_first t fine s.data_at s.first s.last (start.args.q + 1) start.requires.1.data_stands (omega (arith, start.requires.2.low)) c.if-next-s.true in
     let place : start.args.x + 1 ≡ s.data_at + (start.args.q + 1 - s.first) = omega (arith, start.requires.2.low, start.requires.2.here) in
     place ∙ sym there
 

@@ -33,23 +33,23 @@ abbrev set : tie.Start → Settings
 set c = settings c.args.n c.args.p c.args.layout c.args.copies
 
 -- the entry, seen from behind each test
-abbrev start1 : tie.Else1 → tie.Start
+abbrev start1 : tie.Else-not-settings_fit → tie.Start
 start1 c = c.before.before.before.before
 
-abbrev start4 : tie.Else4 → tie.Start
+abbrev start4 : tie.Else-length-gt-BUCKETS_MOST → tie.Start
 start4 c = start1 c.before.before.before
 
-tested : (c : tie.After-settings-fit) →
+tested : (c : tie.After-settings_fit) →
     let s = c.before.before.before in
     settings_fit (set s) ≡ c.settings_fit_lem.result
 tested c =
     let s = c.before.before.before in
     any_copies s.args.n s.args.p s.args.layout 0 s.args.copies ∙ sym c.settings_fit_lem.ensures
 
-fit : (c : tie.Else1) → settings_fit (set (start1 c)) ≡ true
-fit c = tested c.before ∙ not-false _ c.if1.false
+fit : (c : tie.Else-not-settings_fit) → settings_fit (set (start1 c)) ≡ true
+fit c = tested c.before ∙ not-false _ c.if-not-settings_fit.false-raw
 
-image_refused : (c : tie.Else1) → whole_buckets (length (bytes (start1 c))) ≡ false →
+image_refused : (c : tie.Else-not-settings_fit) → whole_buckets (length (bytes (start1 c))) ≡ false →
     let s = start1 c in
     let o : Outcome = read_back (set s) (bytes s) (length s.args.out.now) in
     (numbers (Refused 11 0) ≡ numbers o.answer) × (s.args.out.now ≡ onto o.output s.args.out.now)
@@ -57,60 +57,60 @@ image_refused c h =
     let s = start1 c in
     numbered (refuses 11 0 _ s.args.out.now (refuses_11 (set s) (bytes s) (length s.args.out.now) (fit c) h))
 
-some_bytes : (c : tie.Else4) → 1 ≤ length (bytes (start4 c))
-some_bytes c = omega (arith, c.before.before.if2.false)
+some_bytes : (c : tie.Else-length-gt-BUCKETS_MOST) → 1 ≤ length (bytes (start4 c))
+some_bytes c = omega (arith, c.before.before.if-length-eq0.false)
 
-returns : tie.Need-returns
+returns : tie.Need-returns-then-not-settings_fit
 returns c =
     let s = c.before.before.before.before in
     numbered
     (refuses 1 0 _ s.args.out.now
-    (refuses_1 (set s) (bytes s) (length s.args.out.now) (tested c.before ∙ not-true _ c.if1.true)))
+    (refuses_1 (set s) (bytes s) (length s.args.out.now) (tested c.before ∙ not-true _ c.if-not-settings_fit.true-raw)))
 
-line_count_requires : tie.Need-line-count-requires
+line_count_requires : tie.Need-line_count-lines-requires
 line_count_requires c κs =
     let s = start4 c in
     let told = settings_fit_lem (set s) (fit c.before.before.before) in
-    (omega (arith, c.if4.false, c.before.if3.false), told.p_high)
+    (omega (arith, c.if-length-gt-BUCKETS_MOST.false, c.before.if-length-ne0.false), told.p_high)
 
-returns_5 : tie.Need-returns-5
+returns_5 : tie.Need-returns-then-lines-gt-LINES_MOST
 returns_5 c =
     let whole = c.before.before in
     let s = start4 whole in
     numbered
     (refuses 13 0 _ s.args.out.now
     ((every_read_back (set s) (bytes s) (length s.args.out.now)).refuses_13 (fit whole.before.before.before)
-    (buckets_whole _ (some_bytes whole) whole.before.if3.false whole.if4.false)
-    (many_refused (set s) (bytes s) (omega (arith, c.if5.true, c.before.line-count.ensures)))))
+    (buckets_whole _ (some_bytes whole) whole.before.if-length-ne0.false whole.if-length-gt-BUCKETS_MOST.false)
+    (many_refused (set s) (bytes s) (omega (arith, c.if-lines-gt-LINES_MOST.true, c.before.line_count-lines.ensures)))))
 
-figures_of_requires : tie.Need-figures-of-requires
+figures_of_requires : tie.Need-figures_of-requires
 figures_of_requires c κs =
     let whole = c.before.before in
-    (settings_fit_lem (set (start4 whole)) (fit whole.before.before.before), omega (arith, c.if5.false))
+    (settings_fit_lem (set (start4 whole)) (fit whole.before.before.before), omega (arith, c.if-lines-gt-LINES_MOST.false))
 
-hand_out_requires : tie.Need-hand-out-requires
+hand_out_requires : tie.Need-hand_out-requires
 hand_out_requires c κs =
     let made = c.before in
     let counting = made.before.before in
     let whole = counting.before in
-    let is = made.figures-of.ensures in (
+    let is = made.figures_of.ensures in (
       is.0.shaped,
       some_bytes whole,
-      whole.before.if3.false,
-      whole.if4.false,
-      is.1 ∙ (counting.line-count.ensures ∙ ap (λ p. counted p (bytes (start4 whole))) (sym is.0.p_is)),
+      whole.before.if-length-ne0.false,
+      whole.if-length-gt-BUCKETS_MOST.false,
+      is.1 ∙ (counting.line_count-lines.ensures ∙ ap (λ p. counted p (bytes (start4 whole))) (sym is.0.p_is)),
     )
 
-returns_6 : tie.Need-returns-6
+returns_6 : tie.Need-returns
 returns_6 c =
     let answer = c.before.before in
     let made = answer.before.before in
     let s = start4 made.before.before.before in
-    let is = made.figures-of.ensures.0 in
-    let same : settings made.figures-of.result.n made.figures-of.result.p made.figures-of.result.layout made.figures-of.result.copies ≡ set s =
+    let is = made.figures_of.ensures.0 in
+    let same : settings made.figures_of.result.n made.figures_of.result.p made.figures_of.result.layout made.figures_of.result.copies ≡ set s =
     λ i. settings (is.n_is i) (is.p_is i) (is.layout_is i) (is.copies_is i) in
     let d = s.args.out.now in
-    let told = answer.hand-out.ensures in
+    let told = answer.hand_out.ensures in
     let moved = ap (λ y. read_back y (bytes s) (length d)) same in
     numbered (told.0 ∙ ap (λ o. o.answer) moved, told.1 ∙ ap (λ o. onto o.output d) moved)
 
@@ -120,9 +120,9 @@ read_back_spec =
     (tie.spec
     (λ c κs. search rules)
     returns
-    (λ c. image_refused c.before (image_empty _ c.if2.true))
-    (λ c. image_refused c.before.before (image_torn _ c.if3.true))
-    (λ c. image_refused c.before.before.before (image_long _ (omega (arith, c.if4.true))))
+    (λ c. image_refused c.before (image_empty _ c.if-length-eq0.true))
+    (λ c. image_refused c.before.before (image_torn _ c.if-length-ne0.true))
+    (λ c. image_refused c.before.before.before (image_long _ (omega (arith, c.if-length-gt-BUCKETS_MOST.true))))
     line_count_requires
     returns_5
     figures_of_requires

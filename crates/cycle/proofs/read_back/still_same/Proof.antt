@@ -13,5 +13,5 @@ and_true false = refl
 pub still_same_spec : {M : Type 1} → statement M
 still_same_spec = tie.close
     (tie.spec
-    (λ c. rw (eq-eqb _ _ c.if1.true) (sym (and_true c.before.args.before)))
-    (λ c. rw (ne_eqb _ _ c.if1.false) (sym (and_false c.before.args.before))))
+    (λ c. rw (eq-eqb _ _ c.if-a-b.true) (sym (and_true c.before.args.before)))
+    (λ c. rw (ne_eqb _ _ c.if-a-b.false) (sym (and_false c.before.args.before))))

@@ -19,61 +19,61 @@ use Rattle.cycle.proofs.read_back.write_list.Tie as tie
 abbrev Holds : Figures → List ℕ → List ℕ → List ℕ → ℕ → Type 0
 Holds f image lent out x = out ≡ put lent 0 (text_to f image x)
 
-abbrev invariant-loop : tie.invariant-loop
-invariant-loop out₀ image f count i₀ out i = Through f (Holds f image out₀ out) count i
+abbrev invariant-loop-i : tie.invariant-loop-i
+invariant-loop-i out₀ image f count i₀ out i = Through f (Holds f image out₀ out) count i
 
-abbrev decreases-loop : tie.decreases-loop
-decreases-loop out₀ image f count i₀ out i = count - i
+abbrev decreases-loop-i : tie.decreases-loop-i
+decreases-loop-i out₀ image f count i₀ out i = count - i
 
-abbrev start : tie.At-loop invariant-loop decreases-loop → tie.Start invariant-loop decreases-loop
+abbrev start : tie.At-loop-i invariant-loop-i decreases-loop-i → tie.Start invariant-loop-i decreases-loop-i
 start c = c.before.before.before.before
 
-long : (c : tie.At-loop invariant-loop decreases-loop) → length c.loop.out ≡ length (start c).args.out.now
+long : (c : tie.At-loop-i invariant-loop-i decreases-loop-i) → length c.loop-i.out ≡ length (start c).args.out.now
 long c =
     let s = start c in
-    ap length c.loop.invariant.holds
-    ∙ length_to s.args.f s.args.image.now s.pre.0 s.args.out.now (before (plan_of s.args.f []) c.loop.i) s.pre.1
+    ap length c.loop-i.invariant.holds
+    ∙ length_to s.args.f s.args.image.now s.requires.0 s.args.out.now (before (plan_of s.args.f []) c.loop-i.i) s.requires.1
 
-loop_holds : tie.Need-loop-init invariant-loop decreases-loop
+loop_holds : tie.Need-loop-i-init invariant-loop-i decreases-loop-i
 loop_holds c =
     let s = c.before.before.before in
     through_none (sym (ap (put s.args.out.now 0) (text_none_sent s.args.f s.args.image.now s.requires.0) ∙ put_nil s.args.out.now 0))
 
-write_lines_requires : tie.Need-write-lines-requires invariant-loop decreases-loop
+write_lines_requires : tie.Need-write_lines-requires invariant-loop-i decreases-loop-i
 write_lines_requires c κs =
     let loop = c.before.before.before in
     let s = start loop in
-    (record { holding = s.pre.0; placed = c.segment-of.ensures.0 }, omega (arith, long loop, s.pre.1))
+    (record { holding = s.requires.0; placed = c.segment_of.ensures.0 }, omega (arith, long loop, s.requires.1))
 
-loop_again : tie.Need-loop-preserved invariant-loop decreases-loop
+loop_again : tie.Need-loop-i-preserved invariant-loop-i decreases-loop-i
 loop_again c =
     let wrote = c.before.before in
     let seg = wrote.before in
     let turn = seg.before.before in
     let s = start turn.before in
-    let held = seg.segment-of.ensures in
-    through_next turn.before.loop.invariant turn.loop-test.true held
-    (λ here. segment_more s.args.f s.args.image.now s.pre.0 s.args.out.now turn.before.loop.out _ seg.segment-of.result (held.0 [])
-    s.pre.1 here wrote.write-lines.ensures)
+    let held = seg.segment_of.ensures in
+    through_next turn.before.loop-i.invariant turn.loop-i-test.true held
+    (λ here. segment_more s.args.f s.args.image.now s.requires.0 s.args.out.now turn.before.loop-i.out _ seg.segment_of.result (held.0 [])
+    s.requires.1 here wrote.write_lines.ensures)
 
-returns : tie.Need-returns invariant-loop decreases-loop
+returns : tie.Need-returns invariant-loop-i decreases-loop-i
 returns c =
     let loop = c.before in
     let s = start loop in
-    through_all loop.loop.invariant s.pre.0.ready loop.before.segment-count.ensures c.loop-test.false
-    ∙ ap (put s.args.out.now 0) (text_all_sent s.args.f s.args.image.now s.pre.0)
+    through_all loop.loop.invariant s.requires.0.ready loop.before.segment_count-count.ensures c.loop-i-test.false
+    ∙ ap (put s.args.out.now 0) (text_all_sent s.args.f s.args.image.now s.requires.0)
 
 pub write_list_spec : {M : Type 1} → statement M
 write_list_spec =
     tie.close
-    (tie.spec invariant-loop decreases-loop
+    (tie.spec invariant-loop-i decreases-loop-i
     (λ c κs. c.before.before.requires.0.ready)
     loop_holds
     (λ c κs. let loop = c.before.before in
-    segment_asked loop.loop.invariant (start loop).requires.0.ready loop.before.segment-count.ensures c.before.loop-test.true)
+    segment_asked loop.loop.invariant (start loop).requires.0.ready loop.before.segment_count-count.ensures c.before.loop-i-test.true)
     write_lines_requires
-    (λ c. omega (arith, c.before.before.before.before.before.loop-test.true))
-    (λ c. omega (arith, c.before.before.before.before.before.loop-test.true))
+    (λ c. omega (arith, c.before.before.before.before.before.loop-i-test.true))
+    (λ c. omega (arith, c.before.before.before.before.before.loop-i-test.true))
     loop_again
     (λ c. long c.before)
     returns)

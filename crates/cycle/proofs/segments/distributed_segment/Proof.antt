@@ -48,24 +48,24 @@ room c =
       ends = block_room f b c.requires.0 c.requires.1 c.requires.2;
     }
 
-add_tree_at_2 : tie.Need-overflow-add-tree-at-2
+add_tree_at_2 : tie.Need-overflow_add-tree_at-2
 add_tree_at_2 c =
     let r = room c.before.before.before.before in
     let k = known c.before.before.before.before in
-    omega (arith, c.before.before.before.distributed-start.ensures)
+    omega (arith, c.before.before.before.distributed_start-start.ensures)
 
-add_data_at : tie.Need-overflow-add-data-at
+add_data_at : tie.Need-overflow_add-data_at
 add_data_at c =
     let r = room c.before.before.before.before.before in
-    rw (c.before.before.before.before.distributed-start.ensures, c.before.before.path-top.ensures, c.segment-tree.ensures) (omega arith)
+    rw (c.before.before.before.before.distributed_start-start.ensures, c.before.before.path_top-top.ensures, c.segment_tree.ensures) (omega arith)
 
-mul_first : tie.Need-overflow-mul-first
+mul_first : tie.Need-overflow_mul-first
 mul_first c =
     let start = c.before.before.before.before.before.before in
     let r = room start in
     rw (trees start).span (omega (arith, (known start).some))
 
-add_lesser : tie.Need-overflow-add-lesser
+add_lesser : tie.Need-overflow_add-first
 add_lesser c =
     let start = c.before.before.before.before.before.before.before in
     let r = room start in
@@ -76,35 +76,35 @@ add_lesser c =
 abbrev block_end : Figures → ℕ → ℕ
 block_end f b = min f.d ((b + 1) * f.n ^ (f.k - f.copies))
 
-abbrev begun : tie.After-lesser → tie.Start
+abbrev begun : tie.After-lesser-last → tie.Start
 begun c = c.before.before.before.before.before.before.before.before
 
 -- what `lesser` gave
 ended :
-    (c : tie.After-lesser) →
-    c.lesser.result ≡ block_end (begun c).args.f (begun c).args.b
+    (c : tie.After-lesser-last) →
+    c.lesser-last.result ≡ block_end (begun c).args.f (begun c).args.b
 ended c =
     let start = begun c in
     let f = start.args.f in
     let b = start.args.b in
     let p = (trees start).span in
-    c.lesser.ensures ∙ ap (min f.d) (ap₂ (λ x y. b * x + y) p p ∙ sym (room start).wide)
+    c.lesser-last.ensures ∙ ap (min f.d) (ap₂ (λ x y. b * x + y) p p ∙ sym (room start).wide)
 
-sub_t10 : tie.Need-overflow-sub-t10
+sub_t10 : tie.Need-overflow_sub-result
 sub_t10 c =
     let start = c.before.before.before.before.before.before.before.before in
     rw ((trees start).span, ended c) (room start).grows
 
-add_t11 : tie.Need-overflow-add-t11
+add_t11 : tie.Need-overflow_add-result
 add_t11 c =
     let called = c.before.before.before in
     let start = called.before.before.before.before.before in
     let r = room start in
     rw (
       (trees start).span,
-      called.before.before.before.before.distributed-start.ensures,
-      called.before.before.path-top.ensures,
-      called.segment-tree.ensures,
+      called.before.before.before.before.distributed_start-start.ensures,
+      called.before.before.path_top-top.ensures,
+      called.segment_tree.ensures,
       ended c,
     )
     (omega arith)
@@ -116,14 +116,14 @@ returns c =
     let f = start.args.f in
     let b = start.args.b in (
       placed_block f b start.requires.0 start.requires.1 start.requires.2
-          called.before.before.before.before.distributed-start.result
-          called.before.before.path-top.result
-          called.segment-tree.result
+          called.before.before.before.before.distributed_start-start.result
+          called.before.before.path_top-top.result
+          called.segment_tree.result
           (b * f.span)
-          c.lesser.result
-          called.before.before.before.before.distributed-start.ensures
-          called.before.before.path-top.ensures
-          called.segment-tree.ensures
+          c.lesser-last.result
+          called.before.before.before.before.distributed_start-start.ensures
+          called.before.before.path_top-top.ensures
+          called.segment_tree.ensures
           (ap (λ x. b * x) (trees start).span)
           (ended c),
       refl,
@@ -137,7 +137,7 @@ distributed_segment_spec =
     (λ c. omega (arith, (known c.before.before).fits))
     (λ c κs. (c.before.before.requires.0, c.before.before.requires.1))
     (λ c. omega (arith, (known c.before.before.before.before).few))
-    (λ c. omega (arith, (room c.before.before.before.before).top, c.before.path-top.ensures))
+    (λ c. omega (arith, (room c.before.before.before.before).top, c.before.path_top-top.ensures))
     add_tree_at_2
     (λ c κs. let start = c.before.before.before.before in (start.requires.0, start.requires.1, start.requires.2))
     add_data_at

@@ -32,21 +32,21 @@ wide c = let k = known c in let t = trees c in omega (arith, k.power_high, k.ful
 small : (c : tie.Start) → c.args.b * (c.args.f.span + c.args.f.full) ≤ lines_most * (2 * span_most)
 small c = mul-le-mul {n₂ = lines_most} {m₂ = 2 * span_most} (inside c).place (wide c)
 
-paths_before_requires : tie.Need-paths-before-requires
+paths_before_requires : tie.Need-paths_before-requires
 paths_before_requires c κs = let start = c.before in (start.requires.0.shaped, start.requires.1, start.requires.0.copies_fit_lem, (inside start).place)
 
 -- what `paths_before` gave
 climbed :
-    (c : tie.After-paths-before) →
-    (c.paths-before.result ≡ climbs c.before.before.args.f.n c.before.before.args.f.copies c.before.before.args.b)
-    × (c.paths-before.result ≤ pairs_most * lines_most)
+    (c : tie.After-paths_before) →
+    (c.paths_before.result ≡ climbs c.before.before.args.f.n c.before.before.args.f.copies c.before.before.args.b)
+    × (c.paths_before.result ≤ pairs_most * lines_most)
 unfolding plan_of
 climbed c =
     let start = c.before.before in
     let f = start.args.f in
     let k = known start in
-    let e : c.paths-before.result ≡ climbs f.n f.copies start.args.b =
-    c.paths-before.ensures ∙ length_paths (plan_of f []) k.pos start.args.b in
+    let e : c.paths_before.result ≡ climbs f.n f.copies start.args.b =
+    c.paths_before.ensures ∙ length_paths (plan_of f []) k.pos start.args.b in
     let s = climbs_small f.n k.pos f.copies start.args.b lines_most (inside start).place in
     (e, omega (arith, k.few))
 
@@ -58,7 +58,7 @@ returns c =
     let k = known start in
     let t = trees start in
     let starts = (block_in f start.args.b start.requires.0 start.requires.1 start.requires.2).1 in
-    ap₂ (λ x y. start.args.b * (x + y) + c.paths-before.result) t.span t.full
+    ap₂ (λ x y. start.args.b * (x + y) + c.paths_before.result) t.span t.full
     ∙ ap (λ x. start.args.b * (f.n ^ (f.k - f.copies) + full_size f.n (f.k - f.copies)) + x) (climbed c).0
     ∙ sym (length_blocks (plan_of f []) k.pos k.fits start.args.b (omega arith))
 

@@ -14,11 +14,11 @@ use Rattle.cycle.proofs.Sequences.PathSizes.{top_of, path_top_divides}
 use Rattle.cycle.proofs.segments.path_top.Statement.{statement}
 use Rattle.cycle.proofs.segments.path_top.Tie as tie
 
-abbrev invariant-loop : tie.invariant-loop
-invariant-loop f b level₀ place₀ level place = path_top f.n f.copies b ≡ top_of f.n level place
+abbrev invariant-loop-level : tie.invariant-loop-level
+invariant-loop-level f b level₀ place₀ level place = path_top f.n f.copies b ≡ top_of f.n level place
 
-abbrev decreases-loop : tie.decreases-loop
-decreases-loop f b level₀ place₀ level place = level
+abbrev decreases-loop-level : tie.decreases-loop-level
+decreases-loop-level f b level₀ place₀ level place = level
 
 top_here : (n level place : ℕ) → 1 < level → (place % n ≡ 0 → ⊥) → top_of n level place ≡ level
 top_here n level place l f = let e : level ≡ suc (level - 1) = omega arith in ap (λ x. top_of n x place) e ∙ rw (ne_eqb (place % n) 0 f) (sym e)
@@ -39,31 +39,31 @@ top_root n level place l =
     pick_one true = refl
     pick_one false = refl
 
-loop_holds : tie.Need-loop-init invariant-loop decreases-loop
+loop_holds : tie.Need-loop-level-init invariant-loop-level decreases-loop-level
 loop_holds c = let f = c.before.args.f in path_top_divides f.n (omega arith) f.copies c.before.args.b (omega arith)
 
-returns_2 : tie.Need-returns-2 invariant-loop decreases-loop
+returns_2 : tie.Need-returns-then-place-f-ne0 invariant-loop-level decreases-loop-level
 returns_2 c =
     let f = c.before.before.before.before.before.args.f in
-    let l = c.before.before.before.loop in
-    sym (l.invariant ∙ top_here f.n l.level l.place (omega arith) c.if2.true)
+    let l = c.before.before.before.loop-level in
+    sym (l.invariant ∙ top_here f.n l.level l.place (omega arith) c.if-place-f-ne0.true)
 
-loop_again : tie.Need-loop-preserved invariant-loop decreases-loop
+loop_again : tie.Need-loop-level-preserved invariant-loop-level decreases-loop-level
 loop_again c =
     let f = c.before.before.before.before.before.before.args.f in
-    let l = c.before.before.before.before.loop in
-    l.invariant ∙ top_above f.n l.level l.place (omega arith) c.before.if2.false
+    let l = c.before.before.before.before.loop-level in
+    l.invariant ∙ top_above f.n l.level l.place (omega arith) c.before.if-place-f-ne0.false
 
-returns_3 : tie.Need-returns-3 invariant-loop decreases-loop
+returns_3 : tie.Need-returns invariant-loop-level decreases-loop-level
 returns_3 c =
     let f = c.before.before.before.args.f in
-    let l = c.before.loop in
+    let l = c.before.loop-level in
     sym (l.invariant ∙ top_root f.n l.level l.place (omega arith))
 
 pub path_top_spec : {M : Type 1} → statement M
 path_top_spec =
     tie.close
-    (tie.spec invariant-loop decreases-loop
+    (tie.spec invariant-loop-level decreases-loop-level
     (λ c. let z : c.before.args.b ≡ 0 = omega arith in rw z)
     loop_holds
     (λ c. omega arith)

@@ -19,7 +19,7 @@ known c one = block c.args.f c.requires.shaped one c.requires.copies_fit_lem
 trees : (c : tie.Start) → c.args.f.layout ≡ 1 → BlockTrees c.args.f
 trees c one = block_trees c.args.f c.requires.shaped c.requires.trees one
 
-returns : tie.Need-returns
+returns : tie.Need-returns-then-f-eq0
 unfolding plan_of
 returns c =
     let start = c.before.before.before.before in
@@ -36,7 +36,7 @@ up_requires c κs =
     let b = known start (omega arith) in
     rw (trees start (omega arith)).span (b.power_low, omega (arith, b.some, b.power_high))
 
-returns_2 : tie.Need-returns-2
+returns_2 : tie.Need-returns-then-f-eq1
 unfolding plan_of
 returns_2 c =
     let start = c.before.before.before.before.before in
@@ -46,7 +46,7 @@ returns_2 c =
     let some = last_part f.d (f.n ^ (f.k - f.copies)) (omega arith) b.power_low in
     c.up.ensures ∙ ap (up f.d) (trees start one).span ∙ sym (count_blocks (plan_of f []) b.pos b.fits one ∙ omega (arith, some.some))
 
-returns_3 : tie.Need-returns-3
+returns_3 : tie.Need-returns
 unfolding plan_of
 returns_3 c = sym (count_wholes (plan_of c.before.before.args.f []) (λ e. omega arith))
 

@@ -10,7 +10,7 @@ use Rattle.cycle.proofs.Segmenting.SegmentSizes.{count_wholes}
 use Rattle.cycle.proofs.segments.segment_of.Statement.{statement}
 use Rattle.cycle.proofs.segments.segment_of.Tie as tie
 
-whole_segment_requires : tie.Need-whole-segment-requires
+whole_segment_requires : tie.Need-whole_segment-requires
 unfolding plan_of
 whole_segment_requires c κs =
     let f = c.before.before.args.f in (

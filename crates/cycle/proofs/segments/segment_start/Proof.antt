@@ -27,12 +27,12 @@ among c one =
     subst (λ x. c.args.q / x < segment_count (plan_of c.args.f [])) (sym (span_is c one))
     (data_in_block c.args.f c.args.q c.requires.0 c.requires.1 one).among
 
-returns : tie.Need-returns
+returns : tie.Need-returns-then-f-eq1
 returns c =
     let start = c.before.before.before.before in
     let f = start.args.f in
     let one : f.layout ≡ 1 = omega arith in
-    c.distributed-start.ensures
+    c.distributed_start.ensures
     ∙ ap (λ x. block_at f (start.args.q / x)) (span_is start one)
     ∙ sym (start_in_block f start.args.q start.requires.0 start.requires.1 one)
 
@@ -43,16 +43,16 @@ product :
     (1 ≤ (c.args.q + 1) * c.args.f.copies) × ((c.args.q + 1) * c.args.f.copies ≤ lines_most * lines_most)
 product c other = part_product c.args.f c.args.q c.requires.0 c.requires.1 other
 
-whole_start_requires : tie.Need-whole-start-requires
+whole_start_requires : tie.Need-whole_start-requires
 whole_start_requires c κs =
     let start = c.before.before.before.before in
     let other : start.args.f.layout ≡ 1 → ⊥ = λ e. omega arith in
     (start.requires.0, omega arith, (data_in_part start.args.f start.args.q start.requires.0 start.requires.1 other).among)
 
-returns_2 : tie.Need-returns-2
+returns_2 : tie.Need-returns
 returns_2 c =
     let start = c.before.before.before.before.before in
-    c.whole-start.ensures ∙ sym (start_in_part start.args.f start.args.q start.requires.0 start.requires.1 (λ e. omega arith))
+    c.whole_start.ensures ∙ sym (start_in_part start.args.f start.args.q start.requires.0 start.requires.1 (λ e. omega arith))
 
 pub segment_start_spec : {M : Type 1} → statement M
 segment_start_spec =

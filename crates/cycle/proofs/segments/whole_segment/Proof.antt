@@ -47,16 +47,16 @@ room c =
       ends = ends;
     }
 
-mul_start : tie.Need-overflow-mul-start
+mul_start : tie.Need-overflow_mul-start
 mul_start c = let start = c.before.before.before.before in let r = room start in rw (tree start) (omega arith)
 
-add_start : tie.Need-overflow-add-start
+add_start : tie.Need-overflow_add-start
 add_start c = let start = c.before.before.before.before in let r = room start in rw (tree start) (omega arith)
 
-add_data_at : tie.Need-overflow-add-data-at
+add_data_at : tie.Need-overflow_add-data_at
 add_data_at c = let start = c.before.before.before.before in let r = room start in rw (tree start) (omega arith)
 
-add_t11 : tie.Need-overflow-add-t11
+add_t11 : tie.Need-overflow_add-result-2
 add_t11 c = let start = c.before.before.before.before.before in let r = room start in rw (tree start, r.next) (omega arith)
 
 returns : tie.Need-returns

@@ -24,40 +24,40 @@ use Rattle.cycle.proofs.size.size.Tie as tie
 abbrev set : tie.Start → Settings
 set s = settings s.args.n s.args.p s.args.layout s.args.copies
 
-tested : (c : tie.After-settings-fit) → settings_fit (set c.before) ≡ c.settings_fit_lem.result
+tested : (c : tie.After-settings_fit) → settings_fit (set c.before) ≡ c.settings_fit_lem.result
 tested c =
     let s = c.before in
     any_copies s.args.n s.args.p s.args.layout 0 s.args.copies ∙ sym c.settings_fit_lem.ensures
 
-fit : (c : tie.Else1) → settings_fit (set c.before.before) ≡ true
-fit c = tested c.before ∙ not-false _ c.if1.false
+fit : (c : tie.Else-not-settings_fit) → settings_fit (set c.before.before) ≡ true
+fit c = tested c.before ∙ not-false _ c.if-not-settings_fit.false-raw
 
-returns : tie.Need-returns
+returns : tie.Need-returns-then-not-settings_fit
 returns c =
     let s = c.before.before in
-    sizes_refusal (set s) s.args.lines s.args.c 1 0 (refused_1 (set s) s.args.lines (tested c.before ∙ not-true _ c.if1.true))
+    sizes_refusal (set s) s.args.lines s.args.c 1 0 (refused_1 (set s) s.args.lines (tested c.before ∙ not-true _ c.if-not-settings_fit.true-raw))
 
-returns_2 : tie.Need-returns-2
+returns_2 : tie.Need-returns-then-lines-gt-LINES_MOST
 returns_2 c =
     let s = c.before.before.before in
-    sizes_refusal (set s) s.args.lines s.args.c 2 0 (refused_2 (set s) s.args.lines (fit c.before) c.if2.true)
+    sizes_refusal (set s) s.args.lines s.args.c 2 0 (refused_2 (set s) s.args.lines (fit c.before) c.if-lines-gt-LINES_MOST.true)
 
-figures_of_requires : tie.Need-figures-of-requires
-figures_of_requires c κs = (Accepted.settings_fit_lem (set c.before.before.before) (fit c.before), c.if2.false)
+figures_of_requires : tie.Need-figures_of-requires
+figures_of_requires c κs = (Accepted.settings_fit_lem (set c.before.before.before) (fit c.before), c.if-lines-gt-LINES_MOST.false)
 
 -- the figures made are those of the settings and the number of lines
-planned : (c : tie.After-figures-of) → let s = c.before.before.before.before in plan_of c.figures-of.result [] ≡ plan_for (set s) s.args.lines []
+planned : (c : tie.After-figures_of) → let s = c.before.before.before.before in plan_of c.figures_of.result [] ≡ plan_for (set s) s.args.lines []
 planned c =
     let s = c.before.before.before.before in
-    let told = c.figures-of.ensures in
-    plan_for_lem (set s) c.figures-of.result s.args.lines [] told.0 (sym told.1)
+    let told = c.figures_of.ensures in
+    plan_for_lem (set s) c.figures_of.result s.args.lines [] told.0 (sym told.1)
 
 -- the figures that were judged, and what they give
-abbrev made : tie.After-known-told2 → Figures
-made c = c.before.judged2.given.0.0
+abbrev made : tie.In-Cycle → Figures
+made c = c.before.judged-in-Cycle-1.given.0.0
 
 measured :
-    (c : tie.After-known-told2) →
+    (c : tie.In-Cycle) →
     let s = c.before.before.before.before.before.before.before.before in
     Measured (made c) ×
     (Size.numbers (Cycle (dimensions (plan_of (made c) []) s.args.c)) ≡ Size.numbers (Size.size (set s) s.args.lines s.args.c))
@@ -65,24 +65,24 @@ measured c =
     let answer = c.before.before.before in
     let f = answer.before in
     let s = f.before.before.before.before in
-    judged_size f.figures-of.result f.figures-of.ensures.0.shaped (set s) s.args.lines (planned f) (fit f.before.before) f.before.if2.false s.args.c
-    (made c) (sym answer.judge-figures.ensures ∙ c.before.judged2.given.1)
+    judged_size f.figures_of.result f.figures_of.ensures.0.shaped (set s) s.args.lines (planned f) (fit f.before.before) f.before.if-lines-gt-LINES_MOST.false s.args.c
+    (made c) (sym answer.judge_figures-judged.ensures ∙ c.before.judged-in-Cycle-1.given.1)
 
-dimensions_of_requires : tie.Need-dimensions-of-requires
+dimensions_of_requires : tie.Need-dimensions_of-requires
 dimensions_of_requires c κs =
     let m = (measured c).0 in
     (m.k_high, m.d_high, m.size_high, m.size_is)
 
-returns_3 : tie.Need-returns-3
+returns_3 : tie.Need-returns-in-Refused
 returns_3 c =
     let answer = c.before.before.before in
     let f = answer.before in
     let s = f.before.before.before.before in
-    judged_refused f.figures-of.result f.figures-of.ensures.0.shaped (set s) s.args.lines (planned f) (fit f.before.before) f.before.if2.false s.args.c
-    _ _ (sym answer.judge-figures.ensures ∙ c.before.judged.given.1)
+    judged_refused f.figures_of.result f.figures_of.ensures.0.shaped (set s) s.args.lines (planned f) (fit f.before.before) f.before.if-lines-gt-LINES_MOST.false s.args.c
+    _ _ (sym answer.judge_figures-judged.ensures ∙ c.before.judged-1.given.1)
 
-returns_4 : tie.Need-returns-4
-returns_4 c = ap (λ d. Size.numbers (Cycle d)) c.dimensions-of.ensures ∙ (measured c.before).1
+returns_4 : tie.Need-returns-in-Cycle
+returns_4 c = ap (λ d. Size.numbers (Cycle d)) c.dimensions_of.ensures ∙ (measured c.before).1
 
 pub size_spec : {M : Type 1} → statement M
 size_spec =

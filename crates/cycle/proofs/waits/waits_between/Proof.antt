@@ -39,7 +39,7 @@ sums size start place order within small =
       earlier = omega arith;
     }
 
-summed : (c : tie.After-data-place) → Sums c.before.before.args.f.size c.before.segment-start.result c.data_place.result
+summed : (c : tie.After-data_place-end) → Sums c.before.before.args.f.size c.before.segment_start-start.result c.data_place-end.result
 unfolding plan_of
 summed c =
     let start = c.before.before in
@@ -50,19 +50,19 @@ summed c =
     let before = start_before (plan_of f []) first in
     let rise = places_rise (plan_of f []) (keeps (plan_of f []) (sound f [] ready.shaped ready.copies_fit_lem)) first last start.requires.1 (omega arith) in
     let ends = data_ends f last ready start.requires.2 in
-    sums f.size c.before.segment-start.result c.data_place.result
-    (omega (arith, c.before.segment-start.ensures, c.data_place.ensures))
-    (omega (arith, c.data_place.ensures))
+    sums f.size c.before.segment_start-start.result c.data_place-end.result
+    (omega (arith, c.before.segment_start-start.ensures, c.data_place-end.ensures))
+    (omega (arith, c.data_place-end.ensures))
     ready.size_high
 
-sub_result_3 : tie.Need-overflow-sub-result-3
+sub_result_3 : tie.Need-overflow_sub-result-3
 sub_result_3 c = let s = summed c.before.before.before.before.before in omega arith
 
 returns : tie.Need-returns
 unfolding waits_between plan_of
 returns c =
     let told = c.before.before.before.before.before in
-    rw (told.before.segment-start.ensures, told.data_place.ensures, told.before.before.requires.0.size_is)
+    rw (told.before.segment_start-start.ensures, told.data_place-end.ensures, told.before.before.requires.0.size_is)
 
 pub waits_between_spec : {M : Type 1} → statement M
 waits_between_spec =

@@ -7,35 +7,35 @@ use Rattle.listener.specs.Listener.{awaited}
 use Rattle.listener.proofs.Listener.awaits.Statement.{statement}
 use Rattle.listener.proofs.Listener.awaits.Tie as tie
 
-returns : tie.Need-returns
+returns : tie.Need-returns-in-TuneIn
 unfolding awaited bucket_with
 returns c body e = rw c.enum_told.given.1 refl
 
-returns_2 : tie.Need-returns-2
+returns_2 : tie.Need-returns-then-index
 unfolding awaited bucket_with
 returns_2 c body e =
-    rw (c.before.before.enum-told2.given.1, e, c.before.if1.true) (c.due-at.ensures body)
+    rw (c.before.before.enum_told-in-Index-1.given.1, e, c.before.if-index.true) (c.due_at.ensures body)
 
-returns_3 : tie.Need-returns-3
+returns_3 : tie.Need-returns-else-index
 unfolding awaited bucket_with
-returns_3 c body e = rw (c.before.enum-told2.given.1, e, c.if1.false) refl
+returns_3 c body e = rw (c.before.enum_told-in-Index-1.given.1, e, c.if-index.false) refl
 
-returns_4 : tie.Need-returns-4
+returns_4 : tie.Need-returns-in-Either
 unfolding awaited bucket_with
-returns_4 c body e = rw c.before.enum-told3.given.1 (c.due-at2.ensures body)
+returns_4 c body e = rw c.before.enum_told-in-Either-1.given.1 (c.due_at-in-Either.ensures body)
 
-returns_5 : tie.Need-returns-5
+returns_5 : tie.Need-returns-then-index-2
 unfolding awaited bucket_with
-returns_5 c body e = rw (c.before.enum-told4.given.1, e, c.if2.true) refl
+returns_5 c body e = rw (c.before.enum_told-in-Data-1.given.1, e, c.if-index-2.true) refl
 
-returns_6 : tie.Need-returns-6
+returns_6 : tie.Need-returns-else-index-2
 unfolding awaited bucket_with
 returns_6 c body e =
-    rw (c.before.before.enum-told4.given.1, e, c.before.if2.false) (c.due-at3.ensures body)
+    rw (c.before.before.enum_told-in-Data-1.given.1, e, c.before.if-index-2.false) (c.due_at-else-index-2.ensures body)
 
-returns_7 : tie.Need-returns-7
+returns_7 : tie.Need-returns-in-Ended
 unfolding awaited bucket_with
-returns_7 c body e = rw c.enum-told5.given.1 refl
+returns_7 c body e = rw c.enum_told-in-Ended-1.given.1 refl
 
 pub awaits_spec : {M : Type 1} → statement M
 awaits_spec =

@@ -20,31 +20,31 @@ use Rattle.listener.proofs.Steps.TagsAlone.{matching_few, last_tagged}
 use Rattle.listener.proofs.Listener.data_step.Statement.{statement}
 use Rattle.listener.proofs.Listener.data_step.Tie as tie
 
-returns : tie.Need-returns
+returns : tie.Need-returns-then-matching-eq0
 unfolding data_choice
 returns c =
-    rw (← c.before.before.lines-matching.ensures, eq-eqb _ 0 c.before.if1.true) c.end_by.ensures
+    rw (← c.before.before.lines_matching-matching.ensures, eq-eqb _ 0 c.before.if-matching-eq0.true) c.end_by.ensures
 
 -- ---- where a line matches there is one, and so a last one
 
-abbrev start : tie.After-lines-before → tie.Start
+abbrev start : tie.After-lines_before-first → tie.Start
 start c = c.before.before.before
 
-abbrev lines : tie.After-lines-before → List Line
+abbrev lines : tie.After-lines_before-first → List Line
 lines c = tagged_lines (start c).args.count (start c).args.t5
 
-some_line : (c : tie.After-lines-before) → 1 ≤ (start c).args.count
+some_line : (c : tie.After-lines_before-first) → 1 ≤ (start c).args.count
 some_line c =
     omega (
       arith,
-      c.before.if1.false,
-      c.before.before.lines-matching.ensures,
+      c.before.if-matching-eq0.false,
+      c.before.before.lines_matching-matching.ensures,
       matching_few (start c).args.self.tag (lines c),
       length_tagged (start c).args.count (start c).args.t5 (omega arith),
     )
 
 last_line :
-    (c : tie.After-lines-before) →
+    (c : tie.After-lines_before-first) →
     last_is (start c).args.self.tag (lines c) ≡
     eqb (get_or (start c).args.t5 ((start c).args.count - 1) 0) (start c).args.self.tag
 last_line c =
@@ -52,29 +52,29 @@ last_line c =
 
 -- the choice by the last line and the follow-on
 by_last :
-    (c : tie.After-lines-before) →
+    (c : tie.After-lines_before-first) →
     data_choice (start c).args.self.tag (start c).args.follow-on (lines c) ≡
     pick
     (eqb (get_or (start c).args.t5 ((start c).args.count - 1) 0) (start c).args.self.tag && not (eqb (start c).args.follow-on 0))
-    (dozes (start c).args.follow-on Data c.lines_before_lem.result c.before.before.lines-matching.result)
-    (finds c.lines_before_lem.result c.before.before.lines-matching.result)
+    (dozes (start c).args.follow-on Data c.lines_before_lem.result c.before.before.lines_matching-matching.result)
+    (finds c.lines_before_lem.result c.before.before.lines_matching-matching.result)
 unfolding data_choice
 by_last c =
-    rw (← c.before.before.lines-matching.ensures, ne_eqb _ 0 c.before.if1.false, last_line c, ← c.lines_before_lem.ensures)
+    rw (← c.before.before.lines_matching-matching.ensures, ne_eqb _ 0 c.before.if-matching-eq0.false, last_line c, ← c.lines_before_lem.ensures)
 
-returns_2 : tie.Need-returns-2
-returns_2 c = rw (by_last c.before.before.before, ne_eqb _ _ c.before.if2.true) c.end-by2.ensures
+returns_2 : tie.Need-returns-then-tags-last
+returns_2 c = rw (by_last c.before.before.before, ne_eqb _ _ c.before.if-tags-last.true) c.end_by-then-tags-last.ensures
 
-returns_3 : tie.Need-returns-3
+returns_3 : tie.Need-returns-then-follow_on-eq0
 returns_3 c =
-    rw (by_last c.before.before.before.before, eq-eqb _ _ c.before.before.if2.false, eq-eqb _ 0 c.before.if3.true)
-    c.end-by3.ensures
+    rw (by_last c.before.before.before.before, eq-eqb _ _ c.before.before.if-tags-last.false, eq-eqb _ 0 c.before.if-follow_on-eq0.true)
+    c.end_by-then-follow_on-eq0.ensures
 
-returns_4 : tie.Need-returns-4
+returns_4 : tie.Need-returns
 returns_4 c =
     let here = c.before.before.before.before in
-    rw (by_last here, eq-eqb _ _ c.before.before.if2.false, ne_eqb _ 0 c.before.if3.false)
-    (c.doze-by.ensures (data_body (start here).args.follow-on (lines here)))
+    rw (by_last here, eq-eqb _ _ c.before.before.if-tags-last.false, ne_eqb _ 0 c.before.if-follow_on-eq0.false)
+    (c.doze_by.ensures (data_body (start here).args.follow-on (lines here)))
 
 pub data_step_spec : {M : Type 1} → statement M
 data_step_spec =

@@ -7,20 +7,20 @@ use Rattle.buckets.specs.Inner.Held.{bucket_with}
 use Rattle.listener.proofs.Listener.due_at.Statement.{statement}
 use Rattle.listener.proofs.Listener.due_at.Tie as tie
 
-returns : tie.Need-returns
+returns : tie.Need-returns-then-h-self
 unfolding bucket_with
-returns c body = rw (ne_eqb _ _ c.if1.true) refl
+returns c body = rw (ne_eqb _ _ c.if-h-self.true) refl
 
-returns_2 : tie.Need-returns-2
+returns_2 : tie.Need-returns-then-self-eq0
 unfolding bucket_with
-returns_2 c body = rw (eq-eqb _ _ c.before.before.if1.false, eq-eqb _ _ c.if2.true) refl
+returns_2 c body = rw (eq-eqb _ _ c.before.before.if-h-self.false, eq-eqb _ _ c.if-self-eq0.true) refl
 
-returns_3 : tie.Need-returns-3
+returns_3 : tie.Need-returns
 unfolding bucket_with cycle_length
 returns_3 c body =
     rw (
-      eq-eqb _ _ c.before.before.before.before.if1.false,
-      ne_eqb _ _ c.before.before.if2.false,
+      eq-eqb _ _ c.before.before.before.before.if-h-self.false,
+      ne_eqb _ _ c.before.before.if-self-eq0.false,
     )
     refl
 

@@ -6,7 +6,7 @@ use Rattle.listener.proofs.Listener.heard_with.Tie as tie
 
 returns : tie.Need-returns
 unfolding heard_with
-returns c = c.count-on.ensures
+returns c = c.count_on.ensures
 
 pub heard_with_spec : {M : Type 1} → statement M
 heard_with_spec = tie.close (tie.spec (λ c κs. search rules) returns)

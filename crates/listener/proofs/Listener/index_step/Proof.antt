@@ -33,95 +33,95 @@ by_three s h x k =
 
 -- ---- what is known once the later pairs are searched, and once the entries are
 
-abbrev first : tie.After-pair-below → tie.After-first-pair
+abbrev first : tie.After-pair_below-later → tie.After-first_pair-first
 first c = c.before.before.before.before
 
-abbrev start : tie.After-pair-below → tie.Start
+abbrev start : tie.After-pair_below-later → tie.Start
 start c = (first c).before
 
 below_held :
-    (c : tie.After-pair-below) →
-    c.pair-below.result ≡ chosen (below (start c).args.self.tag) (drop 1 (pairs_held (start c).args.x))
+    (c : tie.After-pair_below-later) →
+    c.pair_below-later.result ≡ chosen (below (start c).args.self.tag) (drop 1 (pairs_held (start c).args.x))
 unfolding pairs_held
-below_held c = c.pair-below.ensures
+below_held c = c.pair_below-later.ensures
 
-abbrev later : tie.After-entry-from → tie.After-pair-below
+abbrev later : tie.After-entry_from-entry → tie.After-pair_below-later
 later c = c.before.before.before.before
 
 entry_held :
-    (c : tie.After-entry-from) →
-    c.entry-from.result ≡ chosen (reached (start (later c)).args.self.tag) (entries_held (start (later c)).args.x)
+    (c : tie.After-entry_from-entry) →
+    c.entry_from-entry.result ≡ chosen (reached (start (later c)).args.self.tag) (entries_held (start (later c)).args.x)
 unfolding entries_held
-entry_held c = c.entry-from.ensures
+entry_held c = c.entry_from-entry.ensures
 
 -- ---- the distances are near
 
-doze_by_requires : tie.Need-doze-by-requires
+doze_by_requires : tie.Need-doze_by-requires
 doze_by_requires c κs =
     let s = c.before.before in
     let Near_by = first_near s.args.self.tag s.args.x.blank (pairs_held s.args.x) s.requires.1.pairs_near in
-    (s.requires.0, omega (arith, c.before.first-pair.ensures, Near_by))
+    (s.requires.0, omega (arith, c.before.first_pair-first.ensures, Near_by))
 
-doze_by_requires_2 : tie.Need-doze-by-requires-2
+doze_by_requires_2 : tie.Need-doze_by-requires-then-later-ne0
 doze_by_requires_2 c κs =
     let s = start c.before in
-    let held_near = every_drop near 1 (pairs_held s.args.x) s.pre.1.pairs_near in
-    (s.pre.0, omega (arith, below_held c.before, chosen_near (below s.args.self.tag) (drop 1 (pairs_held s.args.x)) held_near))
+    let held_near = every_drop near 1 (pairs_held s.args.x) s.requires.1.pairs_near in
+    (s.requires.0, omega (arith, below_held c.before, chosen_near (below s.args.self.tag) (drop 1 (pairs_held s.args.x)) held_near))
 
-doze_by_requires_3 : tie.Need-doze-by-requires-3
+doze_by_requires_3 : tie.Need-doze_by-requires-then-entry-ne0
 doze_by_requires_3 c κs =
     let s = start (later c.before) in
-    let Near_by = chosen_near (reached s.args.self.tag) (entries_held s.args.x) s.pre.1.entries_near in
-    (s.pre.0, omega (arith, entry_held c.before, Near_by))
+    let Near_by = chosen_near (reached s.args.self.tag) (entries_held s.args.x) s.requires.1.entries_near in
+    (s.requires.0, omega (arith, entry_held c.before, Near_by))
 
 -- ---- the answers
 
 -- the step by what was searched: no first pair; no later pair either
 by_later :
-    (c : tie.After-pair-below) →
+    (c : tie.After-pair_below-later) →
     let s = (start c).args in
     decided s.self (bucket_with s.h (index_of s.x)) (body_choice s.self.tag (index_of s.x)) ≡
     decided s.self (bucket_with s.h (index_of s.x))
-    (dozes_unless0 c.pair-below.result TheVariants.Index
+    (dozes_unless0 c.pair_below-later.result TheVariants.Index
     (dozes_unless0 (chosen (reached s.self.tag) (entries_held s.x)) TheVariants.Either misses))
 unfolding dozes_unless0
 by_later c =
     let s = start c in
-    by_three s.args.self s.args.h s.args.x s.pre.1
-    ∙ rw (← (first c).first-pair.ensures, eq-eqb _ 0 c.before.before.before.if1.false, ← below_held c)
+    by_three s.args.self s.args.h s.args.x s.requires.1
+    ∙ rw (← (first c).first_pair-first.ensures, eq-eqb _ 0 c.before.before.before.if-first-ne0.false, ← below_held c)
 
 by_entry :
-    (c : tie.After-entry-from) →
+    (c : tie.After-entry_from-entry) →
     let s = (start (later c)).args in
     decided s.self (bucket_with s.h (index_of s.x)) (body_choice s.self.tag (index_of s.x)) ≡
-    decided s.self (bucket_with s.h (index_of s.x)) (dozes_unless0 c.entry-from.result TheVariants.Either misses)
+    decided s.self (bucket_with s.h (index_of s.x)) (dozes_unless0 c.entry_from-entry.result TheVariants.Either misses)
 unfolding dozes_unless0
-by_entry c = by_later (later c) ∙ rw (eq-eqb _ 0 c.before.before.before.if2.false, ← entry_held c)
+by_entry c = by_later (later c) ∙ rw (eq-eqb _ 0 c.before.before.before.if-later-ne0.false, ← entry_held c)
 
-returns : tie.Need-returns
+returns : tie.Need-returns-then-first-ne0
 unfolding dozes_unless0
 returns c =
     let s = c.before.before.before in
-    c.doze-by.ensures (index_of s.args.x) ∙
+    c.doze_by.ensures (index_of s.args.x) ∙
     sym
     (by_three s.args.self s.args.h s.args.x s.requires.1 ∙
-    rw (← c.before.before.first-pair.ensures, ne_eqb _ 0 c.before.if1.true))
+    rw (← c.before.before.first_pair-first.ensures, ne_eqb _ 0 c.before.if-first-ne0.true))
 
-returns_2 : tie.Need-returns-2
+returns_2 : tie.Need-returns-then-later-ne0
 unfolding dozes_unless0
 returns_2 c =
     let here = c.before.before in
-    c.doze-by2.ensures (index_of (start here).args.x) ∙ sym (by_later here ∙ rw (ne_eqb _ 0 c.before.if2.true))
+    c.doze_by-then-later-ne0.ensures (index_of (start here).args.x) ∙ sym (by_later here ∙ rw (ne_eqb _ 0 c.before.if-later-ne0.true))
 
-returns_3 : tie.Need-returns-3
+returns_3 : tie.Need-returns-then-entry-ne0
 unfolding dozes_unless0
 returns_3 c =
     let here = c.before.before in
-    c.doze-by3.ensures (index_of (start (later here)).args.x) ∙ sym (by_entry here ∙ rw (ne_eqb _ 0 c.before.if3.true))
+    c.doze_by-then-entry-ne0.ensures (index_of (start (later here)).args.x) ∙ sym (by_entry here ∙ rw (ne_eqb _ 0 c.before.if-entry-ne0.true))
 
-returns_4 : tie.Need-returns-4
+returns_4 : tie.Need-returns
 unfolding dozes_unless0
-returns_4 c = c.end_by.ensures ∙ sym (by_entry c.before.before ∙ rw (eq-eqb _ 0 c.before.if3.false))
+returns_4 c = c.end_by.ensures ∙ sym (by_entry c.before.before ∙ rw (eq-eqb _ 0 c.before.if-entry-ne0.false))
 
 pub index_step_spec : {M : Type 1} → statement M
 index_step_spec =

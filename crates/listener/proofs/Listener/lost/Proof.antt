@@ -9,19 +9,19 @@ use Rattle.listener.proofs.Steps.Told.{step_tells}
 use Rattle.listener.proofs.Listener.lost.Statement.{statement}
 use Rattle.listener.proofs.Listener.lost.Tie as tie
 
-returns : tie.Need-returns
+returns : tie.Need-returns-then-is_ended
 returns c =
     let s = c.before.before.before in
     step_tells
-    (c.refused-ended.ensures ∙ sym (lost_ended s.args.self (sym c.before.before.is-ended.ensures ∙ c.before.if1.true)))
+    (c.refused_ended.ensures ∙ sym (lost_ended s.args.self (sym c.before.before.is_ended.ensures ∙ c.before.if-is_ended.true)))
 
-returns_2 : tie.Need-returns-2
+returns_2 : tie.Need-returns
 unfolding stepped
 returns_2 c =
     let s = c.before.before.before in
     step_tells
     (ap (λ l. stepped l (Doze 1) 0 0) c.starts_over_lem.ensures ∙
-    sym (lost_open s.args.self (sym c.before.before.is-ended.ensures ∙ c.before.if1.false)))
+    sym (lost_open s.args.self (sym c.before.before.is_ended.ensures ∙ c.before.if-is_ended.false)))
 
 pub lost_spec : {M : Type 1} → statement M
 lost_spec =

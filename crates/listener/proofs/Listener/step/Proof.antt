@@ -7,27 +7,27 @@ use Rattle.listener.proofs.Steps.Told.{step_tells}
 use Rattle.listener.proofs.Listener.step.Statement.{statement}
 use Rattle.listener.proofs.Listener.step.Tie as tie
 
-returns : tie.Need-returns
+returns : tie.Need-returns-then-is_ended
 returns c =
     let s = c.before.before.before.before in
     step_tells
-    (c.refused-ended.ensures ∙
+    (c.refused_ended.ensures ∙
     sym
-    (step_ended s.args.self s.args.bucket.now (sym c.before.before.is-ended.ensures ∙ c.before.if1.true)))
+    (step_ended s.args.self s.args.bucket.now (sym c.before.before.is_ended.ensures ∙ c.before.if-is_ended.true)))
 
-take_reading_requires : tie.Need-take-reading-requires
+take_reading_requires : tie.Need-take_reading-requires
 take_reading_requires c κs =
     let s = c.before.before.before.before in
     record { bytes = s.args.bucket.now; is = c.read_bucket_lem.ensures }
 
-returns_2 : tie.Need-returns-2
+returns_2 : tie.Need-returns
 returns_2 c =
     let s = c.before.before.before.before.before in
     step_tells
-    (c.take-reading.ensures s.args.bucket.now c.before.read_bucket_lem.ensures ∙
+    (c.take_reading.ensures s.args.bucket.now c.before.read_bucket_lem.ensures ∙
     sym
     (step_read s.args.self s.args.bucket.now
-    (sym c.before.before.before.is-ended.ensures ∙ c.before.before.if1.false)))
+    (sym c.before.before.before.is_ended.ensures ∙ c.before.before.if-is_ended.false)))
 
 pub step_spec : {M : Type 1} → statement M
 step_spec =

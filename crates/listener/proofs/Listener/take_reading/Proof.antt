@@ -7,35 +7,35 @@ use Rattle.listener.proofs.Steps.Readings.{index_read, data_read, misprint_read}
 use Rattle.listener.proofs.Listener.take_reading.Statement.{statement}
 use Rattle.listener.proofs.Listener.take_reading.Tie as tie
 
-take_index_requires : tie.Need-take-index-requires
+take_index_requires : tie.Need-take_index-requires
 take_index_requires c κs =
     let s = c.before.before.before.before in
-    let i = index_read s.requires.bytes s.args.r s.requires.is c.before.enum_told.given.1 in
+    let i = index_read s.requires.bytes s.args.r s.requires.is c.before.enum_told-1.given.1 in
     (i.head, i.index)
 
-take_data_requires : tie.Need-take-data-requires
+take_data_requires : tie.Need-take_data-requires
 take_data_requires c κs =
     let s = c.before.before.before.before in
-    let i = data_read s.requires.bytes s.args.r s.requires.is c.before.enum-told2.given.1 in
+    let i = data_read s.requires.bytes s.args.r s.requires.is c.before.enum_told-in-Data-1.given.1 in
     (i.head, (i.near, i.few))
 
-returns : tie.Need-returns
+returns : tie.Need-returns-in-Index
 returns c bytes e =
     let s = c.before.before.before.before.before in
-    c.take-index.ensures ∙
-    (index_read bytes s.args.r e c.before.before.enum_told.given.1).is s.args.self
+    c.take_index.ensures ∙
+    (index_read bytes s.args.r e c.before.before.enum_told-1.given.1).is s.args.self
 
-returns_2 : tie.Need-returns-2
+returns_2 : tie.Need-returns-in-Data
 returns_2 c bytes e =
     let s = c.before.before.before.before.before in
-    c.take-data.ensures ∙
-    (data_read bytes s.args.r e c.before.before.enum-told2.given.1).is s.args.self
+    c.take_data.ensures ∙
+    (data_read bytes s.args.r e c.before.before.enum_told-in-Data-1.given.1).is s.args.self
 
-returns_3 : tie.Need-returns-3
+returns_3 : tie.Need-returns-in-Misprinted
 returns_3 c bytes e =
     let s = c.before.before.before.before in
     c.refused.ensures ∙
-    ap (heed_read s.args.self) (sym (misprint_read bytes s.args.r e c.before.enum-told3.given.1))
+    ap (heed_read s.args.self) (sym (misprint_read bytes s.args.r e c.before.enum_told-in-Misprinted-1.given.1))
 
 pub take_reading_spec : {M : Type 1} → statement M
 take_reading_spec =

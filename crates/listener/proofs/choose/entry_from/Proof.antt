@@ -9,19 +9,19 @@ use Rattle.listener.proofs.Steps.HeldLists.{Choosing, choosing_on, choosing_hit,
 use Rattle.listener.proofs.choose.entry_from.Statement.{statement}
 use Rattle.listener.proofs.choose.entry_from.Tie as tie
 
-abbrev invariant-loop : tie.invariant-loop
-invariant-loop tag count tags distances i₀ i = Choosing (reached tag) 0 count tags distances i
+abbrev invariant-loop-i : tie.invariant-loop-i
+invariant-loop-i tag count tags distances i₀ i = Choosing (reached tag) 0 count tags distances i
 
-abbrev decreases-loop : tie.decreases-loop
-decreases-loop tag count tags distances i₀ i = count + 1 - i
+abbrev decreases-loop-i : tie.decreases-loop-i
+decreases-loop-i tag count tags distances i₀ i = count + 1 - i
 
 pub entry_from_spec : {M : Type 1} → statement M
 entry_from_spec =
     tie.close
-    (tie.spec invariant-loop decreases-loop
+    (tie.spec invariant-loop-i decreases-loop-i
     (λ c. record { high = omega arith; same = refl })
     (λ c. omega arith) (λ c. omega arith) (λ c. omega arith) (λ c. omega arith) (λ c. omega arith)
     (λ c. omega arith)
-    (λ c. choosing_on c.before.before.loop.invariant (omega arith) (omega arith) (omega arith) (lt-leb _ _ c.if2.false))
-    (λ c. choosing_end c.before.loop.invariant c.if1.true)
-    (λ c. choosing_hit c.before.before.loop.invariant (omega arith) (omega arith) (omega arith) (le-leb _ _ c.if2.true)))
+    (λ c. choosing_on c.before.before.loop-i.invariant (omega arith) (omega arith) (omega arith) (lt-leb _ _ c.if-tag-tags.false))
+    (λ c. choosing_end c.before.loop-i.invariant c.if-count-i.true)
+    (λ c. choosing_hit c.before.before.loop-i.invariant (omega arith) (omega arith) (omega arith) (le-leb _ _ c.if-tag-tags.true)))

@@ -10,41 +10,41 @@ use Rattle.listener.proofs.Steps.HeldLists.{before_hit, before_miss, before_end}
 use Rattle.listener.proofs.choose.lines_before.Statement.{statement}
 use Rattle.listener.proofs.choose.lines_before.Tie as tie
 
-abbrev invariant-loop : tie.invariant-loop
-invariant-loop tag count tags i₀ i =
+abbrev invariant-loop-i : tie.invariant-loop-i
+invariant-loop-i tag count tags i₀ i =
     (i ≤ count) × (before tag (tagged_lines count tags) ≡ i + before tag (drop i (tagged_lines count tags)))
 
-abbrev decreases-loop : tie.decreases-loop
-decreases-loop tag count tags i₀ i = count - i
+abbrev decreases-loop-i : tie.decreases-loop-i
+decreases-loop-i tag count tags i₀ i = count - i
 
-returns : tie.Need-returns invariant-loop decreases-loop
+returns : tie.Need-returns-then-tags-i invariant-loop-i decreases-loop-i
 returns c =
     let s = c.before.before.before in
     omega (
       arith,
-      before_hit s.args.tag s.args.count s.args.t3 c.before.before.loop.i (omega arith) (omega arith)
-          c.if1.true,
+      before_hit s.args.tag s.args.count s.args.t3 c.before.before.loop-i.i (omega arith) (omega arith)
+          c.if-tags-i.true,
     )
 
-loop_again : tie.Need-loop-preserved invariant-loop decreases-loop
+loop_again : tie.Need-loop-i-preserved invariant-loop-i decreases-loop-i
 loop_again c =
     let s = c.before.before.before in
     omega (
       arith,
-      before_miss s.args.tag s.args.count s.args.t3 c.before.before.loop.i (omega arith) (omega arith)
-          c.if1.false,
+      before_miss s.args.tag s.args.count s.args.t3 c.before.before.loop-i.i (omega arith) (omega arith)
+          c.if-tags-i.false,
     )
 
-returns_2 : tie.Need-returns-2 invariant-loop decreases-loop
+returns_2 : tie.Need-returns invariant-loop-i decreases-loop-i
 returns_2 c =
     let s = c.before.before in
     omega
-    (arith, before_end s.args.tag s.args.count s.args.t3 c.before.loop.i c.loop-test.false)
+    (arith, before_end s.args.tag s.args.count s.args.t3 c.before.loop-i.i c.loop-i-test.false)
 
 pub lines_before_spec : {M : Type 1} → statement M
 lines_before_spec =
     tie.close
-    (tie.spec invariant-loop decreases-loop
+    (tie.spec invariant-loop-i decreases-loop-i
     (λ c. (omega arith, omega arith)) (λ c. omega arith) (λ c. omega arith)
     returns
     (λ c. omega arith) (λ c. omega arith)

@@ -11,18 +11,18 @@ use Rattle.listener.proofs.Steps.HeldLists.{matching_hit, matching_miss, matchin
 use Rattle.listener.proofs.choose.lines_matching.Statement.{statement}
 use Rattle.listener.proofs.choose.lines_matching.Tie as tie
 
-abbrev invariant-loop : tie.invariant-loop
-invariant-loop tag count tags found₀ i₀ found i =
+abbrev invariant-loop-i : tie.invariant-loop-i
+invariant-loop-i tag count tags found₀ i₀ found i =
     (i ≤ count) × (found ≤ i) ×
     (length (matching tag (tagged_lines count tags)) ≡ found + length (matching tag (drop i (tagged_lines count tags))))
 
-abbrev decreases-loop : tie.decreases-loop
-decreases-loop tag count tags found₀ i₀ found i = count - i
+abbrev decreases-loop-i : tie.decreases-loop-i
+decreases-loop-i tag count tags found₀ i₀ found i = count - i
 
-loop_again : tie.Need-loop-preserved invariant-loop decreases-loop
+loop_again : tie.Need-loop-i-preserved invariant-loop-i decreases-loop-i
 loop_again c =
     let s = c.before.before.before in
-    let i = c.before.before.loop.i in
+    let i = c.before.before.loop-i.i in
     ⊎_elim
     (λ w.
     omega
@@ -30,18 +30,18 @@ loop_again c =
     (λ w.
     omega
     (arith, matching_miss s.args.tag s.args.count s.args.t3 i (omega arith) (omega arith) w.0.left))
-    c.if1.branch
+    c.if-tags-i.branch
 
-returns : tie.Need-returns invariant-loop decreases-loop
+returns : tie.Need-returns invariant-loop-i decreases-loop-i
 returns c =
     let s = c.before.before in
     omega
-    (arith, matching_end s.args.tag s.args.count s.args.t3 c.before.loop.i c.loop-test.false)
+    (arith, matching_end s.args.tag s.args.count s.args.t3 c.before.loop-i.i c.loop-i-test.false)
 
 pub lines_matching_spec : {M : Type 1} → statement M
 lines_matching_spec =
     tie.close
-    (tie.spec invariant-loop decreases-loop
+    (tie.spec invariant-loop-i decreases-loop-i
     (λ c. (omega arith, omega arith, omega arith))
     (λ c. omega arith) (λ c. omega arith) (λ c. omega arith) (λ c. omega arith) (λ c. omega arith)
     loop_again

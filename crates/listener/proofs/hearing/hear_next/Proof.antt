@@ -7,7 +7,7 @@ use Rattle.listener.specs.Inner.OnRun.{heard_next}
 use Rattle.listener.proofs.hearing.hear_next.Statement.{statement}
 use Rattle.listener.proofs.hearing.hear_next.Tie as tie
 
-hear_requires : tie.Need-hear-requires
+hear_requires : tie.Need-hear-step-requires
 hear_requires c κs =
     let s = c.before.before.before.before in
     omega (arith, s.requires, mod-lt (s.args.h.x + s.args.d) {m = s.args.count} (omega (arith, s.requires)))
@@ -18,7 +18,7 @@ returns c =
     let s = c.before.before.before.before.before in
     λ i. record {
       x = (s.args.h.x + s.args.d) % s.args.count;
-      step = c.hear.ensures i;
+      step = c.hear-step.ensures i;
     }
 
 pub hear_next_spec : {M : Type 1} → statement M

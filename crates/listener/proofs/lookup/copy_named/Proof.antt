@@ -14,7 +14,7 @@ use Rattle.listener.proofs.lookup.copy_named.Tie as tie
 returns : tie.Need-returns
 returns c =
     let s = c.before.before.before.before.before.before.before in
-    c.before.before.copy-lines.ensures ∙
+    c.before.before.copy_lines.ensures ∙
     ap
     (λ p. put s.args.out.now (line_length * s.args.lines) (ended_lines s.args.count (drop (lines_start + line_columns_width * s.args.first) p)))
     (part_bytes s.args.image.now s.args.x)

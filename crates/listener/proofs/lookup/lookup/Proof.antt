@@ -19,19 +19,19 @@ use Rattle.listener.proofs.lookup.lookup.Tie as tie
 
 -- ---- what is known where neither 11 nor 12 holds, where the run has ended and where it found
 
-abbrev start : tie.Else1 → tie.Start
+abbrev start : tie.Else-number-ne0 → tie.Start
 start c = c.before.before.before.before
 
-neither : (c : tie.Else1) → refusal_of (length (start c).args.image.now) (start c).args.t ≡ 0
-neither c = sym c.before.refusal.ensures ∙ c.if1.false
+neither : (c : tie.Else-number-ne0) → refusal_of (length (start c).args.image.now) (start c).args.t ≡ 0
+neither c = sym c.before.refusal-number.ensures ∙ c.if-number-ne0.false
 
-abbrev ran : tie.Else1 → Finish
+abbrev ran : tie.Else-number-ne0 → Finish
 ran c =
     whole_run (start c).args.image.now (length (start c).args.image.now / bucket_length) (start c).args.tag
     (start c).args.t
 
 by_the_run :
-    (c : tie.Else1) {f : Finish} → ran c ≡ f →
+    (c : tie.Else-number-ne0) {f : Finish} → ran c ≡ f →
     lookup (start c).args.image.now (start c).args.tag (start c).args.t (length (start c).args.out.now) ≡
     concluded (length (start c).args.out.now) f
 by_the_run c e =
@@ -40,41 +40,41 @@ by_the_run c e =
     (runs s.args.image.now s.args.tag s.args.t (neither c) ∙ e)
 
 -- the run's end, by what stopped it
-abbrev end : tie.After-l → tie.After-hear-to-end
+abbrev end : tie.After-l-1 → tie.After-hear_to_end-ran
 end c = c.before.before.before
 
 ended :
-    (c : tie.After-l) {z : Stop} → (end c).hear-to-end.result.stop ≡ z →
-    as_ending (ran (end c).before) ≡ ending_by z (end c).hear-to-end.result.last (end c).hear-to-end.result.lines
+    (c : tie.After-l-1) {z : Stop} → (end c).hear_to_end-ran.result.stop ≡ z →
+    as_ending (ran (end c).before) ≡ ending_by z (end c).hear_to_end-ran.result.last (end c).hear_to_end-ran.result.lines
 ended c e =
-    let r = (end c).hear-to-end in
+    let r = (end c).hear_to_end-ran in
     sym r.ensures.ends ∙ ap (λ z. ending_by z r.result.last r.result.lines) e
 
 found_in :
-    (c : tie.After-enum-told) →
-    FoundIn (ran (end c.before.before).before) (end c.before.before).hear-to-end.result.last.step.listener
-    (end c.before.before).hear-to-end.result.lines
+    (c : tie.In-Found) →
+    FoundIn (ran (end c.before.before).before) (end c.before.before).hear_to_end-ran.result.last.step.listener
+    (end c.before.before).hear_to_end-ran.result.lines
 found_in c = as_found (ran (end c.before.before).before) (ended c.before.before c.enum_told.given.1)
 
 -- ---- the answers
 
-returns : tie.Need-returns
+returns : tie.Need-returns-then-number-ne0
 unfolding refuse
 returns c =
     let s = c.before.before.before.before in
-    let number = c.before.refusal.ensures in
+    let number = c.before.refusal-number.ensures in
     handed s.args.out.now
     (concludes s.args.image.now s.args.tag s.args.t (length s.args.out.now)
-    (runs_not s.args.image.now s.args.tag s.args.t (λ e. c.if1.true (number ∙ e))))
+    (runs_not s.args.image.now s.args.tag s.args.t (λ e. c.if-number-ne0.true (number ∙ e))))
     (ap (λ z. Refused z 0) number)
     (sym (put_nil s.args.out.now 0))
 
-hear_to_end_requires : tie.Need-hear-to-end-requires
+hear_to_end_requires : tie.Need-hear_to_end-ran-requires
 hear_to_end_requires c κs =
     let r = room (length (start c).args.image.now) (start c).args.t (neither c) in
     (r.in_image, (r.few, r.inside))
 
-returns_2 : tie.Need-returns-2
+returns_2 : tie.Need-returns-then-out-lines
 unfolding refuse
 returns_2 c =
     let last = end c.before.before.before in
@@ -82,12 +82,12 @@ returns_2 c =
     let f = found_in c.before in
     handed (start here).args.out.now
     (by_the_run here f.is ∙
-    refused_7 (length (start here).args.out.now) last.hear-to-end.result.last.step.listener f.got
-    (omega (arith, f.counted, c.if2.true)))
+    refused_7 (length (start here).args.out.now) last.hear_to_end-ran.result.last.step.listener f.got
+    (omega (arith, f.counted, c.if-out-lines.true)))
     refl
     (sym (put_nil (start here).args.out.now 0))
 
-write_found_requires : tie.Need-write-found-requires
+write_found_requires : tie.Need-write_found-requires
 write_found_requires c κs =
     let found = c.before.before.before in
     let last = end found.before.before in
@@ -96,19 +96,19 @@ write_found_requires c κs =
     let f = found_in found in (
       (r.few, r.inside),
       (
-        last.hear-to-end.ensures.begins.heard,
+        last.hear_to_end-ran.ensures.begins.heard,
         record {
-          listener = last.hear-to-end.result.last.step.listener;
+          listener = last.hear_to_end-ran.result.last.step.listener;
           got = f.got;
-          is = sym last.hear-to-end.ensures.begins.all ∙ f.is;
+          is = sym last.hear_to_end-ran.ensures.begins.all ∙ f.is;
           fits =
-              has_room (length (start here).args.out.now) last.hear-to-end.result.last.step.listener f.got
-              (omega (arith, f.counted, c.before.before.if2.false));
+              has_room (length (start here).args.out.now) last.hear_to_end-ran.result.last.step.listener f.got
+              (omega (arith, f.counted, c.before.before.if-out-lines.false));
         },
       ),
     )
 
-returns_3 : tie.Need-returns-3
+returns_3 : tie.Need-returns-else-out-lines
 returns_3 c =
     let found = c.before.before.before.before.before.before.before.before in
     let last = end found.before.before in
@@ -117,28 +117,28 @@ returns_3 c =
     let f = found_in found in
     handed out
     (by_the_run here f.is ∙
-    finds (length out) last.hear-to-end.result.last.step.listener f.got
-    (omega (arith, f.counted, c.before.before.before.before.before.before.before.if2.false)))
+    finds (length out) last.hear_to_end-ran.result.last.step.listener f.got
+    (omega (arith, f.counted, c.before.before.before.before.before.before.before.if-out-lines.false)))
     (found_alike c.before.heard.ensures c.elapsed.ensures (sym f.counted))
-    (c.before.before.before.before.write-found.ensures ∙
-    ap (λ z. put out 0 (joined print_line (got_by z))) (sym last.hear-to-end.ensures.begins.all ∙ f.is))
+    (c.before.before.before.before.write_found.ensures ∙
+    ap (λ z. put out 0 (joined print_line (got_by z))) (sym last.hear_to_end-ran.ensures.begins.all ∙ f.is))
 
-returns_4 : tie.Need-returns-4
+returns_4 : tie.Need-returns-in-Absent
 returns_4 c =
     let l = c.before.before.before.before in
     let here = (end l).before in
     handed (start here).args.out.now
-    (by_the_run here (as_absent (ran here) (ended l c.before.before.enum-told2.given.1)))
-    (absent_alike c.before.heard2.ensures c.elapsed2.ensures)
+    (by_the_run here (as_absent (ran here) (ended l c.before.before.enum_told-in-Absent-1.given.1)))
+    (absent_alike c.before.heard-in-Absent.ensures c.elapsed-in-Absent.ensures)
     (sym (put_nil (start here).args.out.now 0))
 
-returns_5 : tie.Need-returns-5
+returns_5 : tie.Need-returns-in-Refused
 unfolding refuse
 returns_5 c =
     let l = c.before.before.before in
     let here = (end l).before in
     handed (start here).args.out.now
-    (by_the_run here (as_refused (ran here) (ended l c.before.stop.given.1)))
+    (by_the_run here (as_refused (ran here) (ended l c.before.stop-1.given.1)))
     refl
     (sym (put_nil (start here).args.out.now 0))
 

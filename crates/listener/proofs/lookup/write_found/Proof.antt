@@ -17,113 +17,113 @@ use Rattle.listener.proofs.Lookups.WritingRuns.{Written, Writing, nothing_writte
 use Rattle.listener.proofs.lookup.write_found.Statement.{statement}
 use Rattle.listener.proofs.lookup.write_found.Tie as tie
 
-abbrev invariant-loop : tie.invariant-loop
-invariant-loop image count out₀ h₀ lines₀ out h lines = Written image count (run_on image count h₀ []) out₀ out h lines
+abbrev invariant-loop-d : tie.invariant-loop-d
+invariant-loop-d image count out₀ h₀ lines₀ out h lines = Written image count (run_on image count h₀ []) out₀ out h lines
 
-abbrev decreases-loop : tie.decreases-loop
-decreases-loop image count out₀ h₀ lines₀ out h lines = to_go h
+abbrev decreases-loop-d : tie.decreases-loop-d
+decreases-loop-d image count out₀ h₀ lines₀ out h lines = to_go h
 
-loop_holds : tie.Need-loop-init invariant-loop decreases-loop
+loop_holds : tie.Need-loop-d-init invariant-loop-d decreases-loop-d
 loop_holds c =
     let s = c.before.before in
     nothing_written s.args.image.now s.args.count s.args.out.now s.requires.1.0
 
 -- ---- at a bucket heard
 
-abbrev start : tie.At-loop invariant-loop decreases-loop → tie.Start invariant-loop decreases-loop
+abbrev start : tie.At-loop-d invariant-loop-d decreases-loop-d → tie.Start invariant-loop-d decreases-loop-d
 start c = c.before.before.before
 
 writing :
-    (c : tie.At-loop invariant-loop decreases-loop) →
+    (c : tie.At-loop-d invariant-loop-d decreases-loop-d) →
     Writing (start c).args.image.now (start c).args.count
     (run_on (start c).args.image.now (start c).args.count (start c).args.from [])
     (start c).args.out.now
-    c.loop.out
-    c.loop.h
-    c.loop.lines
-writing c = record { written = c.loop.invariant; finds = (start c).requires.1.1 }
+    c.loop-d.out
+    c.loop-d.h
+    c.loop-d.lines
+writing c = record { written = c.loop-d.invariant; finds = (start c).requires.1.1 }
 
-copy_named_requires : tie.Need-copy-named-requires invariant-loop decreases-loop
+copy_named_requires : tie.Need-copy_named-requires invariant-loop-d decreases-loop-d
 copy_named_requires c κs =
     let at = c.before.before in
-    let f = at.loop.invariant.so_far in
+    let f = at.loop-d.invariant.so_far in
     (omega (arith, f.heard.inside, (start at).requires.0), (named_few f, room_with (writing at)))
 
 -- ---- once its lines are copied
 
-abbrev copied : tie.After-struct-known invariant-loop decreases-loop → tie.After-copy-named invariant-loop decreases-loop
+abbrev copied : tie.After-struct_known-1 invariant-loop-d decreases-loop-d → tie.After-copy_named invariant-loop-d decreases-loop-d
 copied c = c.before.before.before
 
-abbrev at : tie.After-struct-known invariant-loop decreases-loop → tie.At-loop invariant-loop decreases-loop
+abbrev at : tie.After-struct_known-1 invariant-loop-d decreases-loop-d → tie.At-loop-d invariant-loop-d decreases-loop-d
 at c = (copied c).before.before.before
 
 -- a call keeps the buffer's length
 kept_length :
-    (c : tie.After-struct-known invariant-loop decreases-loop) →
-    length (copied c).copy-named.new.1.1.1.1.0 ≡ length (start (at c)).args.out.now
-kept_length c = (copied c).copy-named.auto.1.1.1.1.0 ∙ (at c).loop.invariant.kept
+    (c : tie.After-struct_known-1 invariant-loop-d decreases-loop-d) →
+    length (copied c).copy_named.new.1.1.1.1.0 ≡ length (start (at c)).args.out.now
+kept_length c = (copied c).copy_named.auto.1.1.1.1.0 ∙ (at c).loop-d.invariant.kept
 
 -- ---- it dozes
 
-abbrev heard : tie.After-known-told invariant-loop decreases-loop → tie.After-struct-known invariant-loop decreases-loop
+abbrev heard : tie.In-Doze invariant-loop-d decreases-loop-d → tie.After-struct_known-1 invariant-loop-d decreases-loop-d
 heard c = c.before.before.before
 
 dozed :
-    (c : tie.After-known-told invariant-loop decreases-loop) →
-    (at (heard c)).loop.h.step.answer ≡ Doze c.before.answer.given.0.0
-dozed c = c.before.answer.given.1
+    (c : tie.In-Doze invariant-loop-d decreases-loop-d) →
+    (at (heard c)).loop-d.h.step.answer ≡ Doze c.before.answer-1.given.0.0
+dozed c = c.before.answer-1.given.1
 
-hear_next_requires : tie.Need-hear-next-requires invariant-loop decreases-loop
+hear_next_requires : tie.Need-hear_next-h-requires invariant-loop-d decreases-loop-d
 hear_next_requires c κs =
-    let f = (at (heard c)).loop.inv.so_far in
-    ((start (at (heard c))).pre.0, (f.heard.inside, doze_few f (dozed c)))
+    let f = (at (heard c)).loop-d.invariant.so_far in
+    ((start (at (heard c))).requires.0, (f.heard.inside, doze_few f (dozed c)))
 
-loop_less : tie.Need-loop-smaller invariant-loop decreases-loop
+loop_less : tie.Need-loop-d-smaller invariant-loop-d decreases-loop-d
 loop_less c =
     let here = c.before in
-    fewer_to_go (at (heard here)).loop.inv.so_far here.before.answer.given.0.0 (dozed here) c.hear-next.ensures
+    fewer_to_go (at (heard here)).loop-d.invariant.so_far here.before.answer-1.given.0.0 (dozed here) c.hear_next-h.ensures
 
-loop_again : tie.Need-loop-preserved invariant-loop decreases-loop
+loop_again : tie.Need-loop-d-preserved invariant-loop-d decreases-loop-d
 loop_again c =
     let here = c.before in
-    let copy = (copied (heard here)).copy-named in
-    written_onward (writing (at (heard here))) here.before.answer.given.0.0 (dozed here)
-    c.hear-next.ensures
+    let copy = (copied (heard here)).copy_named in
+    written_onward (writing (at (heard here))) here.before.answer-1.given.0.0 (dozed here)
+    c.hear_next-h.ensures
     copy.kept.1.1.1.1.0
     copy.ensures
 
 -- ---- it ends: a run that finds does not end in another way
 
-returns : tie.Need-returns invariant-loop decreases-loop
+returns : tie.Need-returns-in-Found invariant-loop-d decreases-loop-d
 returns c =
     let here = c.before.before in
-    wrote_with (writing (at here)) (copied here).copy-named.ensures ∙
+    wrote_with (writing (at here)) (copied here).copy_named.ensures ∙
     ap (λ got. put (start (at here)).args.out.now 0 (joined print_line got))
     (sym (ap got_by (after_step (writing (at here)).written.so_far c.enum_told.given.1)))
 
-returns_2 : tie.Need-returns-2 invariant-loop decreases-loop
+returns_2 : tie.Need-returns-in-Absent invariant-loop-d decreases-loop-d
 returns_2 c =
     let here = c.before.before in
-    let a = after_step (at here).loop.invariant.so_far c.enum-told2.given.1 in
-    let f = (start (at here)).pre.1.1.is in
+    let a = after_step (at here).loop-d.invariant.so_far c.enum_told-in-Absent-1.given.1 in
+    let f = (start (at here)).requires.1.1.is in
     let z : ◌≡◌ {A = ℕ} 0 1 = cc in
     absurd (omega arith)
 
-returns_3 : tie.Need-returns-3 invariant-loop decreases-loop
+returns_3 : tie.Need-returns-in-Refused invariant-loop-d decreases-loop-d
 returns_3 c =
     let here = c.before.before in
-    let a = after_step (at here).loop.invariant.so_far c.enum-told3.given.1 in
-    let f = (start (at here)).pre.1.1.is in
+    let a = after_step (at here).loop-d.invariant.so_far c.enum_told-in-Refused-1.given.1 in
+    let f = (start (at here)).requires.1.1.is in
     let z : ◌≡◌ {A = ℕ} 0 1 = cc in
     absurd (omega arith)
 
 pub write_found_spec : {M : Type 1} → statement M
 write_found_spec =
     tie.close
-    (tie.spec invariant-loop decreases-loop
+    (tie.spec invariant-loop-d decreases-loop-d
     loop_holds
     copy_named_requires
-    (λ c. omega (arith, lines_few (at c).loop.invariant.so_far))
+    (λ c. omega (arith, lines_few (at c).loop-d.invariant.so_far))
     (λ c. search rules)
     hear_next_requires
     loop_less

@@ -14,13 +14,13 @@ product c =
     let low : 1 * 1 ≤ c.args.w.n * c.args.w.tags = mul-le-mul {n₁ = 1} {m₁ = 1} c.requires.0 c.requires.2 in
     (omega arith, mul-le-mul {n₂ = buckets_most} {m₂ = lines_most} c.requires.1 c.requires.3)
 
-mul_divisor : tie.Need-overflow-mul-divisor
+mul_divisor : tie.Need-overflow_mul-divisor
 mul_divisor c = omega (arith, (product c.before).1)
 
-div_t3 : tie.Need-nonzero-div-t3
+div_t3 : tie.Need-nonzero_div-result
 div_t3 c = omega (arith, (product c.before.before).0)
 
-rem_t4 : tie.Need-nonzero-rem-t4
+rem_t4 : tie.Need-nonzero_rem-result
 rem_t4 c = omega (arith, (product c.before.before.before).0)
 
 pub average_spec : {M : Type 1} → statement M

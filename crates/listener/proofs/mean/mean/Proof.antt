@@ -16,21 +16,21 @@ use Rattle.listener.proofs.mean.mean.Tie as tie
 abbrev set : tie.Start → Settings
 set s = settings s.args.n s.args.p s.args.layout s.args.copies
 
-abbrev start : tie.After-waits → tie.Start
+abbrev start : tie.After-waits-waited → tie.Start
 start c = c.before.before
 
 -- what adding the waits answered
-known : (c : tie.After-waits) → waits (set (start c)) (start c).args.list.now ≡ c.waits.result
-known c = sym (waited_told c.waits.result (waits (set (start c)) (start c).args.list.now) c.waits.ensures)
+known : (c : tie.After-waits-waited) → waits (set (start c)) (start c).args.list.now ≡ c.waits-waited.result
+known c = sym (waited_told c.waits-waited.result (waits (set (start c)) (start c).args.list.now) c.waits-waited.ensures)
 
 -- it answered with a sum
-abbrev made : tie.After-waited2 → WaitSum
-made c = c.waited2.given.0.0
+abbrev made : tie.In-Sum-2 → WaitSum
+made c = c.waited-in-Sum-1.given.0.0
 
 summed :
-    (c : tie.After-waited2) →
+    (c : tie.In-Sum-2) →
     let s = start c.before.before in waits (set s) s.args.list.now ≡ Sum (made c)
-summed c = known c.before.before ∙ c.waited2.given.1
+summed c = known c.before.before ∙ c.waited-in-Sum-1.given.1
 
 average_requires : tie.Need-average-requires
 average_requires c κs =
@@ -39,13 +39,13 @@ average_requires c κs =
     let d = divisible (set s) s.args.list.now (made told) (summed told) in
     (d.n_low, d.n_high, d.tags_low, d.tags_high)
 
-returns : tie.Need-returns
+returns : tie.Need-returns-in-Refused
 returns c =
     let w = c.before.before.before in
     let s = start w in
-    mean_refused (set s) s.args.list.now _ _ (known w ∙ c.before.waited.given.1)
+    mean_refused (set s) s.args.list.now _ _ (known w ∙ c.before.waited-1.given.1)
 
-returns_2 : tie.Need-returns-2
+returns_2 : tie.Need-returns-in-Sum
 returns_2 c =
     let told = c.before.before in
     let s = start told.before.before in

@@ -10,38 +10,38 @@ use Rattle.listener.proofs.Lookups.LookupOutcomes.{runs, runs_not, room}
 use Rattle.listener.proofs.run.run.Statement.{statement}
 use Rattle.listener.proofs.run.run.Tie as tie
 
-returns : tie.Need-returns
+returns : tie.Need-returns-then-number-ne0
 returns c =
     let s = c.before.before.before in
-    let number = c.before.refusal.ensures in
+    let number = c.before.refusal-number.ensures in
     ap ending_numbers
     (ap (λ z. Refused z 0) number ∙
-    ap as_ending (sym (runs_not s.args.image.now s.args.tag s.args.t (λ e. c.if1.true (number ∙ e)))))
+    ap as_ending (sym (runs_not s.args.image.now s.args.tag s.args.t (λ e. c.if-number-ne0.true (number ∙ e)))))
 
 -- neither 11 nor 12
-abbrev start : tie.Else1 → tie.Start
+abbrev start : tie.Else-number-ne0 → tie.Start
 start c = c.before.before.before
 
-neither : (c : tie.Else1) → refusal_of (length (start c).args.image.now) (start c).args.t ≡ 0
-neither c = sym c.before.refusal.ensures ∙ c.if1.false
+neither : (c : tie.Else-number-ne0) → refusal_of (length (start c).args.image.now) (start c).args.t ≡ 0
+neither c = sym c.before.refusal-number.ensures ∙ c.if-number-ne0.false
 
-hear_to_end_requires : tie.Need-hear-to-end-requires
+hear_to_end_requires : tie.Need-hear_to_end-ran-requires
 hear_to_end_requires c κs =
     let r = room (length (start c).args.image.now) (start c).args.t (neither c) in
     (r.in_image, (r.few, r.inside))
 
 -- the ending by what stopped the run
-abbrev end : tie.After-next → tie.After-hear-to-end
+abbrev end : tie.After-next-1 → tie.After-hear_to_end-ran
 end c = c.before.before.before
 
 ended :
-    (c : tie.After-next) {z : Stop} → (end c).hear-to-end.result.stop ≡ z →
-    ending_numbers (ending_by z (end c).hear-to-end.result.last (end c).hear-to-end.result.lines) ≡
+    (c : tie.After-next-1) {z : Stop} → (end c).hear_to_end-ran.result.stop ≡ z →
+    ending_numbers (ending_by z (end c).hear_to_end-ran.result.last (end c).hear_to_end-ran.result.lines) ≡
     ending_numbers
     (as_ending
     (run_over (start (end c).before).args.image.now (start (end c).before).args.tag (start (end c).before).args.t))
 ended c e =
-    let r = (end c).hear-to-end in
+    let r = (end c).hear_to_end-ran in
     let s = start (end c).before in
     ap ending_numbers
     (ap (λ z. ending_by z r.result.last r.result.lines) (sym e) ∙
@@ -57,5 +57,5 @@ run_spec =
     hear_to_end_requires
     (λ c. search rules) (λ c. search rules) (λ c. search rules)
     (λ c. ended c.before.before c.enum_told.given.1)
-    (λ c. ended c.before.before c.enum-told2.given.1)
-    (λ c. ended c.before.before.before c.before.stop.given.1))
+    (λ c. ended c.before.before c.enum_told-in-Absent-1.given.1)
+    (λ c. ended c.before.before.before c.before.stop-1.given.1))

@@ -6,15 +6,15 @@ use Rattle.listener.specs.Listener.{stopped}
 use Rattle.listener.proofs.step.count_on.Statement.{statement}
 use Rattle.listener.proofs.step.count_on.Tie as tie
 
-returns : tie.Need-returns
+returns : tie.Need-returns-then-count-gt-COUNT_MOST
 unfolding stopped
 returns c = omega arith
 
-returns_2 : tie.Need-returns-2
+returns_2 : tie.Need-returns-then-count-more
 unfolding stopped
 returns_2 c = omega arith
 
-returns_3 : tie.Need-returns-3
+returns_3 : tie.Need-returns
 unfolding stopped
 returns_3 c = omega arith
 
