@@ -12,7 +12,7 @@ NAME = r"[^\s(){}.;,@\"«»`\[\]]+"
 
 
 # Fields whose own fields are names of the source.
-KEPT = {"args", "new", "auto", "old", "now", "invariant", "result", "requires", "ensures", "entry", "loop", "l"}
+KEPT = {"args", "new", "auto", "old", "now", "invariant", "result", "requires", "ensures", "entry"}
 
 
 def norm(w):

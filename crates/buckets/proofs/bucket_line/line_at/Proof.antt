@@ -18,7 +18,7 @@ returns c =
     let s = c.before.before.before in
     let at : ℕ = lines_start + line_columns_width * s.args.i in
     let wide : at + line_columns_width - at ≡ line_columns_width = omega arith in
-    c.spelled_line_lem.ensures ∙ ap (λ w. spelled_line (take w (drop at s.args.bucket.now))) wide
+    c.spelled_line.ensures ∙ ap (λ w. spelled_line (take w (drop at s.args.bucket.now))) wide
 
 pub line_at_spec : {M : Type 1} → statement M
 line_at_spec =

@@ -17,34 +17,34 @@ use Rattle.buckets.proofs.bucket_line.line_of.Tie as tie
 abbrev bytes : tie.After-read_bucket-r → List ℕ
 bytes c = c.before.before.args.bucket.now
 
-read : (c : tie.After-read_bucket-r) → c.read_bucket_lem.result ≡ as_reading (read_bucket (bytes c))
-read c = c.read_bucket_lem.ensures
+read : (c : tie.After-read_bucket-r) → c.read_bucket-r.result ≡ as_reading (read_bucket (bytes c))
+read c = c.read_bucket-r.ensures
 
 -- a data bucket of so many lines
-told : (c : tie.In-Data) → DataRead (bytes c.before.before) (as_reading (read_bucket (bytes c.before.before))).lines
+told : (c : tie.In-Data) → DataRead (bytes c.before) (as_reading (read_bucket (bytes c.before))).lines
 told c =
-    let r = c.before.before in
-    of_data (bytes r) (read_bucket (bytes r)) refl (ap (λ x. x.kind) (sym (read r)) ∙ c.enum_told-in-Data-1.given.1)
+    let r = c.before in
+    of_data (bytes r) (read_bucket (bytes r)) refl (ap (λ x. x.kind) (sym (read r)) ∙ c.in-Data.is)
 
 -- it has line i
-line : (c : tie.Else-r-i) → LineStands (bytes c.before.before.before) c.before.before.before.before.before.args.i
+line : (c : tie.Else-r-i) → LineStands (bytes c.before.before) c.args.i
 line c =
-    let r = c.before.before.before in
+    let r = c.before.before in
     (told c.before).there r.before.before.args.i (omega (arith, c.if-r-i.false, ap (λ x. x.lines) (read r)))
 
 returns : tie.Need-returns-then-r-i
 returns c =
-    let r = c.before.before.before in
+    let r = c.before.before in
     ap numbers (sym ((told c.before).past r.before.before.args.i (omega (arith, c.if-r-i.true, ap (λ x. x.lines) (read r)))))
 
 line_at_requires : tie.Need-line_at-line-requires
 line_at_requires c κs =
-    let r = c.before.before.before in
+    let r = c.before.before in
     ((told c.before).long, omega (arith, c.if-r-i.false, ap (λ x. x.lines) (read r), (told c.before).few))
 
 -- what its columns spell is the answer
 answered : (c : tie.After-line_at-line) →
-    let r = c.before.before.before.before in
+    let r = c.before.before.before in
     numbers (IsLine c.line_at-line.result) ≡ numbers (bucket_line r.before.before.args.i (read_bucket (bytes r)))
 answered c =
     let l = line c.before in
@@ -52,13 +52,13 @@ answered c =
 
 returns_2 : tie.Need-returns-in-Misprinted
 returns_2 c =
-    let r = c.before.before in
-    ap numbers (sym (of_misprinted _ (read_bucket (bytes r)) (ap (λ x. x.kind) (sym (read r)) ∙ c.enum_told.given.1)))
+    let r = c.before in
+    ap numbers (sym (of_misprinted _ (read_bucket (bytes r)) (ap (λ x. x.kind) (sym (read r)) ∙ c.in-Misprinted.is)))
 
 returns_3 : tie.Need-returns-in-Index
 returns_3 c =
-    let r = c.before.before in
-    ap numbers (sym (of_index _ (read_bucket (bytes r)) (ap (λ x. x.kind) (sym (read r)) ∙ c.enum_told-in-Index-1.given.1)))
+    let r = c.before in
+    ap numbers (sym (of_index _ (read_bucket (bytes r)) (ap (λ x. x.kind) (sym (read r)) ∙ c.in-Index.is)))
 
 pub line_of_spec : {M : Type 1} → statement M
 line_of_spec =

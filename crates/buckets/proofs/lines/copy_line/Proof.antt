@@ -10,7 +10,7 @@ returns : tie.Need-returns
 returns c =
     let s = c.before.before.before.before.before.before.before in
     copied_line s.args.out.now s.args.text.now s.args.from s.args.to
-    c.before.before.copy_columns.new.0
+    c.before.before.copy_columns.new.part
     s.requires.1
     s.requires.0
     c.before.before.copy_columns.ensures

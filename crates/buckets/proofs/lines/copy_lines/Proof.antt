@@ -29,8 +29,8 @@ loop_again c =
     let s = c.before.before.before.before.before.before.before.before in
     let i = c.before.before.before.before.before.loop-i.i in (
       omega arith,
-      c.before.before.Copy-Line.auto.0 ∙ c.before.before.before.before.before.loop-i.invariant.1,
-      c.before.before.Copy-Line.ensures
+      c.before.before.copy_line.auto.out ∙ c.before.before.before.before.before.loop-i.invariant.1,
+      c.before.before.copy_line.ensures
           ∙ (ap (λ o. put o (s.args.to + line_length * i) (ended_line (drop (s.args.from + line_columns_width * i) s.args.text.now)))
           c.before.before.before.before.before.loop-i.invariant.2
           ∙ copied_more s.args.out.now s.args.text.now s.args.from s.args.to i (omega arith) (omega arith)),

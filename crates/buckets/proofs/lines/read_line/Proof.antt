@@ -42,4 +42,4 @@ read_line_spec =
     tie.close
     (tie.spec ▹ (λ c κs. tt) ▹ (λ c. search misprinted) ▹₂ search rules ▹ (λ c. omega (arith, line_long c))
     ▹ (λ c κs. length_part c.before.before.before.before.args.part.now 0 line_columns_width (omega (arith, line_long c.before)))
-    ▹ (λ c. let e = c.before.before in line_is _ e.before.line_tag.ensures e.if-line_tag-eq-MISPRINT.false c.spelled_line_lem.ensures))
+    ▹ (λ c. let e = c.before.before in line_is _ e.before.line_tag.ensures e.if-line_tag-eq-MISPRINT.false c.spelled_line.ensures))

@@ -27,7 +27,7 @@ loop_again c =
     let loop = turn.before in
     let start = loop.before.before in (
       omega arith,
-      one_more column_printed rest_places start.args.part.now loop.loop.i loop.loop.before loop.loop.still loop.loop.invariant.1
+      one_more column_printed rest_places start.args.part.now loop.loop-i.i loop.loop-i.before loop.loop-i.still loop.loop-i.invariant.1
           turn.loop-i-test.true (omega (arith, start.requires)) _ c.still_printed-still.ensures,
     )
 

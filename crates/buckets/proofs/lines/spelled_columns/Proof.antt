@@ -75,7 +75,7 @@ loop_again c =
     let x = read.before.before.loop-i.x in
     let inv = read.before.before.loop-i.invariant in
     let is : c.if-c-gt48.x ≡ x * 10 + (get_or text (at + i) 0 - 48) =
-    rw (← ten c.before) (⊎_elim (λ w. omega (arith, w.1.ensures)) (λ w. omega arith) c.if-c-gt48.branch) in (
+    rw (← ten c.before) (⊎_elim (λ w. omega (arith, w.wide-x.ensures)) (λ w. omega arith) c.if-c-gt48.branch-raw) in (
       omega arith,
       column_small (get_or text (at + i) 0) i x c.if-c-gt48.x (omega (arith, read.shared_slice_known-in-loop-i-1.given (at + i))) is inv.1,
       inv.2 ∙ column_read text at start.args.width i x c.if-c-gt48.x (omega arith) (omega arith) is,

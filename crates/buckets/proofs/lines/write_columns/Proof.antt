@@ -12,16 +12,16 @@ use Rattle.buckets.proofs.lines.write_columns.Statement.{statement}
 use Rattle.buckets.proofs.lines.write_columns.Tie as tie
 
 -- where the columns are blank, as the numbers are written
-from_tag : (c : tie.After-print_blanks) → BlankFrom line_columns_width tag_start c.print_blanks.new.0
+from_tag : (c : tie.After-print_blanks) → BlankFrom line_columns_width tag_start c.print_blanks.new.part
 from_tag c = all_blank_lem _ _ _ c.print_blanks.ensures c.before.before.before.requires
 
-from_tare : (c : tie.After-print_at) → BlankFrom line_columns_width tare_start c.print_at.new.0
+from_tare : (c : tie.After-print_at) → BlankFrom line_columns_width tare_start c.print_at.new.part
 from_tare c = blank_behind _ _ _ _ _ c.print_at.ensures (from_tag c.before.before.before.before) refl refl
 
-from_code : (c : tie.After-print_at-2) → BlankFrom line_columns_width code_start c.print_at-2.new.0
+from_code : (c : tie.After-print_at-2) → BlankFrom line_columns_width code_start c.print_at-2.new.part
 from_code c = blank_behind _ _ _ _ _ c.print_at-2.ensures (from_tare c.before.before.before.before) refl refl
 
-from_weighing : (c : tie.After-print_at-3) → BlankFrom line_columns_width weighing_start c.print_at-3.new.0
+from_weighing : (c : tie.After-print_at-3) → BlankFrom line_columns_width weighing_start c.print_at-3.new.part
 from_weighing c = blank_behind _ _ _ _ _ c.print_at-3.ensures (from_code c.before.before.before.before) refl refl
 
 returns : tie.Need-returns

@@ -31,10 +31,6 @@ answer h f c s ls r x lines held empty =
     let count = items_count read_line_columns (λ m l. l.tag) line_columns_width c s ls lines in
     λ i. record { kind = Data; head = h; follow_on = f; index = empty i; lines = sym count i; tags = (held i).tags }
 
--- where the follow-on was read, from where the lines were
-abbrev first : tie.After-read_tags-read → tie.In-Value-2
-first c = c.before.before.before.before.before.before.before.before.before.before.before.before
-
 pub read_data_spec : {M : Type 1} → statement M
 unfolding read_data columns
 read_data_spec =
@@ -47,8 +43,8 @@ read_data_spec =
     search (
       told_on numbers as_reading,
       held_out tags_flag as_reading,
-      (first c.before.before.before).before.before.six_within.ensures,
-      (first c.before.before.before).follow-on.given.1,
+      c.six_within.ensures,
+      c.in-Value.is,
     ))
     ▹ search rules
     ▹ (λ c.
@@ -56,6 +52,6 @@ read_data_spec =
       told_on numbers as_reading,
       held_on tags_flag as_reading,
       answer,
-      (first c.before.before.before.before).before.before.six_within.ensures,
-      (first c.before.before.before.before).follow-on.given.1,
+      c.six_within.ensures,
+      c.in-Value.is,
     )))

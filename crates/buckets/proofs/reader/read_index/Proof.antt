@@ -35,17 +35,13 @@ answer : (h : Head) (n k c : ℕ) (s t : List ℕ) (ps : List Pair) (es : List E
     → e ≡ held_entries (some es) → z ≡ as_reading (some (bucket_with h (index_body ps es)))
 unfolding read_pairs read_entries bucket_with head_of held_index index_reading
 answer h n k c s t ps es p e is pairs p_held entries e_held =
-    let pair_count_lem = items_count (read_pair n) (λ i p. suc i) entry_width k s ps pairs in
+    let pair_count = items_count (read_pair n) (λ i p. suc i) entry_width k s ps pairs in
     let entry_count = items_count (read_entry n) (λ m e. e.tag) entry_width c t es entries in
-    is ∙ (λ i. index_reading h (sym pair_count_lem i) (p_held i) (sym entry_count i) (e_held i))
-
--- where the function starts, from where its numbers were read
-abbrev start : tie.In-Value-digit_within-2 → tie.Start
-start c = c.before.before.before.before.before.before.before.before.before.before.before.before.before.before.before
+    is ∙ (λ i. index_reading h (sym pair_count i) (p_held i) (sym entry_count i) (e_held i))
 
 counts_read : (c : tie.In-Value-digit_within-2) {z : Reading}
-    → z ≡ as_reading (behind_counts (start c).args.head c.before.before.before.before.before.before.pair_count_lem.given.0.0 c.before.entry_count-1.given.0.0 (start c).args.part.now)
-    → z ≡ as_reading (read_index (start c).args.head (start c).args.part.now)
+    → z ≡ as_reading (behind_counts c.args.head c.in-Value-digit_within.pair_count c.in-Value-digit_within-2.entry_count c.args.part.now)
+    → z ≡ as_reading (read_index c.args.head c.args.part.now)
 unfolding read_index columns
 counts_read c is = search (told_on numbers as_reading)
 

@@ -79,7 +79,7 @@ read_pairs_spec =
     let few = turn.before.before.before.before.before.before.requires.1 in
     next_pair _ _ _ _ _ _ _ _ _ turn.before.loop-i.invariant turn.loop-i-test.true few read.read_pair-pair.ensures passed.if-not-pair.false
     (λ xs p count held told.
-    ⊎_elim (λ w. w.1 ∙ told ∙ sym (first_told xs p (count ∙ w.0.taken)))
-    (λ w. w.1 ∙ held ∙ sym (later_passed xs p (λ z. w.0.left (sym count ∙ z))))
-    c.if-i-eq0.branch))
+    ⊎_elim (λ w. w.blank-is ∙ told ∙ sym (first_told xs p (count ∙ w.if-i-eq0.true)))
+    (λ w. w.blank-is ∙ held ∙ sym (later_passed xs p (λ z. w.if-i-eq0.false (sym count ∙ z))))
+    c.if-i-eq0.branch-raw))
     ▹ (λ c. search (all_held held_pairs)))

@@ -65,7 +65,7 @@ start c = c.before.before.before.before.before
 after_tag : (c : tie.After-put_tag) →
     let a = (start c).args in
     take (entry_start a.i) a.part.now
-    ++ (c.put_tag.new.0 ++ drop (entry_start a.i + distance_start - entry_start a.i) (drop (entry_start a.i) a.part.now))
+    ++ (c.put_tag.new.part ++ drop (entry_start a.i + distance_start - entry_start a.i) (drop (entry_start a.i) a.part.now))
     ≡ put a.part.now (entry_start a.i) (blank_zeros (take tag_width (drop a.from a.text.now)))
 after_tag c =
     let s = start c in

@@ -45,13 +45,13 @@ front2 s = front1 s ++ pair_columns (held s)
 
 -- the columns themselves
 abbrev columns0 : tie.After-print_blanks → List ℕ
-columns0 c = c.print_blanks.new.0 ++ drop bucket_length (start0 c).args.part.now
+columns0 c = c.print_blanks.new.part ++ drop bucket_length (start0 c).args.part.now
 
 abbrev columns1 : tie.After-write_head → List ℕ
-columns1 c = c.write_head.new.0 ++ drop pairs_start (columns0 (blank1 c))
+columns1 c = c.write_head.new.part ++ drop pairs_start (columns0 (blank1 c))
 
 abbrev columns2 : tie.After-write_pairs → List ℕ
-columns2 c = take pairs_start (columns1 (head2 c)) ++ (c.write_pairs.new.0 ++ drop pairs_width (drop pairs_start (columns1 (head2 c))))
+columns2 c = take pairs_start (columns1 (head2 c)) ++ (c.write_pairs.new.part ++ drop pairs_width (drop pairs_start (columns1 (head2 c))))
 
 all_blank_lem : (d last : List ℕ) → length d ≡ bucket_length → last ≡ blanks (length (take bucket_length d)) → last ++ drop bucket_length d ≡ padded bucket_length []
 all_blank_lem d last h e =
@@ -60,7 +60,7 @@ all_blank_lem d last h e =
     rw (none, e, all) (append-nil (blanks bucket_length) ∙ sym (padded_nil bucket_length))
 
 blanked : (c : tie.After-print_blanks) → columns0 c ≡ padded bucket_length []
-blanked c = all_blank_lem (start0 c).args.part.now c.print_blanks.new.0 (start0 c).requires.0 c.print_blanks.ensures
+blanked c = all_blank_lem (start0 c).args.part.now c.print_blanks.new.part (start0 c).requires.0 c.print_blanks.ensures
 
 filled1 : (c : tie.After-write_head) → columns1 c ≡ padded bucket_length (front1 (start0 (blank1 c)))
 filled1 c = back_padded bucket_length position_start head_width [] (blanked (blank1 c)) refl (lit≤ tt) (front1 (start0 (blank1 c))) c.write_head.ensures refl
@@ -73,7 +73,7 @@ blank2 : (c : tie.After-write_head) → take pairs_width (drop pairs_start (colu
 blank2 c = lent_blank bucket_length pairs_start pairs_width (front1 (start0 (blank1 c))) (filled1 c) refl (lit≤ tt)
 
 pairs_wide : (c : tie.After-write_pairs) → length (pair_columns (held (start2 c))) ≡ pairs_width
-pairs_wide c = sym (ap length c.write_pairs.ensures) ∙ c.write_pairs.auto.0 ∙ ap length (blank2 (head2 c)) ∙ length_blanks pairs_width
+pairs_wide c = sym (ap length c.write_pairs.ensures) ∙ c.write_pairs.auto.part ∙ ap length (blank2 (head2 c)) ∙ length_blanks pairs_width
 
 filled2 : (c : tie.After-write_pairs) → columns2 c ≡ padded bucket_length (front2 (start2 c))
 filled2 c =

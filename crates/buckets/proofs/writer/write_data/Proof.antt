@@ -34,7 +34,7 @@ start2 c = start0 (blank1 (head2 c))
 
 -- what fills the columns after each part
 abbrev front1 : tie.Start → List ℕ
-front1 s = front_of s.args.head s.args.follow-on letter_data 0 (length s.args.lines.now / line_length)
+front1 s = front_of s.args.head s.args.follow_on letter_data 0 (length s.args.lines.now / line_length)
 
 abbrev lines_columns : tie.Start → List ℕ
 lines_columns s = padded lines_width (joined line_columns (list_lines s.args.lines.now))
@@ -44,12 +44,12 @@ front2 s = front1 s ++ lines_columns s
 
 -- the columns themselves
 abbrev columns1 : tie.After-write_head → List ℕ
-columns1 c = c.write_head.new.0 ++ drop lines_start (blank1 c).print_blanks.new.0
+columns1 c = c.write_head.new.part ++ drop lines_start (blank1 c).print_blanks.new.part
 
 abbrev columns2 : tie.After-write_lines → List ℕ
-columns2 c = take lines_start (columns1 (head2 c)) ++ (c.write_lines.new.0 ++ drop lines_width (drop lines_start (columns1 (head2 c))))
+columns2 c = take lines_start (columns1 (head2 c)) ++ (c.write_lines.new.part ++ drop lines_width (drop lines_start (columns1 (head2 c))))
 
-blanked : (c : tie.After-print_blanks) → c.print_blanks.new.0 ≡ padded bucket_length []
+blanked : (c : tie.After-print_blanks) → c.print_blanks.new.part ≡ padded bucket_length []
 blanked c = c.print_blanks.ensures ∙ ap blanks (start0 c).requires.0 ∙ sym (padded_nil bucket_length)
 
 filled1 : (c : tie.After-write_head) → columns1 c ≡ padded bucket_length (front1 (start0 (blank1 c)))
@@ -59,7 +59,7 @@ lent2 : (c : tie.After-write_head) → take lines_width (drop lines_start (colum
 lent2 c = lent_blank bucket_length lines_start lines_width (front1 (start0 (blank1 c))) (filled1 c) refl (lit≤ tt)
 
 lines_wide : (c : tie.After-write_lines) → length (lines_columns (start2 c)) ≡ lines_width
-lines_wide c = sym (ap length c.write_lines.ensures) ∙ c.write_lines.auto.0 ∙ ap length (lent2 (head2 c)) ∙ length_blanks lines_width
+lines_wide c = sym (ap length c.write_lines.ensures) ∙ c.write_lines.auto.part ∙ ap length (lent2 (head2 c)) ∙ length_blanks lines_width
 
 filled2 : (c : tie.After-write_lines) → columns2 c ≡ padded bucket_length (front2 (start2 c))
 filled2 c =
@@ -84,7 +84,7 @@ returns c =
     let p = c.before.before in
     let s = start2 p in
     whole p
-    ∙ data_parts s.args.head s.args.follow-on (length s.args.lines.now / line_length) (list_lines s.args.lines.now)
+    ∙ data_parts s.args.head s.args.follow_on (length s.args.lines.now / line_length) (list_lines s.args.lines.now)
     (length_list_lines s.args.lines.now)
 
 pub write_data_spec : {M : Type 1} → statement M

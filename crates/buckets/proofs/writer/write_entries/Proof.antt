@@ -71,7 +71,7 @@ room s = record { columns = s.requires.1.0; tags = s.requires.1.1.0; distances =
 
 -- a turn's end fits a number
 fits : (c : tie.In-loop-i invariant-loop-i decreases-loop-i) → c.before.loop-i.i * entry_width + entry_width < 18446744073709551616
-fits c = let s = start c.before in omega (arith, s.good.0.0, s.requires.1.0, c.loop-i-test.true)
+fits c = let s = start c.before in omega (arith, s.well_formed.0.0, s.requires.1.0, c.loop-i-test.true)
 
 -- the turn, seen from each place
 abbrev turn1 : tie.After-print_at invariant-loop-i decreases-loop-i → tie.In-loop-i invariant-loop-i decreases-loop-i
@@ -80,10 +80,10 @@ turn1 c = c.before.before.before
 abbrev turn2 : tie.After-print_at-in-loop-i invariant-loop-i decreases-loop-i → tie.In-loop-i invariant-loop-i decreases-loop-i
 turn2 c = turn1 c.before.before.before.before.before
 
-after_tag : (c : tie.After-print_at invariant-loop-i decreases-loop-i) → c.print_at.new.0 ≡
+after_tag : (c : tie.After-print_at invariant-loop-i decreases-loop-i) → c.print_at.new.part ≡
     padded (length (start (turn1 c).before).args.part.now)
     (behind_tag (start (turn1 c).before).args.tags.now (start (turn1 c).before).args.distances.now (turn1 c).before.loop-i.i)
-after_tag c = let t = turn1 c in tag_printed _ _ _ _ _ _ (room (start t.before)) t.before.loop-i.invariant t.loop-i-test.taken c.print_at.ensures
+after_tag c = let t = turn1 c in tag_printed _ _ _ _ _ _ (room (start t.before)) t.before.loop-i.invariant t.loop-i-test.true c.print_at.ensures
 
 loop_holds : tie.Need-loop-i-init invariant-loop-i decreases-loop-i
 loop_holds c = record { within = omega arith; is = c.before.before.before.requires.0 ∙ sym (padded_nil _) }
@@ -114,25 +114,25 @@ mul_print_at_2 c = omega (arith, fits (turn1 c.before.before.before))
 shared_slice_read_print_at_2 : tie.Need-bounds-distances-i invariant-loop-i decreases-loop-i
 shared_slice_read_print_at_2 c =
     let t = turn1 c.before.before.before.before in
-    omega (arith, t.loop-i-test.taken, (start t.before).requires.1.1.1)
+    omega (arith, t.loop-i-test.true, (start t.before).requires.1.1.1)
 
 print_at_requires_2 : tie.Need-print_at-requires-in-loop-i invariant-loop-i decreases-loop-i
 print_at_requires_2 c κs =
     let p = c.before.before.before.before in
     let t = turn1 p in
-    distance_ready _ _ _ _ _ _ (room (start t.before)) t.before.loop-i.invariant t.loop-i-test.taken (after_tag p)
+    distance_ready _ _ _ _ _ _ (room (start t.before)) t.before.loop-i.invariant t.loop-i-test.true (after_tag p)
 
 add_i : tie.Need-overflow_add-i invariant-loop-i decreases-loop-i
 add_i c = omega (arith, fits (turn2 c.before.before))
 
 loop_less : tie.Need-loop-i-smaller invariant-loop-i decreases-loop-i
-loop_less c = omega (arith, (turn2 c.before.before).loop-i-test.taken)
+loop_less c = omega (arith, (turn2 c.before.before).loop-i-test.true)
 
 loop_again : tie.Need-loop-i-preserved invariant-loop-i decreases-loop-i
 loop_again c =
     let p = c.before.before in
     let t = turn2 p in
-    distance_printed _ _ _ _ _ _ (room (start t.before)) t.before.loop-i.invariant t.loop-i-test.taken
+    distance_printed _ _ _ _ _ _ (room (start t.before)) t.before.loop-i.invariant t.loop-i-test.true
     (after_tag p.before.before.before.before.before) p.print_at-in-loop-i.ensures
 
 same_length : tie.Need-shape_of-part invariant-loop-i decreases-loop-i

@@ -14,19 +14,19 @@ use Rattle.buckets.proofs.writer.write_head.Tie as tie
 from_position : (s : tie.Start) → BlankFrom head_width position_start s.args.part.now
 from_position s = all_blank_lem _ _ _ s.requires refl
 
-from_cycle : (c : tie.After-print_at) → BlankFrom head_width to_cycle_start c.print_at.new.0
+from_cycle : (c : tie.After-print_at) → BlankFrom head_width to_cycle_start c.print_at.new.part
 from_cycle c = blank_behind _ _ _ _ _ c.print_at.ensures (from_position c.before.before.before) refl refl
 
-from_segment : (c : tie.After-print_at-2) → BlankFrom head_width to_segment_start c.print_at-2.new.0
+from_segment : (c : tie.After-print_at-2) → BlankFrom head_width to_segment_start c.print_at-2.new.part
 from_segment c = blank_behind _ _ _ _ _ c.print_at-2.ensures (from_cycle c.before.before.before.before) refl refl
 
-from_follow_on : (c : tie.After-print_at-3) → BlankFrom head_width follow_on_start c.print_at-3.new.0
+from_follow_on : (c : tie.After-print_at-3) → BlankFrom head_width follow_on_start c.print_at-3.new.part
 from_follow_on c = blank_behind _ _ _ _ _ c.print_at-3.ensures (from_segment c.before.before.before.before) refl refl
 
-from_letter : (c : tie.After-print_at-4) → BlankFrom head_width letter_column c.print_at-4.new.0
+from_letter : (c : tie.After-print_at-4) → BlankFrom head_width letter_column c.print_at-4.new.part
 from_letter c = blank_behind _ _ _ _ _ c.print_at-4.ensures (from_follow_on c.before.before.before.before) refl refl
 
-from_items : (c : tie.After-print_at-5) → BlankFrom head_width item_count_start c.print_at-5.new.0
+from_items : (c : tie.After-print_at-5) → BlankFrom head_width item_count_start c.print_at-5.new.part
 from_items c =
     blank_behind _ _ _ _ _ c.print_at-5.ensures (set_behind _ _ _ _ _ (from_letter c.before.before.before.before) refl refl) refl refl
 

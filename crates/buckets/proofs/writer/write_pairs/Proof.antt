@@ -34,11 +34,11 @@ start c = c.before.before.before.before.before
 abbrev entries : tie.Start → List Entry
 entries s = take s.args.count (entries_of s.args.tags.now s.args.distances.now)
 
-as_entries : (c : tie.After-write_entries) → c.write_entries.new.0 ≡ padded pairs_width (entries_to (start c).args.tags.now (start c).args.distances.now (start c).args.count)
+as_entries : (c : tie.After-write_entries) → c.write_entries.new.part ≡ padded pairs_width (entries_to (start c).args.tags.now (start c).args.distances.now (start c).args.count)
 as_entries c = c.write_entries.ensures ∙ ap (λ (n : ℕ). padded n (entries_to (start c).args.tags.now (start c).args.distances.now (start c).args.count)) (wide (start c))
 
-long : (c : tie.After-write_entries) → length c.write_entries.new.0 ≡ pairs_width
-long c = c.write_entries.auto.0 ∙ wide (start c)
+long : (c : tie.After-write_entries) → length c.write_entries.new.part ≡ pairs_width
+long c = c.write_entries.auto.part ∙ wide (start c)
 
 -- the first tag's columns blanked
 blanked : {d last : List ℕ} (es : List Entry) (blank : Bool) → d ≡ padded pairs_width (joined print_entry es) → length d ≡ pairs_width →

@@ -75,7 +75,7 @@ pub +write-subtree-spec : {M : Type 1} → statement M
     (λ c. let loop = c.before.before in
     let given = loop.before.before.before.before.before.before.before.before.before.requires.1 in
     let call = loop.before.before.before.before.before.write_tree_bucket-count in
-    child_fits given.0.sending.ready given.0.placed given.1 call.ensures.0 loop.loop.invariant.0 loop.before.before.if-e-eq1.false c.before.loop-i-test.true)
+    child_fits given.0.sending.ready given.0.placed given.1 call.ensures.0 loop.loop-i.invariant.0 loop.before.before.if-e-eq1.false c.before.loop-i-test.true)
     -- write-subtree-requires
     (λ c κs. let loop = c.before.before in
     let st = loop.before.before.before.before.before.before.before.before.before in
@@ -83,11 +83,11 @@ pub +write-subtree-spec : {M : Type 1} → statement M
     let p = st.requires.1.1 in
     let call = loop.before.before.before.before.before.write_tree_bucket-count in
     let more = loop.before.before.if-e-eq1.false in
-    let kept = room_kept w p more call.ensures.0 loop.loop.invariant.0 call.new.0 call.auto.0 loop.loop.invariant.1 in (
+    let kept = room_kept w p more call.ensures.0 loop.loop-i.invariant.0 call.new.0 call.auto.0 loop.loop-i.invariant.1 in (
       omega (arith, st.requires.0, p.low),
       (
         writing_kept st.args.f st.args.list.now st.args.s _ w _ kept,
-        child_place w.sending.ready w.placed p call.ensures.0 loop.loop.invariant.0 more c.before.loop-i-test.true,
+        child_place w.sending.ready w.placed p call.ensures.0 loop.loop-i.invariant.0 more c.before.loop-i-test.true,
       ),
     ))
     -- add-i
@@ -100,19 +100,19 @@ pub +write-subtree-spec : {M : Type 1} → statement M
     let call = loop.before.before.before.before.before.write_tree_bucket-count in
     let h = c.before.before.before.before.loop-i-test.true in
     let next = c.before.before.write_subtree-next in (
-      next_behind given.0.sending.ready given.0.placed given.1 call.ensures.0 loop.loop.invariant.0 h next.ensures.0,
-      next_written given.0 given.1 loop.before.before.if-e-eq1.false call.ensures.0 loop.loop.invariant.0 call.new.0 call.auto.0 loop.loop.invariant.1 h next.result next.ensures.0 next.ensures.1,
+      next_behind given.0.sending.ready given.0.placed given.1 call.ensures.0 loop.loop-i.invariant.0 h next.ensures.0,
+      next_written given.0 given.1 loop.before.before.if-e-eq1.false call.ensures.0 loop.loop-i.invariant.0 call.new.0 call.auto.0 loop.loop-i.invariant.1 h next.result next.ensures.0 next.ensures.1,
     ))
     -- same-length-2
     (λ c. let loop = c.before in
     let given = loop.before.before.before.before.before.before.before.before.before.requires.1 in
     let call = loop.before.before.before.before.before.write_tree_bucket-count in
-    room_kept given.0 given.1 loop.before.before.if-e-eq1.false call.ensures.0 loop.loop.invariant.0 call.new.0 call.auto.0 loop.loop.invariant.1)
+    room_kept given.0 given.1 loop.before.before.if-e-eq1.false call.ensures.0 loop.loop-i.invariant.0 call.new.0 call.auto.0 loop.loop-i.invariant.1)
     -- returns-2
     (λ c. let loop = c.before in
     let st = loop.before.before.before.before.before.before.before.before.before in
     let w = st.requires.1.0 in
     let call = loop.before.before.before.before.before.write_tree_bucket-count in (
-      all_behind w.sending.ready w.placed st.requires.1.1 call.ensures.0 loop.loop.invariant.0 c.loop-i-test.false,
-      all_written w st.requires.1.1 loop.before.before.if-e-eq1.false call.ensures.0 loop.loop.invariant.0 call.new.0 call.auto.0 loop.loop.invariant.1 c.loop-i-test.false st.args.image.now refl call.ensures.1,
+      all_behind w.sending.ready w.placed st.requires.1.1 call.ensures.0 loop.loop-i.invariant.0 c.loop-i-test.false,
+      all_written w st.requires.1.1 loop.before.before.if-e-eq1.false call.ensures.0 loop.loop-i.invariant.0 call.new.0 call.auto.0 loop.loop-i.invariant.1 c.loop-i-test.false st.args.image.now refl call.ensures.1,
     ))

@@ -78,7 +78,7 @@ returns_2 c =
     let list : List ℕ = s.args.list.now in
     let line : ℕ = (s.args.q + 1) * f.p in
     let tag : ℕ → ℕ = tag_at f InList list in
-    let told : SameDigits (take tag_width (drop (line_length * line - line_length) list)) (take tag_width (drop (line_length * line) list)) = c.before.before.same_tags_lem.ensures.yes c.before.if-same_tags.true in
+    let told : SameDigits (take tag_width (drop (line_length * line - line_length) list)) (take tag_width (drop (line_length * line) list)) = c.before.before.same_tags.ensures.yes c.before.if-same_tags.true in
     let same : tag line ≡ tag (line - 1) =
     sym (same_columns f list s.requires.0 (line - 1) line (omega (arith, l)) l.within (digits_there list (take tag_width (drop (line_length * line) list)) (sym l.before) told)) in
     ap (λ z. z - s.args.x) c.data_place.ensures
@@ -96,7 +96,7 @@ returns_3 c =
     let line : ℕ = (s.args.q + 1) * f.p in
     let tag : ℕ → ℕ = tag_at f InList list in
     let differ : SameDigits (take tag_width (drop (line_length * (line - 1)) list)) (take tag_width (drop (line_length * line) list)) → ⊥ =
-    λ e. c.before.same_tags_lem.ensures.no c.if-same_tags.false (digits_there list (take tag_width (drop (line_length * line) list)) l.before e) in
+    λ e. c.before.same_tags.ensures.no c.if-same_tags.false (digits_there list (take tag_width (drop (line_length * line) list)) l.before e) in
     sym
     (follow_next f s.requires.0.ready InList list s.args.q s.args.x s.requires.2
     (omega (arith, s.requires.1, c.before.before.before.if-next-f.false))

@@ -41,7 +41,7 @@ returns c =
     let l = turn.before.loop-i in
     let s = start turn.before in
     let k : ℕ = l.i - 1 in
-    let small : k < tag_width = omega (arith, l.invariant.0, turn.loop-i-test.taken) in
+    let small : k < tag_width = omega (arith, l.invariant.0, turn.loop-i-test.true) in
     decides_no
     (λ e.
     let told : get_or s.args.list.now (s.args.a + k) 0 - 48 ≡ get_or s.args.list.now (s.args.b + k) 0 - 48 =
@@ -94,6 +94,6 @@ same_tags_spec =
     omega (arith, s.requires.1, c.before.before.before.loop-i-test.true, c.before.before.before.before.loop-i.invariant.0))
     (λ c κs. tt)
     returns
-    (λ c. omega (arith, (at_turn c.before).loop-i-test.taken))
+    (λ c. omega (arith, (at_turn c.before).loop-i-test.true))
     loop_again
     returns_2)

@@ -67,11 +67,11 @@ write_cycle_spec =
     (λ c κs. c.before.before.requires.0.ready)
     loop_holds
     (λ c κs. let loop = c.before.before in
-    segment_asked loop.loop.invariant (start loop.before).requires.0.ready loop.before.segment_count-count.ensures c.before.loop-i-test.true)
+    segment_asked loop.loop-i.invariant (start loop.before).requires.0.ready loop.before.segment_count-count.ensures c.before.loop-i-test.true)
     (λ c κs. writing c)
     (λ c. omega (arith, c.before.before.before.before.before.loop-i-test.true))
     (λ c. omega arith)
     loop_again
     (λ c. long c.before)
     (λ c. let loop = c.before in
-    through_all loop.loop.invariant (start loop.before).requires.0.ready loop.before.segment_count-count.ensures c.loop-i-test.false))
+    through_all loop.loop-i.invariant (start loop.before).requires.0.ready loop.before.segment_count-count.ensures c.loop-i-test.false))

@@ -45,13 +45,13 @@ write_data_at_requires : tie.Need-write_data_at-requires invariant-loop-q decrea
 write_data_at_requires c κs =
     let loop = c.before.before.before in
     let s = start loop in
-    (writing_kept s.args.f s.args.list.now s.args.s (length s.args.image.now) s.requires _ (long loop), data_place loop.loop.invariant.0 c.before.loop-q-test.true)
+    (writing_kept s.args.f s.args.list.now s.args.s (length s.args.image.now) s.requires _ (long loop), data_place loop.loop-q.invariant.0 c.before.loop-q-test.true)
 
 -- the place of q is in the segment
 inside : (c : tie.In-loop-q invariant-loop-q decreases-loop-q) →
     let loop = c.before.before in
-    ((start loop).args.s.data_at ≤ loop.loop.x) × (loop.loop.x < (start loop).args.s.end)
-inside c = let loop = c.before.before in row_inside (data_end (start loop)) loop.loop.invariant.0 c.loop-q-test.true
+    ((start loop).args.s.data_at ≤ loop.loop-q.x) × (loop.loop-q.x < (start loop).args.s.end)
+inside c = let loop = c.before.before in row_inside (data_end (start loop)) loop.loop-q.invariant.0 c.loop-q-test.true
 
 loop_again : tie.Need-loop-q-preserved invariant-loop-q decreases-loop-q
 loop_again c =
@@ -59,18 +59,18 @@ loop_again c =
     let turn = wrote.before.before in
     let loop = turn.before.before in
     let s = start loop in
-    let x = loop.loop.x in (
-      row_next (data_end s) loop.loop.invariant.0 turn.loop-q-test.true,
-      grown s.args.f s.args.list.now s.requires.sending s.args.image.now s.requires.roomy s.args.s.data_at loop.loop.image _ x (x + 1)
-          (inside turn).0 (omega arith) (omega (arith, (inside turn).1, seated s)) loop.loop.invariant.1 wrote.write_data_at.ensures,
+    let x = loop.loop-q.x in (
+      row_next (data_end s) loop.loop-q.invariant.0 turn.loop-q-test.true,
+      grown s.args.f s.args.list.now s.requires.sending s.args.image.now s.requires.roomy s.args.s.data_at loop.loop-q.image _ x (x + 1)
+          (inside turn).0 (omega arith) (omega (arith, (inside turn).1, seated s)) loop.loop-q.invariant.1 wrote.write_data_at.ensures,
     )
 
 returns : tie.Need-returns invariant-loop-q decreases-loop-q
 returns c =
     let loop = c.before.before in
     let s = start loop in
-    loop.loop.invariant.1
-    ∙ ap (written (plan_in s.args.f InList s.args.list.now) s.args.image.now s.args.s.data_at) (row_end (data_end s) loop.loop.invariant.0 c.loop-q-test.false)
+    loop.loop-q.invariant.1
+    ∙ ap (written (plan_in s.args.f InList s.args.list.now) s.args.image.now s.args.s.data_at) (row_end (data_end s) loop.loop-q.invariant.0 c.loop-q-test.false)
 
 pub write_datas_spec : {M : Type 1} → statement M
 write_datas_spec =

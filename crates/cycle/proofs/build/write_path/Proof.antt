@@ -52,7 +52,7 @@ at_turn c = c.before.before
 below : (c : tie.In-loop-i invariant-loop-i decreases-loop-i) → (at_turn c).loop-i.x < (start (at_turn c)).args.f.size
 below c =
     let loop = at_turn c in
-    omega (arith, seated (start loop), path_end (start loop), c.loop-i-test.true, loop.loop.invariant.0, loop.loop.invariant.2)
+    omega (arith, seated (start loop), path_end (start loop), c.loop-i-test.true, loop.loop-i.invariant.0, loop.loop-i.invariant.2)
 
 short : (c : tie.In-loop-i invariant-loop-i decreases-loop-i) → (at_turn c).loop-i.x < 100000
 short c = omega (arith, below c, seated (start (at_turn c)))
@@ -62,10 +62,10 @@ print_path_bucket_requires c κs =
     let turn = c.before in
     let loop = at_turn turn in
     let s = start loop in (
-      lent_wide s.args.f s.args.list.now s.args.s (length s.args.image.now) s.requires loop.loop.x (below turn) loop.loop.image (long loop),
+      lent_wide s.args.f s.args.list.now s.args.s (length s.args.image.now) s.requires loop.loop-i.x (below turn) loop.loop-i.image (long loop),
       (
         printing s.args.f s.args.list.now s.args.s (length s.args.image.now) s.requires,
-        record { from_top = loop.loop.invariant.0; high = turn.loop-i-test.true; here = loop.loop.invariant.2 },
+        record { from_top = loop.loop-i.invariant.0; high = turn.loop-i-test.true; here = loop.loop-i.invariant.2 },
       ),
     )
 
@@ -77,8 +77,8 @@ add_i c =
     let turn = turned c in
     let loop = at_turn turn in
     let s = start loop in
-    let one = path_layout s.args.f s.args.s s.requires.sending.ready s.requires.placed loop.loop.i loop.loop.invariant.0 turn.loop-i-test.taken in
-    omega (arith, path_few s.args.f s.args.s s.requires.sending.ready s.requires.placed one, turn.loop-i-test.taken)
+    let one = path_layout s.args.f s.args.s s.requires.sending.ready s.requires.placed loop.loop-i.i loop.loop-i.invariant.0 turn.loop-i-test.true in
+    omega (arith, path_few s.args.f s.args.s s.requires.sending.ready s.requires.placed one, turn.loop-i-test.true)
 
 loop_again : tie.Need-loop-i-preserved invariant-loop-i decreases-loop-i
 loop_again c =
@@ -86,13 +86,13 @@ loop_again c =
     let turn = turned c in
     let loop = at_turn turn in
     let s = start loop in
-    let x = loop.loop.x in (
+    let x = loop.loop-i.x in (
       omega arith,
-      omega (arith, turn.loop-i-test.taken),
-      omega (arith, loop.loop.invariant.0, loop.loop.invariant.2),
+      omega (arith, turn.loop-i-test.true),
+      omega (arith, loop.loop-i.invariant.0, loop.loop-i.invariant.2),
       grown s.args.f s.args.list.now s.requires.sending s.args.image.now s.requires.roomy s.args.s.start
-          loop.loop.image _ x (x + 1) (omega arith) (omega arith) (omega (arith, below turn)) loop.loop.invariant.3
-          (bucket_written s.args.f s.args.list.now s.args.s (length s.args.image.now) s.requires x (below turn) loop.loop.image (long loop)
+          loop.loop-i.image _ x (x + 1) (omega arith) (omega arith) (omega (arith, below turn)) loop.loop-i.invariant.3
+          (bucket_written s.args.f s.args.list.now s.args.s (length s.args.image.now) s.requires x (below turn) loop.loop-i.image (long loop)
           wrote.print_path_bucket.auto.0 wrote.print_path_bucket.ensures),
     )
 
@@ -103,8 +103,8 @@ returns : tie.Need-returns invariant-loop-i decreases-loop-i
 returns c =
     let loop = c.before.before in
     let s = start loop in
-    let end : loop.loop.x ≡ s.args.s.tree_at = omega (arith, path_end s, c.loop-i-test.false, loop.loop.invariant.0, loop.loop.invariant.1, loop.loop.invariant.2) in
-    loop.loop.invariant.3 ∙ ap (written (plan_in s.args.f InList s.args.list.now) s.args.image.now s.args.s.start) end
+    let end : loop.loop-i.x ≡ s.args.s.tree_at = omega (arith, path_end s, c.loop-i-test.false, loop.loop-i.invariant.0, loop.loop-i.invariant.1, loop.loop-i.invariant.2) in
+    loop.loop-i.invariant.3 ∙ ap (written (plan_in s.args.f InList s.args.list.now) s.args.image.now s.args.s.start) end
 
 pub write_path_spec : {M : Type 1} → statement M
 write_path_spec =

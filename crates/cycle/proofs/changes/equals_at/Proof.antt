@@ -18,7 +18,7 @@ returns_2 : tie.Need-returns
 returns_2 c =
     let call = c.before in
     let a = call.before.before.before.before.before.before.args in
-    c.same_numbers_lem.ensures
+    c.same_numbers.ensures
     ∙ ap (same_numbers a.line) (call.spelled_line_lem.ensures ∙ spelled_part a.list.now a.at)
 
 pub equals_at_spec : {M : Type 1} → statement M

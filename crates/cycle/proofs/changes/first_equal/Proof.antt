@@ -24,7 +24,7 @@ returns c =
     let turn = c.before.before in
     let loop = turn.before in
     let start = loop.before.before in
-    passes_here (same_numbers start.args.line) start.args.list.now start.args.lines start.requires.0 loop.loop.i loop.loop.invariant.1 turn.loop-i-test.true
+    passes_here (same_numbers start.args.line) start.args.list.now start.args.lines start.requires.0 loop.loop-i.i loop.loop-i.invariant.1 turn.loop-i-test.true
     (sym c.before.equals_at.ensures ∙ c.if-equals_at.true)
 
 loop_again : tie.Need-loop-i-preserved invariant-loop-i decreases-loop-i
@@ -33,7 +33,7 @@ loop_again c =
     let loop = turn.before in
     let start = loop.before.before in (
       omega arith,
-      fails_here (same_numbers start.args.line) start.args.list.now start.args.lines start.requires.0 loop.loop.i loop.loop.invariant.1 turn.loop-i-test.true
+      fails_here (same_numbers start.args.line) start.args.list.now start.args.lines start.requires.0 loop.loop-i.i loop.loop-i.invariant.1 turn.loop-i-test.true
           (sym c.before.equals_at.ensures ∙ c.if-equals_at.false),
     )
 
@@ -41,7 +41,7 @@ returns_2 : tie.Need-returns invariant-loop-i decreases-loop-i
 returns_2 c =
     let loop = c.before in
     let start = loop.before.before in
-    none_passes (same_numbers start.args.line) start.args.list.now start.args.lines start.requires.0 loop.loop.i loop.loop.invariant.1 c.loop-i-test.false
+    none_passes (same_numbers start.args.line) start.args.list.now start.args.lines start.requires.0 loop.loop-i.i loop.loop-i.invariant.1 c.loop-i-test.false
 
 pub first_equal_spec : {M : Type 1} → statement M
 first_equal_spec =

@@ -25,8 +25,8 @@ returns c =
     let loop = turn.before in
     let start = loop.before.before in
     let list = start.args.list.now in
-    passes_here (tag_over start.args.tag) list start.args.lines start.requires.0 loop.loop.i loop.loop.invariant.1 turn.loop-i-test.true
-    (tag_over_lem start.args.tag (drop (line_length * loop.loop.i) list) c.before.spelled_tag.result c.before.spelled_tag.ensures c.if-tag-spelled_tag.true)
+    passes_here (tag_over start.args.tag) list start.args.lines start.requires.0 loop.loop-i.i loop.loop-i.invariant.1 turn.loop-i-test.true
+    (tag_over_lem start.args.tag (drop (line_length * loop.loop-i.i) list) c.before.spelled_tag.result c.before.spelled_tag.ensures c.if-tag-spelled_tag.true)
 
 loop_again : tie.Need-loop-i-preserved invariant-loop-i decreases-loop-i
 loop_again c =
@@ -35,15 +35,15 @@ loop_again c =
     let start = loop.before.before in
     let list = start.args.list.now in (
       omega arith,
-      fails_here (tag_over start.args.tag) list start.args.lines start.requires.0 loop.loop.i loop.loop.invariant.1 turn.loop-i-test.true
-          (tag_not_over start.args.tag (drop (line_length * loop.loop.i) list) c.before.spelled_tag.result c.before.spelled_tag.ensures c.if-tag-spelled_tag.false),
+      fails_here (tag_over start.args.tag) list start.args.lines start.requires.0 loop.loop-i.i loop.loop-i.invariant.1 turn.loop-i-test.true
+          (tag_not_over start.args.tag (drop (line_length * loop.loop-i.i) list) c.before.spelled_tag.result c.before.spelled_tag.ensures c.if-tag-spelled_tag.false),
     )
 
 returns_2 : tie.Need-returns invariant-loop-i decreases-loop-i
 returns_2 c =
     let loop = c.before in
     let start = loop.before.before in
-    none_passes (tag_over start.args.tag) start.args.list.now start.args.lines start.requires.0 loop.loop.i loop.loop.invariant.1 c.loop-i-test.false
+    none_passes (tag_over start.args.tag) start.args.list.now start.args.lines start.requires.0 loop.loop-i.i loop.loop-i.invariant.1 c.loop-i-test.false
 
 pub first_over_spec : {M : Type 1} → statement M
 first_over_spec =

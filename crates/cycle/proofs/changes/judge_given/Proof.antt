@@ -36,7 +36,7 @@ start3 c = start2 c.before.before
 
 -- what does not hold there
 fit1 : (c : tie.Else-not-settings_fit) → settings_fit (set (start1 c)) ≡ true
-fit1 c = sym c.before.settings_fit_lem.ensures ∙ not-false _ c.if-not-settings_fit.false-raw
+fit1 c = sym c.before.settings_fit.ensures ∙ not-false _ c.if-not-settings_fit.false-raw
 
 places3 : (c : tie.Else-not-places_for) → places_for (bytes (start3 c)) (start3 c).args.lines ≡ true
 places3 c = sym c.before.places_for.ensures ∙ not-false _ c.if-not-places_for.false-raw
@@ -53,7 +53,7 @@ returns : tie.Need-returns-then-not-settings_fit
 returns c =
     let s = c.before.before.before.before in
     settings_refused (set s) (bytes s) s.args.lines (given s)
-    (sym c.before.settings_fit_lem.ensures ∙ not-true _ c.if-not-settings_fit.true-raw)
+    (sym c.before.settings_fit.ensures ∙ not-true _ c.if-not-settings_fit.true-raw)
 
 returns_2 : tie.Need-returns-then-lines-gt-LINES_MOST
 returns_2 c =

@@ -85,7 +85,7 @@ module _ (c : tie.After-first_equal-place) where
   found =
       c.first_equal-place.ensures
       ∙ ap (λ l. place_or s.args.lines (first_from (same_numbers l) 0 (list_lines (take (line_length * s.args.lines) (bytes s)))))
-      (c.before.spelled_line_lem.ensures ∙ spelled_part (line s) 0)
+      (c.before.spelled_line.ensures ∙ spelled_part (line s) 0)
 
   low : place ≤ s.args.lines
   low = place_within (line s) (former s) s.args.lines (known s).listed place found

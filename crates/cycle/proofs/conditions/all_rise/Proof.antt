@@ -84,13 +84,13 @@ loop_again c =
     let start = loop.before.before in
     let list = start.args.list.now in
     let lines = start.args.lines in
-    let i = loop.loop.i in
+    let i = loop.loop-i.i in
     let told = line_told start.args.plain (line_length * i) (drop (line_length * i) list) call.tag_read-tag.ensures met.if-tag.false in (
       omega arith,
-      line_read list lines start.requires.0 i loop.loop.invariant.1 turn.loop-i-test.true told.reads,
-      tag_rises list lines start.requires.0 i loop.loop.last loop.loop.invariant.2 turn.loop-i-test.true
+      line_read list lines start.requires.0 i loop.loop-i.invariant.1 turn.loop-i-test.true told.reads,
+      tag_rises list lines start.requires.0 i loop.loop-i.last loop.loop-i.invariant.2 turn.loop-i-test.true
           call.tag_read-tag.result (told.tag_is ∙ tag_spelled (drop (line_length * i) list)) c.if-tag-last.false,
-      λ e. plain_read list lines start.requires.0 i (loop.loop.invariant.3 e) turn.loop-i-test.true (told.reads_plain e),
+      λ e. plain_read list lines start.requires.0 i (loop.loop-i.invariant.3 e) turn.loop-i-test.true (told.reads_plain e),
     )
 
 returns_3 : tie.Need-returns invariant-loop-i decreases-loop-i
@@ -99,12 +99,12 @@ returns_3 c told =
     let start = loop.before.before in
     let list = start.args.list.now in
     let lines = start.args.lines in
-    let i = loop.loop.i in (
+    let i = loop.loop-i.i in (
       no_place_misprint 0 (cut_lines list) lines (omega (arith, length_cut_lines list, count_lines list lines start.requires.0))
-          (omega (arith, lines_read_lem list lines start.requires.0 i loop.loop.invariant.1 c.loop-i-test.false)),
+          (omega (arith, lines_read_lem list lines start.requires.0 i loop.loop-i.invariant.1 c.loop-i-test.false)),
       no_place_fall 0 0 (list_lines list) lines (omega (arith, length_list_lines list, count_lines list lines start.requires.0))
-          (omega (arith, tags_rise list lines start.requires.0 i loop.loop.last loop.loop.invariant.2 c.loop-i-test.false)),
-      λ e. plains_read list lines start.requires.0 i (loop.loop.invariant.3 e) c.loop-i-test.false,
+          (omega (arith, tags_rise list lines start.requires.0 i loop.loop-i.last loop.loop-i.invariant.2 c.loop-i-test.false)),
+      λ e. plains_read list lines start.requires.0 i (loop.loop-i.invariant.3 e) c.loop-i-test.false,
     )
 
 pub all_rise_spec : {M : Type 1} → statement M

@@ -21,7 +21,7 @@ returns c =
     let turn = c.before.before in
     let loop = turn.before in
     let start = loop.before.before in
-    tag_falls_lem start.args.list.now start.args.lines start.requires.0 loop.loop.i loop.loop.last loop.loop.invariant.1 turn.loop-i-test.true
+    tag_falls_lem start.args.list.now start.args.lines start.requires.0 loop.loop-i.i loop.loop-i.last loop.loop-i.invariant.1 turn.loop-i-test.true
     c.before.spelled_tag-tag.result c.before.spelled_tag-tag.ensures c.if-tag-last.true
 
 loop_again : tie.Need-loop-i-preserved invariant-loop-i decreases-loop-i
@@ -30,7 +30,7 @@ loop_again c =
     let loop = turn.before in
     let start = loop.before.before in (
       omega arith,
-      tag_rises start.args.list.now start.args.lines start.requires.0 loop.loop.i loop.loop.last loop.loop.invariant.1 turn.loop-i-test.true
+      tag_rises start.args.list.now start.args.lines start.requires.0 loop.loop-i.i loop.loop-i.last loop.loop-i.invariant.1 turn.loop-i-test.true
           c.before.spelled_tag-tag.result c.before.spelled_tag-tag.ensures c.if-tag-last.false,
     )
 
@@ -38,7 +38,7 @@ returns_2 : tie.Need-returns invariant-loop-i decreases-loop-i
 returns_2 c =
     let loop = c.before in
     let start = loop.before.before in
-    tags_rise start.args.list.now start.args.lines start.requires.0 loop.loop.i loop.loop.last loop.loop.invariant.1 c.loop-i-test.false
+    tags_rise start.args.list.now start.args.lines start.requires.0 loop.loop-i.i loop.loop-i.last loop.loop-i.invariant.1 c.loop-i-test.false
 
 pub first_fall_spec : {M : Type 1} → statement M
 first_fall_spec =

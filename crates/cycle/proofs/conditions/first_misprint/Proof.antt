@@ -29,8 +29,8 @@ returns c =
     let loop = turn.before in
     let start = loop.before.before in
     let told = tag_none (read_line _) (line_tag_small _) call.line_tag.ensures c.if-line_tag.true in
-    line_misprinted_lem start.args.list.now start.args.lines start.requires.0 loop.loop.i loop.loop.invariant.1 turn.loop-i-test.true
-    (rw (wide (line_length * loop.loop.i)) at told)
+    line_misprinted_lem start.args.list.now start.args.lines start.requires.0 loop.loop-i.i loop.loop-i.invariant.1 turn.loop-i-test.true
+    (rw (wide (line_length * loop.loop-i.i)) at told)
 
 loop_again : tie.Need-loop-i-preserved invariant-loop-i decreases-loop-i
 loop_again c =
@@ -40,15 +40,15 @@ loop_again c =
     let start = loop.before.before in
     let told = ap taken (tag_found (read_line _) call.line_tag.ensures c.if-line_tag.false).1 in (
       omega arith,
-      line_read start.args.list.now start.args.lines start.requires.0 loop.loop.i loop.loop.invariant.1 turn.loop-i-test.true
-          (rw (wide (line_length * loop.loop.i)) at told),
+      line_read start.args.list.now start.args.lines start.requires.0 loop.loop-i.i loop.loop-i.invariant.1 turn.loop-i-test.true
+          (rw (wide (line_length * loop.loop-i.i)) at told),
     )
 
 returns_2 : tie.Need-returns invariant-loop-i decreases-loop-i
 returns_2 c =
     let loop = c.before in
     let start = loop.before.before in
-    lines_read_lem start.args.list.now start.args.lines start.requires.0 loop.loop.i loop.loop.invariant.1 c.loop-i-test.false
+    lines_read_lem start.args.list.now start.args.lines start.requires.0 loop.loop-i.i loop.loop-i.invariant.1 c.loop-i-test.false
 
 pub first_misprint_spec : {M : Type 1} → statement M
 first_misprint_spec =

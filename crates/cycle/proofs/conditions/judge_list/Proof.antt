@@ -40,10 +40,10 @@ abbrev start3 : tie.Else-lines-gt-LINES_MOST → tie.Start
 start3 c = start1 c.before.before
 
 -- what does not hold, at each place
-tested : (c : tie.After-settings_fit) → settings_fit (set c.before.before) ≡ c.settings_fit_lem.result
+tested : (c : tie.After-settings_fit) → settings_fit (set c.before.before) ≡ c.settings_fit.result
 tested c =
     let s = c.before.before in
-    any_copies s.args.n s.args.p s.args.layout 0 s.args.copies ∙ sym c.settings_fit_lem.ensures
+    any_copies s.args.n s.args.p s.args.layout 0 s.args.copies ∙ sym c.settings_fit.ensures
 
 fit1 : (c : tie.Else-not-settings_fit) → settings_fit (set (start1 c)) ≡ true
 fit1 c = tested c.before ∙ not-false _ c.if-not-settings_fit.false-raw

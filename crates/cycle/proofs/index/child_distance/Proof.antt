@@ -69,7 +69,7 @@ returns c =
     let s = c.before.before.before.before.before.before in
     let f = s.args.f in
     c.ahead.ensures
-    ∙ ap (ahead_of f.size s.args.x) c.before.first_place_lem.ensures
+    ∙ ap (ahead_of f.size s.args.x) c.before.first_place.ensures
     ∙ sym (rw (lt-ltb (tree_height (plan_of f [])) s.args.e (omega (arith, told s, c.before.before.before.before.if-s-e.true))))
 
 tree_distance_requires : tie.Need-tree_distance-requires

@@ -59,12 +59,12 @@ first_place_requires c κs =
     )
 
 -- the place of the next bucket is ahead
-ahead : (c : tie.After-first_place) → c.before.before.before.before.before.before.before.args.x < c.first_place_lem.result
+ahead : (c : tie.After-first_place) → c.before.before.before.before.before.before.before.args.x < c.first_place.result
 ahead c =
     let s = c.before.before.before.before.before.before.before in
     omega (
       arith,
-      c.first_place_lem.ensures,
+      c.first_place.ensures,
       s.requires.7 (omega (arith, wide c.before.before, c.before.if-sibling-up.true)) c.before.before.before.before.if-sibling-f-eq0.false,
     )
 
@@ -72,7 +72,7 @@ returns_2 : tie.Need-returns-then-sibling-up
 unfolding plan_of
 returns_2 c =
     let s = c.before.before.before.before.before.before.before in
-    ap (λ z. z - 1 - s.args.x) c.first_place_lem.ensures
+    ap (λ z. z - 1 - s.args.x) c.first_place.ensures
     ∙ sym
     (reach_turn (plan_of s.args.f []) s.args.f.size s.args.x s.args.level s.args.place c.before.before.before.before.if-sibling-f-eq0.false
     (omega (arith, wide c.before.before, c.before.if-sibling-up.true)))

@@ -92,8 +92,8 @@ loop_again c =
     let same : f.k + 1 - (f.k + 1 - level) ≡ level = omega (arith, s.requires.5, (bounds s).1) in (
       omega arith,
       omega arith,
-      fill_turn_behind pairs_most (λ j. largest_tag t j (place_over t s.args.b j)) s.args.first level c.largest_tag_lem.result l.tags l.invariant.2
-          (c.largest_tag_lem.ensures
+      fill_turn_behind pairs_most (λ j. largest_tag t j (place_over t s.args.b j)) s.args.first level c.largest_tag.result l.tags l.invariant.2
+          (c.largest_tag.ensures
           ∙ ap₂ (largest_tag t) same
           (place_over_lem f s.requires.0 s.requires.3 level (omega arith) (omega (arith, s.requires.5)) (lines_held f s.args.source s.args.text.now) s.args.b
           c.before.power.result c.before.power.ensures))

@@ -101,7 +101,7 @@ loop_again c =
     let s = turn t in
     let d = c.before.before.before.before in
     let l = t.before.loop-i in (
-      omega (arith, t.loop-i-test.taken),
+      omega (arith, t.loop-i-test.true),
       one_entry (printing s) (place s) s.args.part.now s.requires.0 l.i l.invariant.1 (child t)
           t.before.before.before.before.power-span.ensures d.before.tag_place-from.ensures d.child_distance_lem.ensures c.before.before.put_entry.ensures,
     )

@@ -24,7 +24,7 @@ whole s = sized s.args.f (cycle_size (planned s))
 
 -- 5 does not hold
 fit : (c : tie.Else-not-copies_fit) → copies_fit (planned c.before.before) ≡ true
-fit c = sym c.before.copies_fit_lem.ensures ∙ not-false _ c.if-not-copies_fit.false-raw
+fit c = sym c.before.copies_fit.ensures ∙ not-false _ c.if-not-copies_fit.false-raw
 
 -- N is what `with_size` found
 size_is : (c : tie.After-with_size-sized) → c.with_size-sized.result.size ≡ cycle_size (planned c.before.before.before)
@@ -33,7 +33,7 @@ size_is c = ap (λ (g : Figures). g.size) c.with_size-sized.ensures ∙ size_hel
 returns : tie.Need-returns-then-not-copies_fit
 returns c =
     let s = c.before.before in
-    refusal_judged 5 0 _ (whole s) (refused_5 (planned s) (sym c.before.copies_fit_lem.ensures ∙ not-true _ c.if-not-copies_fit.true-raw))
+    refusal_judged 5 0 _ (whole s) (refused_5 (planned s) (sym c.before.copies_fit.ensures ∙ not-true _ c.if-not-copies_fit.true-raw))
 
 returns_2 : tie.Need-returns-then-sized-gt-BUCKETS_MOST
 returns_2 c =

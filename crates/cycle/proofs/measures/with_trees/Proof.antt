@@ -23,14 +23,14 @@ record Height (f : Figures) (h : ℕ) : Type 0 where
   span_low : 1 ≤ f.n ^ h
   span_high : f.n ^ h ≤ span_most
 
-known : (c : tie.After-tree_height-e) → Height c.before.args.f c.tree_height_lem.result
+known : (c : tie.After-tree_height-e) → Height c.before.args.f c.tree_height-e.result
 known c =
     let f = c.before.args.f in
     let s = c.before.requires.0 in
     let h = tree_height_lem f s c.before.requires.1 in
     let l = levels_are f s in
     let p = power_below f.n (tree_height (plan_of f [])) f.k s.n_low h.1 in
-    subst (Height f) (sym c.tree_height_lem.ensures)
+    subst (Height f) (sym c.tree_height-e.ensures)
     (record {
       low = h.0;
       high = h.1;
@@ -53,7 +53,7 @@ last_root_requires c κs =
 -- what `last_root` gave
 root :
     (c : tie.After-last_root) →
-    c.last_root.result ≡ last_place c.before.before.before.before.args.f.d (c.before.before.before.before.args.f.n ^ c.before.before.before.tree_height_lem.result)
+    c.last_root.result ≡ last_place c.before.before.before.before.args.f.d (c.before.before.before.before.args.f.n ^ c.before.before.before.tree_height-e.result)
 root c = c.last_root.ensures ∙ ap (last_place c.before.before.before.before.args.f.d) c.before.before.power-span.ensures
 
 tree_size_requires : tie.Need-tree_size-last-requires

@@ -89,13 +89,13 @@ pub +behind-subtree-spec : {M : Type 1} → statement M
     let given = loop.before.before.before.before.before.before.before.requires.1 in
     let w = given.0.comparing in
     let count = loop.before.before.before.before.before.child_count-count.ensures in
-    child_fits w.holding.ready w.placed given.1 count loop.loop.invariant.0 loop.before.before.if-e-eq1.false c.loop-i-test.true)
+    child_fits w.holding.ready w.placed given.1 count loop.loop-i.invariant.0 loop.before.before.if-e-eq1.false c.loop-i-test.true)
     -- behind-subtree-requires
     (λ c κs. let loop = c.before in
     let st = loop.before.before.before.before.before.before.before in
     let w = st.requires.1.0.comparing in
     let count = loop.before.before.before.before.before.child_count-count.ensures in
-    let place = child_place w.holding.ready w.placed st.requires.1.1 count loop.loop.invariant.0 loop.before.before.if-e-eq1.false c.loop-i-test.true in
+    let place = child_place w.holding.ready w.placed st.requires.1.1 count loop.loop-i.invariant.0 loop.before.before.if-e-eq1.false c.loop-i-test.true in
     (omega (arith, st.requires.0, st.requires.1.1.low), (st.requires.1.0, place)))
     -- returns-3
     (λ c. let turn = c.before.before in
@@ -103,8 +103,8 @@ pub +behind-subtree-spec : {M : Type 1} → statement M
     let given = loop.before.before.before.before.before.before.before.requires.1 in
     let w = given.0.comparing in
     let count = loop.before.before.before.before.before.child_count-count.ensures in
-    let fits = child_inside w.holding.ready w.placed given.1 count loop.loop.invariant.0 loop.before.before.if-e-eq1.false turn.loop-i-test.true in
-    finds_none (λ whole. c.before.behind_subtree-next.ensures.none c.if-next-eq0.true (matches_part _ _ (omega (arith, loop.loop.invariant.0)) fits whole)))
+    let fits = child_inside w.holding.ready w.placed given.1 count loop.loop-i.invariant.0 loop.before.before.if-e-eq1.false turn.loop-i-test.true in
+    finds_none (λ whole. c.before.behind_subtree-next.ensures.none c.if-next-eq0.true (matches_part _ _ (omega (arith, loop.loop-i.invariant.0)) fits whole)))
     -- add-i
     (λ c. omega (arith, c.before.before.loop-i-test.true))
     -- loop-less
@@ -116,11 +116,11 @@ pub +behind-subtree-spec : {M : Type 1} → statement M
     let w = given.0.comparing in
     let count = loop.before.before.before.before.before.child_count-count.ensures in
     let told = c.before.behind_subtree-next.ensures.found c.if-next-eq0.false in
-    (next_behind w.holding.ready w.placed given.1 count loop.loop.invariant.0 turn.loop-i-test.true told.1, matches_to (sym told.1) (matches_on loop.loop.invariant.1 told.0)))
+    (next_behind w.holding.ready w.placed given.1 count loop.loop-i.invariant.0 turn.loop-i-test.true told.1, matches_to (sym told.1) (matches_on loop.loop-i.invariant.1 told.0)))
     -- returns-4
     (λ c. let loop = c.before in
     let given = loop.before.before.before.before.before.before.before.requires.1 in
     let w = given.0.comparing in
     let count = loop.before.before.before.before.before.child_count-count.ensures in
-    let end = all_behind w.holding.ready w.placed given.1 count loop.loop.invariant.0 c.loop-i-test.false in
-    finds_some (matches_to end loop.loop.invariant.1) loop.loop.next end (omega (arith, loop.loop.invariant.0)))
+    let end = all_behind w.holding.ready w.placed given.1 count loop.loop-i.invariant.0 c.loop-i-test.false in
+    finds_some (matches_to end loop.loop-i.invariant.1) loop.loop-i.next end (omega (arith, loop.loop-i.invariant.0)))

@@ -50,7 +50,7 @@ abbrev entry : tie.After-with_size-sized → tie.Start
 entry c = c.before.before.before.before.before
 
 copies_are : (c : tie.Else-not-copies_fit) → copies_fit (plan_of c.before.before.before.before.args.f []) ≡ true
-copies_are c = sym c.before.copies_fit_lem.ensures ∙ not-false _ c.if-not-copies_fit.false-raw
+copies_are c = sym c.before.copies_fit.ensures ∙ not-false _ c.if-not-copies_fit.false-raw
 
 sizes : (c : tie.After-with_size-sized) → Sized (entry c).args.f c.with_size-sized.result
 sizes c = ReadBackAnswers.with_size-sized (entry c).args.f c.with_size-sized.result (entry c).requires.0 c.with_size-sized.ensures
@@ -69,7 +69,7 @@ returns c =
     let s = c.before.before.before.before in
     refuses 13 0 _ s.args.out.now
     (none_builds_lem s
-    (copies_refused (set s) s.args.f (bytes s) (figured s) s.requires.4 (sym c.before.copies_fit_lem.ensures ∙ not-true _ c.if-not-copies_fit.true-raw)))
+    (copies_refused (set s) s.args.f (bytes s) (figured s) s.requires.4 (sym c.before.copies_fit.ensures ∙ not-true _ c.if-not-copies_fit.true-raw)))
 
 returns_2 : tie.Need-returns-then-sized-count
 returns_2 c =

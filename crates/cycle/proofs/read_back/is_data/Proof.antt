@@ -53,8 +53,8 @@ lines_low c =
 abbrev seen : tie.After-read_bucket-r → Option Bucket
 seen c = read_bucket (bucket_at c.before.before.before.args.image.now c.before.before.before.args.x)
 
-read_is : (c : tie.After-read_bucket-r) → c.read_bucket_lem.result ≡ as_reading (seen c)
-read_is c = c.read_bucket_lem.ensures ∙ ap (λ s. as_reading (read_bucket s)) (part_bytes _ _)
+read_is : (c : tie.After-read_bucket-r) → c.read_bucket-r.result ≡ as_reading (seen c)
+read_is c = c.read_bucket-r.ensures ∙ ap (λ s. as_reading (read_bucket s)) (part_bytes _ _)
 
 -- the facts decide
 abbrev wanted : tie.Start → Head → ℕ → ℕ → Bool → Type 0
@@ -129,7 +129,7 @@ abbrev told : tie.Else-r-lesser → tie.After-head_at
 told c = headed c.before.before.before.before
 
 some_lines : (c : tie.Else-r-lesser) →
-    let r = (met (told c).before).read_bucket_lem.result in
+    let r = (met (told c).before).read_bucket-r.result in
     (1 ≤ r.lines) × (r.lines ≤ bucket_lines_most)
 some_lines c =
     let s = entry (met (told c).before) in
@@ -142,14 +142,14 @@ some_lines c =
 last_read : (c : tie.Else-r-lesser) →
     let at = met (told c).before in
     let s = entry at in
-    get_or at.read_bucket_lem.result.tags (at.read_bucket_lem.result.lines - 1) 0 ≡ last_tag (plan_in s.args.f InImage s.args.image.now) s.args.q
+    get_or at.read_bucket-r.result.tags (at.read_bucket-r.result.lines - 1) 0 ≡ last_tag (plan_in s.args.f InImage s.args.image.now) s.args.q
 last_read c =
     let called = told c in
     let at = met called.before in
     let s = entry at in
     last_known s.args.f s.args.image.now s.requires.0.holding.ready s.args.x s.args.q
     (stands_here s.args.f s.args.image.now s.args.s s.requires.0 s.args.q s.args.x s.requires.1.low s.requires.1.high s.requires.1.here)
-    at.read_bucket_lem.result (read_is at) called.before.before.enum_told-in-Data-1.given.1 (c.if-r-lesser.false ∙ c.before.lesser.ensures) (some_lines c).0
+    at.read_bucket-r.result (read_is at) called.before.before.enum_told-in-Data-1.given.1 (c.if-r-lesser.false ∙ c.before.lesser.ensures) (some_lines c).0
 
 is_followed_requires : tie.Need-is_followed-requires
 is_followed_requires c κs =
@@ -160,13 +160,13 @@ returns_3 : tie.Need-returns-in-Index
 returns_3 c =
     let at = c.before.before in
     by_facts (entry at) _ _ _ false refl refl refl
-    (other_kind (seen at) at.read_bucket_lem.result KindIndex _ _ _ (read_is at) c.enum_told.given.1 index_apart)
+    (other_kind (seen at) at.read_bucket-r.result KindIndex _ _ _ (read_is at) c.enum_told.given.1 index_apart)
 
 returns_4 : tie.Need-returns-in-Misprinted
 returns_4 c =
     let at = c.before.before in
     by_facts (entry at) _ _ _ false refl refl refl
-    (other_kind (seen at) at.read_bucket_lem.result KindMisprinted _ _ _ (read_is at) c.enum_told-in-Misprinted-1.given.1 misprint_apart)
+    (other_kind (seen at) at.read_bucket-r.result KindMisprinted _ _ _ (read_is at) c.enum_told-in-Misprinted-1.given.1 misprint_apart)
 
 returns_5 : tie.Need-returns-else-r-lesser
 returns_5 c =

@@ -36,12 +36,12 @@ next c = omega (arith, in_d (start1 c), c.if-next-f.false)
 -- the next data bucket is in the image
 room : (c : tie.After-next_data-place) →
     let s = start1 c.before in
-    (bucket_length * c.next_data_lem.result + bucket_length ≤ length s.args.image.now) × (c.next_data_lem.result ≤ buckets_most)
+    (bucket_length * c.next_data-place.result + bucket_length ≤ length s.args.image.now) × (c.next_data-place.result ≤ buckets_most)
 room c =
     let s = start1 c.before in
     let holding = s.requires.0.holding in
     let place = data_ends s.args.f (s.args.q + 1) holding.ready (next c.before) in
-    (omega (arith, place, c.next_data_lem.ensures, holding.long), omega (arith, place, c.next_data_lem.ensures, holding.ready.size_high))
+    (omega (arith, place, c.next_data-place.ensures, holding.long), omega (arith, place, c.next_data-place.ensures, holding.ready.size_high))
 
 -- the tag that was spelled
 first_is : (c : tie.After-spelled_tag-first) →
@@ -50,7 +50,7 @@ first_is : (c : tie.After-spelled_tag-first) →
     ≡ value 0 (take tag_width (drop (bucket_length * first_place (plan_of s.args.f []) (s.args.f.k + 1) (s.args.q + 1) + lines_start) s.args.image.now))
 first_is c =
     let s = start1 c.before.before in
-    c.spelled_tag-first.ensures ∙ ap (λ z. value 0 (take tag_width (drop (bucket_length * z + lines_start) s.args.image.now))) c.before.next_data_lem.ensures
+    c.spelled_tag-first.ensures ∙ ap (λ z. value 0 (take tag_width (drop (bucket_length * z + lines_start) s.args.image.now))) c.before.next_data-place.ensures
 
 -- the follow-on decides
 decided : (c : tie.Else-first-last) (want : ℕ) →
@@ -103,7 +103,7 @@ returns_3 c =
     let spelt = c.before.before in
     let s = start1 spelt.before.before in
     decided c.before _
-    (rw (eq-eqb spelt.spelled_tag-first.result s.args.last c.if-first-last-2.true) (ap (λ z. z - s.args.x) spelt.before.next_data_lem.ensures))
+    (rw (eq-eqb spelt.spelled_tag-first.result s.args.last c.if-first-last-2.true) (ap (λ z. z - s.args.x) spelt.before.next_data-place.ensures))
 
 returns_4 : tie.Need-returns
 returns_4 c =

@@ -31,20 +31,20 @@ path_end c = path_size c.args.f c.args.s c.requires.comparing.holding.ready c.re
 is_path_bucket_requires : tie.Need-is_path_bucket-requires invariant-loop-i decreases-loop-i
 is_path_bucket_requires c κs =
     let loop = c.before.before in
-    ((start loop).requires, loop.loop.invariant.0.low, c.loop-i-test.true, loop.loop.invariant.0.here)
+    ((start loop).requires, loop.loop-i.invariant.0.low, c.loop-i-test.true, loop.loop-i.invariant.0.here)
 
 returns : tie.Need-returns-then-not-is_path_bucket invariant-loop-i decreases-loop-i
 returns c =
     let turn = c.before.before in
     let loop = turn.before.before in
-    row_not (path_end (start loop)) loop.loop.invariant.0 (omega (arith, turn.loop-i-test.true)) c.if-not-is_path_bucket.true-raw c.before.is_path_bucket.ensures
+    row_not (path_end (start loop)) loop.loop-i.invariant.0 (omega (arith, turn.loop-i-test.true)) c.if-not-is_path_bucket.true-raw c.before.is_path_bucket.ensures
 
 add_x : tie.Need-overflow_add-x invariant-loop-i decreases-loop-i
 add_x c =
     let turn = c.before.before in
     let loop = turn.before.before in
     let s = start loop in
-    omega (arith, seats s.args.f s.args.image.now s.args.s s.requires.comparing, row_inside (path_end s) loop.loop.invariant.0 (omega (arith, turn.loop-i-test.true)))
+    omega (arith, seats s.args.f s.args.image.now s.args.s s.requires.comparing, row_inside (path_end s) loop.loop-i.invariant.0 (omega (arith, turn.loop-i-test.true)))
 
 add_i : tie.Need-overflow_add-i invariant-loop-i decreases-loop-i
 add_i c =
@@ -52,15 +52,15 @@ add_i c =
     let loop = turn.before.before in
     let s = start loop in
     let w = s.requires.comparing in
-    let one = path_layout s.args.f s.args.s w.holding.ready w.placed loop.loop.i loop.loop.invariant.0.low turn.loop-i-test.true in
+    let one = path_layout s.args.f s.args.s w.holding.ready w.placed loop.loop-i.i loop.loop-i.invariant.0.low turn.loop-i-test.true in
     omega (arith, path_few s.args.f s.args.s w.holding.ready w.placed one, turn.loop-i-test.true)
 
 loop_again : tie.Need-loop-i-preserved invariant-loop-i decreases-loop-i
 loop_again c =
     let turn = c.before.before in
     let loop = turn.before.before in (
-      row_next (path_end (start loop)) loop.loop.invariant.0 (omega (arith, turn.loop-i-test.true)),
-      matches_next loop.loop.invariant.1 (decides_told c.if-not-is_path_bucket.false-raw c.before.is_path_bucket.ensures),
+      row_next (path_end (start loop)) loop.loop-i.invariant.0 (omega (arith, turn.loop-i-test.true)),
+      matches_next loop.loop-i.invariant.1 (decides_told c.if-not-is_path_bucket.false-raw c.before.is_path_bucket.ensures),
     )
 
 pub is_path_spec : {M : Type 1} → statement M
@@ -75,4 +75,4 @@ is_path_spec =
     (λ c. omega (arith, c.before.before.loop-i-test.true))
     loop_again
     (λ c. let loop = c.before.before in
-    row_all (path_end (start loop)) loop.loop.invariant.0 (omega (arith, c.loop-i-test.false)) loop.loop.invariant.1))
+    row_all (path_end (start loop)) loop.loop-i.invariant.0 (omega (arith, c.loop-i-test.false)) loop.loop-i.invariant.1))

@@ -41,10 +41,10 @@ start4 c = start1 c.before.before.before
 
 tested : (c : tie.After-settings_fit) →
     let s = c.before.before.before in
-    settings_fit (set s) ≡ c.settings_fit_lem.result
+    settings_fit (set s) ≡ c.settings_fit.result
 tested c =
     let s = c.before.before.before in
-    any_copies s.args.n s.args.p s.args.layout 0 s.args.copies ∙ sym c.settings_fit_lem.ensures
+    any_copies s.args.n s.args.p s.args.layout 0 s.args.copies ∙ sym c.settings_fit.ensures
 
 fit : (c : tie.Else-not-settings_fit) → settings_fit (set (start1 c)) ≡ true
 fit c = tested c.before ∙ not-false _ c.if-not-settings_fit.false-raw

@@ -77,7 +77,7 @@ room : (c : tie.In-loop-q invariant-loop-q decreases-loop-q) →
 room c =
     let loop = loop_of c in
     let s = start loop in
-    room_at s.args.f s.args.image.now s.args.s s.requires.0 loop.loop.x (row_inside (s.requires.0.placed []).ends loop.loop.invariant.0 c.loop-q-test.true).1
+    room_at s.args.f s.args.image.now s.args.s s.requires.0 loop.loop-q.x (row_inside (s.requires.0.placed []).ends loop.loop-q.invariant.0 c.loop-q-test.true).1
 
 place : (c : tie.In-loop-q invariant-loop-q decreases-loop-q) →
     let s = start (loop_of c) in
@@ -86,9 +86,9 @@ place c =
     let loop = loop_of c in
     let s = start loop in
     sym
-    (data_here s.args.f s.args.image.now s.requires.0.holding.ready loop.loop.x loop.loop.q
-    (stands_here s.args.f s.args.image.now s.args.s s.requires.0 loop.loop.q loop.loop.x loop.loop.invariant.0.low c.loop-q-test.true
-    loop.loop.invariant.0.here))
+    (data_here s.args.f s.args.image.now s.requires.0.holding.ready loop.loop-q.x loop.loop-q.q
+    (stands_here s.args.f s.args.image.now s.args.s s.requires.0 loop.loop-q.q loop.loop-q.x loop.loop-q.invariant.0.low c.loop-q-test.true
+    loop.loop-q.invariant.0.here))
 
 mul_line : tie.Need-overflow_mul-line invariant-loop-q decreases-loop-q
 mul_line c =
@@ -123,10 +123,10 @@ loop_again c =
     let turn = lesser.before.before.before in
     let loop = loop_of turn in
     let s = start loop in (
-      row_next (s.requires.0.placed []).ends loop.loop.invariant.0 turn.loop-q-test.true,
-      bucket_more s.args.f s.args.image.now s.requires.0.holding s.args.out.now loop.loop.out _
-          (s.args.s.first * s.args.f.p) loop.loop.q loop.loop.x _ s.requires.1 (in_d turn) (below loop) (place turn)
-          lesser.lesser-count.ensures loop.loop.invariant.1 copied.copy_lines.ensures,
+      row_next (s.requires.0.placed []).ends loop.loop-q.invariant.0 turn.loop-q-test.true,
+      bucket_more s.args.f s.args.image.now s.requires.0.holding s.args.out.now loop.loop-q.out _
+          (s.args.s.first * s.args.f.p) loop.loop-q.q loop.loop-q.x _ s.requires.1 (in_d turn) (below loop) (place turn)
+          lesser.lesser-count.ensures loop.loop-q.invariant.1 copied.copy_lines.ensures,
     )
 
 returns : tie.Need-returns invariant-loop-q decreases-loop-q
@@ -135,8 +135,8 @@ returns c =
     let s = start loop in
     let f = s.args.f in
     let a : ℕ = s.args.s.first * f.p in
-    let all : loop.loop.q ≡ s.args.s.last = omega (arith, c.loop-q-test.false, loop.loop.invariant.0, (s.requires.0.placed []).first_last) in
-    loop.loop.invariant.1 ∙ ap (λ q. put s.args.out.now (line_length * a) (list_text f s.args.image.now a (min f.lines (q * f.p)))) all
+    let all : loop.loop-q.q ≡ s.args.s.last = omega (arith, c.loop-q-test.false, loop.loop-q.invariant.0, (s.requires.0.placed []).first_last) in
+    loop.loop-q.invariant.1 ∙ ap (λ q. put s.args.out.now (line_length * a) (list_text f s.args.image.now a (min f.lines (q * f.p)))) all
 
 pub write_lines_spec : {M : Type 1} → statement M
 write_lines_spec =

@@ -60,7 +60,7 @@ returns : tie.Need-returns invariant-loop-i decreases-loop-i
 returns c =
     let loop = c.before in
     let s = start loop in
-    through_all loop.loop.invariant s.requires.0.ready loop.before.segment_count-count.ensures c.loop-i-test.false
+    through_all loop.loop-i.invariant s.requires.0.ready loop.before.segment_count-count.ensures c.loop-i-test.false
     ∙ ap (put s.args.out.now 0) (text_all_sent s.args.f s.args.image.now s.requires.0)
 
 pub write_list_spec : {M : Type 1} → statement M
@@ -70,7 +70,7 @@ write_list_spec =
     (λ c κs. c.before.before.requires.0.ready)
     loop_holds
     (λ c κs. let loop = c.before.before in
-    segment_asked loop.loop.invariant (start loop).requires.0.ready loop.before.segment_count-count.ensures c.before.loop-i-test.true)
+    segment_asked loop.loop-i.invariant (start loop).requires.0.ready loop.before.segment_count-count.ensures c.before.loop-i-test.true)
     write_lines_requires
     (λ c. omega (arith, c.before.before.before.before.before.loop-i-test.true))
     (λ c. omega (arith, c.before.before.before.before.before.loop-i-test.true))

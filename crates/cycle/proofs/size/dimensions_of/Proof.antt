@@ -13,7 +13,7 @@ returns : tie.Need-returns
 unfolding dimensions plan_of
 returns c =
     let s = c.before.before.before in
-    let heard = c.heard_most_lem.ensures ∙ ap (heard_most s.args.f.k) c.before.lesser.ensures in
+    let heard = c.heard_most.ensures ∙ ap (heard_most s.args.f.k) c.before.lesser.ensures in
     λ i. record { k = s.args.f.k; d = s.args.f.d; n = s.requires.3 i; bytes = bucket_length * s.requires.3 i; heard = heard i }
 
 pub dimensions_of_spec : {M : Type 1} → statement M

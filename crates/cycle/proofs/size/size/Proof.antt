@@ -24,10 +24,10 @@ use Rattle.cycle.proofs.size.size.Tie as tie
 abbrev set : tie.Start → Settings
 set s = settings s.args.n s.args.p s.args.layout s.args.copies
 
-tested : (c : tie.After-settings_fit) → settings_fit (set c.before) ≡ c.settings_fit_lem.result
+tested : (c : tie.After-settings_fit) → settings_fit (set c.before) ≡ c.settings_fit.result
 tested c =
     let s = c.before in
-    any_copies s.args.n s.args.p s.args.layout 0 s.args.copies ∙ sym c.settings_fit_lem.ensures
+    any_copies s.args.n s.args.p s.args.layout 0 s.args.copies ∙ sym c.settings_fit.ensures
 
 fit : (c : tie.Else-not-settings_fit) → settings_fit (set c.before.before) ≡ true
 fit c = tested c.before ∙ not-false _ c.if-not-settings_fit.false-raw

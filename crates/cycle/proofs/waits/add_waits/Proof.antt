@@ -41,27 +41,27 @@ waits_between_requires : tie.Need-waits_between-sum-requires invariant-loop-i de
 waits_between_requires c κs =
     let loop = c.before.before.before.before.before in
     let start = begun loop in
-    let l = loop.loop in
+    let l = loop.loop-i in
     waits_asked start.args.f start.args.list.now start.requires.0 l.tag l.first l.tags l.sum l.i l.invariant
 
 small : (c : tie.After-waits_between-sum invariant-loop-i decreases-loop-i) → c.waits_between-sum.result ≤ waits_most
 small c =
     let loop = c.before.before.before.before.before.before in
     let start = begun loop in
-    let l = loop.loop in
+    let l = loop.loop-i in
     waits_small start.args.f start.args.list.now start.requires.0 l.tag l.first l.tags l.sum l.i l.invariant
     c.waits_between-sum.result c.waits_between-sum.ensures
 
 add_sum : tie.Need-overflow_add-sum invariant-loop-i decreases-loop-i
 add_sum c =
     let loop = c.before.before.before.before.before.before in
-    let inv = loop.loop.invariant in
+    let inv = loop.loop-i.invariant in
     omega (arith, inv.sum_high, inv.tags_high, inv.high, (begun loop).requires.0.ready.shaped.lines_high, small c)
 
 add_tags : tie.Need-overflow_add-tags invariant-loop-i decreases-loop-i
 add_tags c =
     let loop = c.before.before.before.before.before.before in
-    let inv = loop.loop.invariant in
+    let inv = loop.loop-i.invariant in
     omega (arith, inv.tags_high, inv.high, (begun loop).requires.0.ready.shaped.lines_high)
 
 loop_again : tie.Need-loop-i-preserved invariant-loop-i decreases-loop-i
@@ -70,7 +70,7 @@ loop_again c =
     let turn = read.before in
     let loop = turn.before.before in
     let start = begun loop in
-    let l = loop.loop in
+    let l = loop.loop-i in
     let f : Figures = start.args.f in
     let list : List ℕ = start.args.list.now in
     ⊎_elim
@@ -90,11 +90,11 @@ ended :
     (c : tie.After-loop-i invariant-loop-i decreases-loop-i) →
     let loop = c.before.before in
     let start = begun loop in
-    let l = loop.loop in ListPass start.args.f start.args.list.now l.tag l.first l.tags l.sum start.args.f.lines
+    let l = loop.loop-i in ListPass start.args.f start.args.list.now l.tag l.first l.tags l.sum start.args.f.lines
 ended c =
     let loop = c.before.before in
     let start = begun loop in
-    let l = loop.loop in
+    let l = loop.loop-i in
     all_passed start.args.f start.args.list.now start.requires.0 l.tag l.first l.tags l.sum l.i l.invariant c.loop-i-test.false
 
 waits_between_requires_2 : tie.Need-waits_between-sum-requires-2 invariant-loop-i decreases-loop-i
@@ -102,7 +102,7 @@ waits_between_requires_2 c κs =
     let end = c.before.before in
     let loop = end.before.before in
     let start = begun loop in
-    let l = loop.loop in
+    let l = loop.loop-i in
     waits_asked start.args.f start.args.list.now start.requires.0 l.tag l.first l.tags l.sum start.args.f.lines (ended end)
 
 add_sum_2 : tie.Need-overflow_add-sum-2 invariant-loop-i decreases-loop-i
@@ -110,7 +110,7 @@ add_sum_2 c =
     let end = c.before.before.before in
     let loop = end.before.before in
     let start = begun loop in
-    let l = loop.loop in
+    let l = loop.loop-i in
     let less = waits_small start.args.f start.args.list.now start.requires.0 l.tag l.first l.tags l.sum start.args.f.lines (ended end)
     c.waits_between-sum-2.result c.waits_between-sum-2.ensures in
     omega (arith, l.invariant.sum_high, l.invariant.tags_high, l.invariant.high, start.requires.0.ready.shaped.lines_high, less)
@@ -120,7 +120,7 @@ returns c =
     let end = c.before.before.before in
     let loop = end.before.before in
     let start = begun loop in
-    let l = loop.loop in
+    let l = loop.loop-i in
     list_ends start.args.f start.args.list.now start.requires.0 l.tag l.first l.tags l.sum start.args.f.lines (ended end) (omega arith)
     c.waits_between-sum-2.result c.waits_between-sum-2.ensures
 

@@ -56,11 +56,11 @@ by_last :
     data_choice (start c).args.self.tag (start c).args.follow-on (lines c) ≡
     pick
     (eqb (get_or (start c).args.t5 ((start c).args.count - 1) 0) (start c).args.self.tag && not (eqb (start c).args.follow-on 0))
-    (dozes (start c).args.follow-on Data c.lines_before_lem.result c.before.before.lines_matching-matching.result)
-    (finds c.lines_before_lem.result c.before.before.lines_matching-matching.result)
+    (dozes (start c).args.follow-on Data c.lines_before-first.result c.before.before.lines_matching-matching.result)
+    (finds c.lines_before-first.result c.before.before.lines_matching-matching.result)
 unfolding data_choice
 by_last c =
-    rw (← c.before.before.lines_matching-matching.ensures, ne_eqb _ 0 c.before.if-matching-eq0.false, last_line c, ← c.lines_before_lem.ensures)
+    rw (← c.before.before.lines_matching-matching.ensures, ne_eqb _ 0 c.before.if-matching-eq0.false, last_line c, ← c.lines_before-first.ensures)
 
 returns_2 : tie.Need-returns-then-tags-last
 returns_2 c = rw (by_last c.before.before.before, ne_eqb _ _ c.before.if-tags-last.true) c.end_by-then-tags-last.ensures

@@ -9,7 +9,7 @@ use Rattle.listener.proofs.Listener.dozing.Tie as tie
 
 returns : tie.Need-returns
 unfolding bucket_with cycle_length dozing stepped
-returns c body due passed = rw (due, passed, c.before.heard_with_lem.ensures, c.elapsed_with_lem.ensures) refl
+returns c body due passed = rw (due, passed, c.before.heard_with.ensures, c.elapsed_with.ensures) refl
 
 pub dozing_spec : {M : Type 1} → statement M
 dozing_spec = tie.close (tie.spec (λ c. search rules) (λ c κs. search rules) (λ c κs. search rules) returns)

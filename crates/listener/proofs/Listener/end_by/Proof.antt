@@ -10,7 +10,7 @@ unfolding stepped
 returns c =
     let a = c.before.before.before.args in
     ap (λ l. stepped l a.answer a.first a.count)
-    (c.ended-listener.ensures ∙ ap₂ (ended a.self) c.before.before.heard_with_lem.ensures c.before.elapsed_with_lem.ensures)
+    (c.ended-listener.ensures ∙ ap₂ (ended a.self) c.before.before.heard_with.ensures c.before.elapsed_with.ensures)
 
 pub end_by_spec : {M : Type 1} → statement M
 end_by_spec = tie.close (tie.spec (λ c κs. search rules) (λ c κs. search rules) (λ c κs. search rules) returns)

@@ -20,7 +20,7 @@ unfolding stepped
 returns_2 c =
     let s = c.before.before.before in
     step_tells
-    (ap (λ l. stepped l (Doze 1) 0 0) c.starts_over_lem.ensures ∙
+    (ap (λ l. stepped l (Doze 1) 0 0) c.starts_over-listener.ensures ∙
     sym (lost_open s.args.self (sym c.before.before.is_ended.ensures ∙ c.before.if-is_ended.false)))
 
 pub lost_spec : {M : Type 1} → statement M

@@ -18,13 +18,13 @@ returns c =
 take_reading_requires : tie.Need-take_reading-requires
 take_reading_requires c κs =
     let s = c.before.before.before.before in
-    record { bytes = s.args.bucket.now; is = c.read_bucket_lem.ensures }
+    record { bytes = s.args.bucket.now; is = c.read_bucket-reading.ensures }
 
 returns_2 : tie.Need-returns
 returns_2 c =
     let s = c.before.before.before.before.before in
     step_tells
-    (c.take_reading.ensures s.args.bucket.now c.before.read_bucket_lem.ensures ∙
+    (c.take_reading.ensures s.args.bucket.now c.before.read_bucket-reading.ensures ∙
     sym
     (step_read s.args.self s.args.bucket.now
     (sym c.before.before.before.is_ended.ensures ∙ c.before.before.if-is_ended.false)))

@@ -27,7 +27,7 @@ returns_3 : tie.Need-returns
 unfolding bucket_with
 returns_3 c =
     let tuning = c.before.before in
-    heeds_later _ _ (told tuning.before.before) tuning.before.if-not-awaits.false-raw tuning.is_tune_in.ensures c.before.if-is_tune_in.false c.data_step_lem.ensures
+    heeds_later _ _ (told tuning.before.before) tuning.before.if-not-awaits.false-raw tuning.is_tune_in.ensures c.before.if-is_tune_in.false c.data_step.ensures
 
 pub take_data_spec : {M : Type 1} → statement M
 take_data_spec =
