@@ -2,7 +2,7 @@
 -- Assumes nothing.
 use mathlib.Core.Path.{◌≡◌, refl}
 use Prim.Native.Nat.{ℕ, zero, suc, ◌<◌}
-use mathlib.Core.Bool.{Bool, true, false, or_true}
+use mathlib.Core.Bool.{Bool, true, false, or-true}
 use mathlib.Core.List.{List, [], ◌∷◌}
 use native.Mathlib.Omega.{arith}
 use lib.ListN.{length, get_or}
@@ -12,7 +12,7 @@ module _ {A : Type 0} (f : A → Bool) (d : A) where
   pub any_at : (xs : List A) (i : ℕ) → i < length xs → f (get_or xs i d) ≡ true → any f xs ≡ true
   any_at [] i h e = absurd (omega arith)
   any_at (x ∷ xs) zero h e = rw e
-  any_at (x ∷ xs) (suc i) h e = rw (any_at xs i (omega arith) e) (or_true (f x))
+  any_at (x ∷ xs) (suc i) h e = rw (any_at xs i (omega arith) e) (or-true (f x))
 
   pub any_nowhere : (xs : List A) → ((i : ℕ) → i < length xs → f (get_or xs i d) ≡ false) → any f xs ≡ false
   any_nowhere [] h = refl

@@ -28,32 +28,32 @@ known c =
     sym (judged_told c.judge_list-told.result.judged (judge (set (start c)) (start c).args.list.now (room (start c))) c.judge_list-told.ensures.0)
 
 -- it answered with figures
-abbrev made : tie.In-Cycle-2 → Figures
-made c = c.judged-in-Cycle-1.given.0.0
+abbrev made : tie.In-Cycle → Figures
+made c = c.in-Cycle.f
 
 figured :
-    (c : tie.In-Cycle-2) →
-    let s = start c.before.before in judge (set s) s.args.list.now (room s) ≡ Cycle (made c)
-figured c = known c.before.before ∙ c.judged-in-Cycle-1.given.1
+    (c : tie.In-Cycle) →
+    let s = start c.before in judge (set s) s.args.list.now (room s) ≡ Cycle (made c)
+figured c = known c.before ∙ c.in-Cycle.is
 
 write_cycle_requires : tie.Need-write_cycle-requires
 write_cycle_requires c κs =
-    let told = c.before.before in
-    let s = start told.before.before in
+    let told = c.before in
+    let s = start told.before in
     let all = sending_judged (set s) s.args.list.now (room s) (made told) (figured told) in
-    (all.0, all.1, told.before.before.judge_list-told.ensures.1)
+    (all.0, all.1, told.judge_list-told.ensures.1)
 
 returns : tie.Need-returns-in-Refused
 returns c =
-    let j = c.before.before.before in
+    let j = c.before in
     let s = start j in
-    builds_refusal (set s) s.args.list.now (room s) _ _ s.args.out.now (known j ∙ c.before.judged-1.given.1)
+    builds_refusal (set s) s.args.list.now (room s) _ _ s.args.out.now (known j ∙ c.in-Refused.is)
 
 returns_2 : tie.Need-returns-in-Cycle
 returns_2 c =
     let wrote = c.before.before in
-    let told = wrote.before.before.before in
-    let s = start told.before.before in
+    let told = wrote.before.before in
+    let s = start told.before in
     let all = builds_judged (set s) s.args.list.now (room s) (made told) (figured told) s.args.out.now refl in
     (all.0, wrote.write_cycle.ensures ∙ all.1)
 

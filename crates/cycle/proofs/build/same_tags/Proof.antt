@@ -38,7 +38,7 @@ start c = c.before.before
 returns : tie.Need-returns-then-as_digit invariant-loop-i decreases-loop-i
 returns c =
     let turn = at_turn c.before in
-    let l = turn.before.loop-i in
+    let l = turn.loop-i in
     let s = start turn.before in
     let k : ℕ = l.i - 1 in
     let small : k < tag_width = omega (arith, l.invariant.0, turn.loop-i-test.true) in
@@ -48,16 +48,16 @@ returns c =
     sym (digit_at s.args.list.now s.args.a k s.requires.0 small)
     ∙ ap (λ (t : List ℕ). get_or t k 0) e
     ∙ digit_at s.args.list.now s.args.b k s.requires.1 small in
-    c.if-as_digit.true (omega (arith, told, c.before.as_digit-in-loop-i.ensures, c.before.before.before.as_digit.ensures)))
+    c.if-as_digit.true (omega (arith, told, c.as_digit-in-loop-i.ensures, c.as_digit.ensures)))
 
 loop_again : tie.Need-loop-i-preserved invariant-loop-i decreases-loop-i
 loop_again c =
     let turn = at_turn c.before in
-    let l = turn.before.loop-i in
+    let l = turn.loop-i in
     let s = start turn.before in
     let list : List ℕ = s.args.list.now in
     let here : get_or list (s.args.a + (l.i - 1)) 0 - 48 ≡ get_or list (s.args.b + (l.i - 1)) 0 - 48 =
-    omega (arith, c.if-as_digit.false, c.before.as_digit-in-loop-i.ensures, c.before.before.before.as_digit.ensures) in (
+    omega (arith, c.if-as_digit.false, c.as_digit-in-loop-i.ensures, c.as_digit.ensures) in (
       omega arith,
       λ k low high.
           elim (ℕ_discrete k (l.i - 1)) [
@@ -68,7 +68,7 @@ loop_again c =
 
 returns_2 : tie.Need-returns invariant-loop-i decreases-loop-i
 returns_2 c =
-    let l = c.before.loop-i in
+    let l = c.loop-i in
     let s = start c.before in
     let list : List ℕ = s.args.list.now in
     let a : ℕ = s.args.a in
@@ -86,12 +86,12 @@ same_tags_spec =
     (tie.spec invariant-loop-i decreases-loop-i
     (λ c. (omega arith, λ k l h. absurd (omega arith)))
     (λ c. omega arith)
-    (λ c. let s = start c.before in omega (arith, s.requires.0, s.good.0.0))
-    (λ c. let s = start c.before.before in omega (arith, s.requires.0, c.before.loop-i-test.true, c.before.before.loop-i.invariant.0))
+    (λ c. let s = start c.before in omega (arith, s.requires.0, s.well_formed.0.0))
+    (λ c. let s = start c.before.before in omega (arith, s.requires.0, c.loop-i-test.true, c.loop-i.invariant.0))
     (λ c κs. tt)
-    (λ c. let s = start c.before.before.before in omega (arith, s.requires.1, s.good.0.0))
+    (λ c. let s = start c.before.before.before in omega (arith, s.requires.1, s.well_formed.0.0))
     (λ c. let s = start c.before.before.before.before in
-    omega (arith, s.requires.1, c.before.before.before.loop-i-test.true, c.before.before.before.before.loop-i.invariant.0))
+    omega (arith, s.requires.1, c.loop-i-test.true, c.loop-i.invariant.0))
     (λ c κs. tt)
     returns
     (λ c. omega (arith, (at_turn c.before).loop-i-test.true))

@@ -82,10 +82,10 @@ returns c =
     let s = start call in
     let t = text call in
     let room : bucket_length * s.args.x + bucket_length ≤ length s.args.image.now = omega (arith, seated s, below s, s.requires.0.roomy) in
-    lent_written s.args.image.now (bucket_length * s.args.x) bucket_length _ _ room wrote.write_data.auto.0 wrote.write_data.ensures
+    lent_written s.args.image.now (bucket_length * s.args.x) bucket_length _ _ room wrote.write_data.auto.part wrote.write_data.ensures
     ∙ data_written s.args.f s.args.list.now s.requires.0.sending s.args.x (omega (arith, seated s, below s))
     s.args.image.now s.requires.0.roomy _ head.head_at.ensures s.args.q _ _ (stands s)
-    call.before.before.before.list_follow_on-follow_on.ensures t.lines_are
+    call.list_follow_on-follow_on.ensures t.lines_are
 
 pub write_data_at_spec : {M : Type 1} → statement M
 write_data_at_spec =

@@ -38,14 +38,14 @@ long c =
 
 loop_holds : tie.Need-loop-q-init invariant-loop-q decreases-loop-q
 loop_holds c =
-    let s = c.before.before in
+    let s = c in
     (row_start, begun s.args.f s.args.list.now s.requires.sending s.args.image.now s.requires.roomy s.args.s.data_at)
 
 write_data_at_requires : tie.Need-write_data_at-requires invariant-loop-q decreases-loop-q
 write_data_at_requires c κs =
     let loop = c.before.before.before in
     let s = start loop in
-    (writing_kept s.args.f s.args.list.now s.args.s (length s.args.image.now) s.requires _ (long loop), data_place loop.loop-q.invariant.0 c.before.loop-q-test.true)
+    (writing_kept s.args.f s.args.list.now s.args.s (length s.args.image.now) s.requires _ (long loop), data_place loop.loop-q.invariant.0 c.loop-q-test.true)
 
 -- the place of q is in the segment
 inside : (c : tie.In-loop-q invariant-loop-q decreases-loop-q) →
@@ -79,7 +79,7 @@ write_datas_spec =
     loop_holds
     write_data_at_requires
     (λ c. let turn = c.before.before.before.before in omega (arith, seated (start turn.before.before), inside turn))
-    (λ c. omega (arith, c.before.before.before.before.loop-q-test.true, c.before.before.before.before.before.struct_known-1.given))
+    (λ c. omega (arith, c.loop-q-test.true, c.struct_known-1.given))
     (λ c. omega arith)
     loop_again
     (λ c. long c.before.before)

@@ -37,7 +37,7 @@ long c =
 
 loop_holds : tie.Need-loop-i-init invariant-loop-i decreases-loop-i
 loop_holds c =
-    let s = c.before.before in (
+    let s = c in (
       omega arith,
       omega arith,
       omega arith,
@@ -82,7 +82,7 @@ add_i c =
 
 loop_again : tie.Need-loop-i-preserved invariant-loop-i decreases-loop-i
 loop_again c =
-    let wrote = c.before.before in
+    let wrote = c in
     let turn = turned c in
     let loop = at_turn turn in
     let s = start loop in
@@ -93,7 +93,7 @@ loop_again c =
       grown s.args.f s.args.list.now s.requires.sending s.args.image.now s.requires.roomy s.args.s.start
           loop.loop-i.image _ x (x + 1) (omega arith) (omega arith) (omega (arith, below turn)) loop.loop-i.invariant.3
           (bucket_written s.args.f s.args.list.now s.args.s (length s.args.image.now) s.requires x (below turn) loop.loop-i.image (long loop)
-          wrote.print_path_bucket.auto.0 wrote.print_path_bucket.ensures),
+          wrote.print_path_bucket.auto.part wrote.print_path_bucket.ensures),
     )
 
 same_length : tie.Need-shape_of-image invariant-loop-i decreases-loop-i

@@ -31,7 +31,7 @@ write_subtree_requires : tie.Need-write_subtree-requires
 write_subtree_requires c κs =
     let path = c.before.before.before in
     let s = start1 path in (
-      writing_kept s.args.f s.args.list.now s.args.s (length s.args.image.now) s.requires _ path.write_path.auto.0,
+      writing_kept s.args.f s.args.list.now s.args.s (length s.args.image.now) s.requires _ path.write_path.auto.image,
       own_tree s.args.f s.args.list.now s.args.s (length s.args.image.now) s.requires,
     )
 
@@ -40,7 +40,7 @@ write_datas_requires c κs =
     let tree = c.before.before.before in
     let path = path2 tree in
     let s = start1 path in
-    writing_kept s.args.f s.args.list.now s.args.s (length s.args.image.now) s.requires _ (tree.write_subtree.auto.0 ∙ path.write_path.kept.0)
+    writing_kept s.args.f s.args.list.now s.args.s (length s.args.image.now) s.requires _ (tree.write_subtree.auto.image ∙ path.write_path.auto.image)
 
 returns : tie.Need-returns
 returns c =

@@ -30,7 +30,7 @@ print_tree_bucket_requires c κs =
     let s = begun c.before in
     let image = s.args.image.now in (
       lent_wide s.args.f s.args.list.now s.args.s (length image) s.requires.0 s.args.x (below s) image refl,
-      (printing s.args.f s.args.list.now s.args.s (length image) s.requires.0, (s.requires.1, c.before.child_count-count.ensures)),
+      (printing s.args.f s.args.list.now s.args.s (length image) s.requires.0, (s.requires.1, c.child_count-count.ensures)),
     )
 
 returns : tie.Need-returns
@@ -41,7 +41,7 @@ returns c =
     let image = s.args.image.now in (
       told.child_count-count.ensures,
       bucket_written s.args.f s.args.list.now s.args.s (length image) s.requires.0 s.args.x (below s) image refl
-          wrote.print_tree_bucket.auto.0 wrote.print_tree_bucket.ensures,
+          wrote.print_tree_bucket.auto.part wrote.print_tree_bucket.ensures,
     )
 
 pub write_tree_bucket_spec : {M : Type 1} → statement M

@@ -24,7 +24,7 @@ abbrev line : tie.Start → List ℕ
 line s = s.args.given.now
 
 abbrev start : tie.After-judge_given-told → tie.Start
-start c = c.before.before.before.before.before
+start c = c.before.before.before.before
 
 -- what was found, whatever the copies
 told : (c : tie.After-judge_given-told) {r : GivenJudged} → c.judge_given-told.result ≡ r →
@@ -35,17 +35,17 @@ told c {r} e =
     c.judge_given-told.result r e c.judge_given-told.ensures
 
 arrive_judged_requires : tie.Need-arrive_judged-requires
-arrive_judged_requires c κs = let found = c.before.before.before in told found.before.before found.told-in-Passed-1.given.1
+arrive_judged_requires c κs = let found = c.before.before in told found.before found.in-Passed.is
 
 returns : tie.Need-returns-in-Refused
 returns c =
-    let found = c.before in
-    let call = found.before.before in
+    let found = c in
+    let call = found.before in
     let s = start call in
     let change = arrival (bytes s) s.args.lines (line s) in
     let room = length s.args.out.now in
     change_refused (set s) (bytes s) s.args.lines (line s) change room _ _ s.args.out.now
-    (given_refused (set s) (bytes s) s.args.lines (line s) change room _ (told call found.told.given.1))
+    (given_refused (set s) (bytes s) s.args.lines (line s) change room _ (told call found.in-Refused.is))
 
 pub arrive_spec : {M : Type 1} → statement M
 arrive_spec =

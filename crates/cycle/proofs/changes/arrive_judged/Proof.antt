@@ -56,7 +56,7 @@ abbrev start1 : tie.Else-lines-eq-LINES_MOST → tie.Start
 start1 c = c.before.before.before.before
 
 abbrev start2 : tie.Else-not-places_for → tie.Start
-start2 c = start1 c.before.before.before
+start2 c = start1 c.before.before
 
 -- ---- 16
 
@@ -68,14 +68,14 @@ returns c =
     (own_holds (set s) (bytes s) s.args.lines (line s) (change s) (room s) s.requires.0 0 (full_list (bytes s) s.args.lines c.if-lines-eq-LINES_MOST.true))
 
 places_for_requires : tie.Need-places_for-requires
-places_for_requires c κs = let s = start1 c.before in omega (arith, (known s).few)
+places_for_requires c κs = let s = start1 c in omega (arith, (known s).few)
 
 returns_2 : tie.Need-returns-then-not-places_for
 unfolding arrival no_place
 returns_2 c =
-    let met = c.before.before.before in
+    let met = c.before.before in
     let s = start1 met in
-    let short = sym (ap (places_for (bytes s)) (add-one s.args.lines)) ∙ (sym c.before.places_for.ensures ∙ not-true _ c.if-not-places_for.true-raw) in
+    let short = sym (ap (places_for (bytes s)) (add-one s.args.lines)) ∙ (sym c.places_for.ensures ∙ not-true _ c.if-not-places_for.true-raw) in
     change_refused (set s) (bytes s) s.args.lines (line s) (change s) (room s) 16 0 s.args.out.now
     (own_holds (set s) (bytes s) s.args.lines (line s) (change s) (room s) s.requires.0 0
     (full_buffer (bytes s) s.args.lines met.if-lines-eq-LINES_MOST.false short))
@@ -87,17 +87,17 @@ module _ (c : tie.Else-not-places_for) where
   s = start2 c
 
   few : s.args.lines + 1 ≤ lines_most
-  few = omega (arith, (known s).few, c.before.before.before.if-lines-eq-LINES_MOST.false)
+  few = omega (arith, (known s).few, c.if-lines-eq-LINES_MOST.false)
 
   place_for : places_for (bytes s) (suc s.args.lines) ≡ true
-  place_for = sym (ap (places_for (bytes s)) (add-one s.args.lines)) ∙ (sym c.before.places_for.ensures ∙ not-false _ c.if-not-places_for.false-raw)
+  place_for = sym (ap (places_for (bytes s)) (add-one s.args.lines)) ∙ (sym c.places_for.ensures ∙ not-false _ c.if-not-places_for.false-raw)
 
   long : line_length * s.args.lines + line_length ≤ length (bytes s)
   long = let h = places_fit (bytes s) (suc s.args.lines) place_for in omega (arith, h)
 
   free : (change s).own.holds ≡ none
   unfolding arrival
-  free = place_left (bytes s) s.args.lines c.before.before.before.if-lines-eq-LINES_MOST.false place_for
+  free = place_left (bytes s) s.args.lines c.if-lines-eq-LINES_MOST.false place_for
 
   listed : Listed (suc s.args.lines) (change s).list
   unfolding arrival
@@ -111,65 +111,65 @@ judged_list : (c : tie.After-judge_room-judged) → let s = start2 c.before.befo
 judged_list c =
     let e2 = c.before.before in
     let s = start2 e2 in
-    let told = c.before.figures_of.ensures in
+    let told = c.figures_of.ensures in
     sym
     (c.judge_room-judged.ensures
     ∙ figures_judged (set s) (change s).list (room s) (suc s.args.lines) (known s).settings (omega (arith, few e2)) (listed e2)
-    c.before.figures_of.result told.0 (told.1 ∙ add-one s.args.lines))
+    c.figures_of.result told.0 (told.1 ∙ add-one s.args.lines))
 
 returns_3 : tie.Need-returns-in-Refused
 returns_3 c =
-    let call = c.before.before.before in
+    let call = c.before in
     let e2 = call.before.before in
     let s = start2 e2 in
     change_refused (set s) (bytes s) s.args.lines (line s) (change s) (room s) _ _ s.args.out.now
     (judged_refused (set s) (bytes s) s.args.lines (line s) (change s) (room s) s.requires.0 (free e2) (suc s.args.lines) (known s).settings
-    (omega (arith, few e2)) (listed e2) _ _ (judged_list call ∙ c.before.judged-1.given.1))
+    (omega (arith, few e2)) (listed e2) _ _ (judged_list call ∙ c.in-Refused.is))
 
 -- ---- the line is put in
 
 abbrev else2 : tie.In-Cycle → tie.Else-not-places_for
-else2 c = c.before.before.before.before.before
+else2 c = c.before.before.before
 
 abbrev made : tie.In-Cycle → Figures
-made c = c.before.judged-in-Cycle-1.given.0.0
+made c = c.in-Cycle.f
 
 figured : (c : tie.In-Cycle) → let s = start2 (else2 c) in judge (set s) (change s).list (room s) ≡ Judged.Cycle (made c)
-figured c = judged_list c.before.before.before ∙ c.before.judged-in-Cycle-1.given.1
+figured c = judged_list c.before ∙ c.in-Cycle.is
 
 slice_first_over : tie.Need-slice_bounds-first_over-end
 slice_first_over c = let s = start2 (else2 c) in (known s).places
 
 length_first_over : tie.Need-slice_bounds-first_over-end-in-Cycle
-length_first_over c = let s = start2 (else2 c.before) in sym (length-take-le (line_length * s.args.lines) (bytes s) (known s).places)
+length_first_over c = let s = start2 (else2 c) in sym (length-take-le (line_length * s.args.lines) (bytes s) (known s).places)
 
 first_over_requires : tie.Need-first_over-place-requires
 first_over_requires c κs =
-    let s = start2 (else2 c.before.before) in
+    let s = start2 (else2 c.before) in
     (length-take-le (line_length * s.args.lines) (bytes s) (known s).places, (known s).few)
 
 -- the place of the first line with a greater tag
-found : (c : tie.After-first_over-place) → let s = start2 (else2 c.before.before.before) in
+found : (c : tie.After-first_over-place) → let s = start2 (else2 c.before.before) in
     c.first_over-place.result ≡ place_or s.args.lines (first_from (tag_over (spelled (line s)).tag) 0 (list_lines (list_in (bytes s) s.args.lines)))
 unfolding list_in spelled
 found c =
-    let s = start2 (else2 c.before.before.before) in
+    let s = start2 (else2 c.before.before) in
     c.first_over-place.ensures
-    ∙ ap (λ t. place_or s.args.lines (first_from (tag_over t) 0 (list_lines (take (line_length * s.args.lines) (bytes s))))) c.before.spelled_tag.ensures
+    ∙ ap (λ t. place_or s.args.lines (first_from (tag_over t) 0 (list_lines (take (line_length * s.args.lines) (bytes s))))) c.spelled_tag.ensures
 
-inside : (c : tie.After-first_over-place) → let s = start2 (else2 c.before.before.before) in
+inside : (c : tie.After-first_over-place) → let s = start2 (else2 c.before.before) in
     line_length * c.first_over-place.result ≤ line_length * s.args.lines
 inside c =
-    let s = start2 (else2 c.before.before.before) in
+    let s = start2 (else2 c.before.before) in
     within (bytes s) s.args.lines (line s) (known s).places (known s).listed (known s).reads c.first_over-place.result (found c)
 
 put_line_requires : tie.Need-put_line-requires
 put_line_requires c κs =
-    let e2 = else2 c.before.before.before.before in
+    let e2 = else2 c.before.before.before in
     (inside c.before, long e2, (known (start2 e2)).long)
 
 mul_put_line : tie.Need-overflow_mul-place
-mul_put_line c = let e2 = else2 c.before.before.before.before in omega (arith, inside c.before, few e2)
+mul_put_line c = let e2 = else2 c.before.before.before in omega (arith, inside c.before, few e2)
 
 -- ---- the changed list
 
@@ -177,36 +177,36 @@ abbrev over : tie.After-put_line → tie.After-first_over-place
 over c = c.before.before
 
 abbrev told2 : tie.After-put_line → tie.In-Cycle
-told2 c = (over c).before.before.before
+told2 c = (over c).before.before
 
 changed : (c : tie.After-put_line) → let s = start2 (else2 (told2 c)) in
-    take (line_length * s.args.lines + line_length) c.put_line.new.0 ≡ (change s).list
+    take (line_length * s.args.lines + line_length) c.put_line.new.list ≡ (change s).list
 changed c =
     let s = start2 (else2 (told2 c)) in
     ap (take (line_length * s.args.lines + line_length)) c.put_line.ensures
     ∙ arrived_front (bytes s) s.args.lines (line s) (known s).places (known s).listed (known s).reads (over c).first_over-place.result (found (over c))
 
 roomy : (c : tie.After-put_line) → let s = start2 (else2 (told2 c)) in
-    line_length * s.args.lines + line_length ≤ length c.put_line.new.0
-roomy c = omega (arith, long (else2 (told2 c)), c.put_line.auto.0)
+    line_length * s.args.lines + line_length ≤ length c.put_line.new.list
+roomy c = omega (arith, long (else2 (told2 c)), c.put_line.auto.list)
 
 slice_send : tie.Need-slice_bounds-send-end
 slice_send c = roomy c.before.before
 
 length_send : tie.Need-slice_bounds-send-end-in-Cycle
-length_send c = sym (length-take-le _ c.before.before.before.put_line.new.0 (roomy c.before.before.before))
+length_send c = sym (length-take-le _ c.put_line.new.list (roomy c.before.before))
 
 send_requires : tie.Need-send-requires
 unfolding arrival
 send_requires c κs =
-    let put = c.before.before.before.before.before in
+    let put = c.before.before.before.before in
     let told = told2 put in
     let s = start2 (else2 told) in
     let sent = sending_judged (set s) (change s).list (room s) (made told) (figured told) in (
       subst (AcceptedList (made told)) (sym (changed put)) sent.0,
       sent.1,
       λ e.
-          let plain = c.before.plain_with.ensures e in
+          let plain = c.plain_with.ensures e in
           subst PlainList (sym (changed put))
           (arrived_plain (line s) (list_in (bytes s) s.args.lines) s.args.lines (known s).listed (known s).reads (s.requires.1 plain.0) plain.1),
     )
@@ -214,7 +214,7 @@ send_requires c κs =
 returns_4 : tie.Need-returns-in-Cycle
 returns_4 c =
     let call = c.before.before in
-    let put = call.before.before.before.before.before.before in
+    let put = call.before.before.before.before.before in
     let told = told2 put in
     let e2 = else2 told in
     let s = start2 e2 in
@@ -234,7 +234,7 @@ arrive_judged_spec =
     tie.close
     (tie.spec
     returns
-    (λ c. let s = start1 c.before in omega (arith, (known s).few))
+    (λ c. let s = start1 c in omega (arith, (known s).few))
     places_for_requires
     (λ c. search rules)
     returns_2
@@ -243,7 +243,7 @@ arrive_judged_spec =
     (λ c κs. search rules) (λ c. search rules) (λ c. search rules) (λ c. search rules)
     slice_first_over
     length_first_over
-    (λ c κs. let s = start2 (else2 c.before) in omega (arith, (known s).long))
+    (λ c κs. let s = start2 (else2 c) in omega (arith, (known s).long))
     first_over_requires
     mul_put_line
     put_line_requires

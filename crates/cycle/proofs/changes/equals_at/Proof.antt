@@ -10,16 +10,16 @@ use Rattle.cycle.proofs.changes.equals_at.Tie as tie
 
 returns : tie.Need-returns-then-spelled_tag-line
 returns c =
-    let call = c.before.before in
-    let a = call.before.before.args in
+    let call = c in
+    let a = call.args in
     sym (other_tag a.line (drop a.at a.list.now) call.spelled_tag.result call.spelled_tag.ensures c.if-spelled_tag-line.true)
 
 returns_2 : tie.Need-returns
 returns_2 c =
-    let call = c.before in
-    let a = call.before.before.before.before.before.before.args in
+    let call = c in
+    let a = call.args in
     c.same_numbers.ensures
-    ∙ ap (same_numbers a.line) (call.spelled_line_lem.ensures ∙ spelled_part a.list.now a.at)
+    ∙ ap (same_numbers a.line) (call.spelled_line.ensures ∙ spelled_part a.list.now a.at)
 
 pub equals_at_spec : {M : Type 1} → statement M
 equals_at_spec =

@@ -23,24 +23,24 @@ returns : tie.Need-returns-then-equals_at invariant-loop-i decreases-loop-i
 returns c =
     let turn = c.before.before in
     let loop = turn.before in
-    let start = loop.before.before in
+    let start = loop in
     passes_here (same_numbers start.args.line) start.args.list.now start.args.lines start.requires.0 loop.loop-i.i loop.loop-i.invariant.1 turn.loop-i-test.true
-    (sym c.before.equals_at.ensures ∙ c.if-equals_at.true)
+    (sym c.equals_at.ensures ∙ c.if-equals_at.true)
 
 loop_again : tie.Need-loop-i-preserved invariant-loop-i decreases-loop-i
 loop_again c =
     let turn = c.before.before in
     let loop = turn.before in
-    let start = loop.before.before in (
+    let start = loop in (
       omega arith,
       fails_here (same_numbers start.args.line) start.args.list.now start.args.lines start.requires.0 loop.loop-i.i loop.loop-i.invariant.1 turn.loop-i-test.true
-          (sym c.before.equals_at.ensures ∙ c.if-equals_at.false),
+          (sym c.equals_at.ensures ∙ c.if-equals_at.false),
     )
 
 returns_2 : tie.Need-returns invariant-loop-i decreases-loop-i
 returns_2 c =
     let loop = c.before in
-    let start = loop.before.before in
+    let start = loop in
     none_passes (same_numbers start.args.line) start.args.list.now start.args.lines start.requires.0 loop.loop-i.i loop.loop-i.invariant.1 c.loop-i-test.false
 
 pub first_equal_spec : {M : Type 1} → statement M

@@ -36,10 +36,10 @@ start3 c = start2 c.before.before
 
 -- what does not hold there
 fit1 : (c : tie.Else-not-settings_fit) → settings_fit (set (start1 c)) ≡ true
-fit1 c = sym c.before.settings_fit.ensures ∙ not-false _ c.if-not-settings_fit.false-raw
+fit1 c = sym c.settings_fit.ensures ∙ not-false _ c.if-not-settings_fit.false-raw
 
 places3 : (c : tie.Else-not-places_for) → places_for (bytes (start3 c)) (start3 c).args.lines ≡ true
-places3 c = sym c.before.places_for.ensures ∙ not-false _ c.if-not-places_for.false-raw
+places3 c = sym c.places_for.ensures ∙ not-false _ c.if-not-places_for.false-raw
 
 -- the list that is judged
 long4 :
@@ -53,7 +53,7 @@ returns : tie.Need-returns-then-not-settings_fit
 returns c =
     let s = c.before.before.before.before in
     settings_refused (set s) (bytes s) s.args.lines (given s)
-    (sym c.before.settings_fit.ensures ∙ not-true _ c.if-not-settings_fit.true-raw)
+    (sym c.settings_fit.ensures ∙ not-true _ c.if-not-settings_fit.true-raw)
 
 returns_2 : tie.Need-returns-then-lines-gt-LINES_MOST
 returns_2 c =
@@ -65,7 +65,7 @@ returns_3 c =
     let met = c.before.before in
     let s = start2 met in
     no_places (set s) (bytes s) s.args.lines (given s) (fit1 met.before) met.if-lines-gt-LINES_MOST.false
-    (sym c.before.places_for.ensures ∙ not-true _ c.if-not-places_for.true-raw)
+    (sym c.places_for.ensures ∙ not-true _ c.if-not-places_for.true-raw)
 
 returns_4 : tie.Need-returns-then-given-ne-LENGTH
 returns_4 c =
@@ -76,16 +76,16 @@ returns_4 c =
 
 slice_aggregate_judge_lines_given : tie.Need-slice_bounds-judge_lines_given-end
 unfolding list_in
-slice_aggregate_judge_lines_given c = sym (long4 c.before)
+slice_aggregate_judge_lines_given c = sym (long4 c)
 
 judge_lines_given_requires : tie.Need-judge_lines_given-requires
 unfolding list_in
-judge_lines_given_requires c κs = (long4 c.before, c.before.before.before.before.if-lines-gt-LINES_MOST.false)
+judge_lines_given_requires c κs = (long4 c, c.if-lines-gt-LINES_MOST.false)
 
 returns_5 : tie.Need-returns
 unfolding list_in
 returns_5 c =
-    let met = c.before.before in
+    let met = c.before in
     let few = met.before.before.before in
     let s = start3 met.before in
     let list = list_in (bytes s) s.args.lines in

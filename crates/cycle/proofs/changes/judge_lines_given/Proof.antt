@@ -31,35 +31,35 @@ lines_told c e = subst (LinesTold (list c)) e c.judge_lines-told.ensures
 
 -- the lines' judgement, seen from behind the given line's reading
 abbrev falls : tie.After-line_tag → tie.After-judge_lines-told
-falls c = c.before.before.before.before
+falls c = c.before.before
 
 abbrev passes : tie.After-line_tag-in-Passed → tie.After-judge_lines-told
-passes c = c.before.before.before.before
+passes c = c.before.before
 
 returns : tie.Need-returns-then-line_tag-eq-MISPRINT
 returns c =
     let read = c.before in
     let call = falls read in
-    given_misprinted_lem (list call) (lines call) (given call) (lines_told call read.before.before.told-in-Falls-1.given.1).0
+    given_misprinted_lem (list call) (lines call) (given call) (lines_told call read.in-Falls.is).0
     (tag_none (read_line (given call)) (line_tag_small (given call)) read.line_tag.ensures c.if-line_tag-eq-MISPRINT.true)
 
 returns_2 : tie.Need-returns-then-line_tag-eq-MISPRINT-2
 returns_2 c =
     let read = c.before in
     let call = passes read in
-    given_misprinted_lem (list call) (lines call) (given call) (lines_told call read.before.before.told-in-Passed-1.given.1).0
+    given_misprinted_lem (list call) (lines call) (given call) (lines_told call read.in-Passed.is).0
     (tag_none (read_line (given call)) (line_tag_small (given call)) read.line_tag-in-Passed.ensures c.if-line_tag-eq-MISPRINT-2.true)
 
 returns_3 : tie.Need-returns-in-Misprinted
 returns_3 c =
-    let call = c.before.before.before in
-    list_misprinted (list call) (lines call) (given call) _ (lines_told call c.before.told-1.given.1)
+    let call = c.before in
+    list_misprinted (list call) (lines call) (given call) _ (lines_told call c.in-Misprinted.is)
 
 returns_4 : tie.Need-returns-else-line_tag-eq-MISPRINT
 returns_4 c =
     let read = c.before in
     let call = falls read in
-    let told = lines_told call read.before.before.told-in-Falls-1.given.1 in
+    let told = lines_told call read.in-Falls.is in
     list_falls (list call) (lines call) (given call) told.0
     (ap taken (tag_found (read_line (given call)) read.line_tag.ensures c.if-line_tag-eq-MISPRINT.false).1) _ told.1
 
@@ -67,7 +67,7 @@ returns_5 : tie.Need-returns-else-line_tag-eq-MISPRINT-2
 returns_5 c =
     let read = c.before in
     let call = passes read in
-    let told = lines_told call read.before.before.told-in-Passed-1.given.1 in (
+    let told = lines_told call read.in-Passed.is in (
       lines_passed (list call) (lines call) (given call) told.0
           (ap taken (tag_found (read_line (given call)) read.line_tag-in-Passed.ensures c.if-line_tag-eq-MISPRINT-2.false).1) told.1,
       told.2,

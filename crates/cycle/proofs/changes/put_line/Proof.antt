@@ -11,8 +11,8 @@ returns c =
     let copied = c.before.before in
     let opened = copied.before.before.before.before in
     let s = opened.before.before.before.before in
-    line_in s.args.list.now s.args.at s.args.end s.args.line.now opened.open_place.new.0
-    copied.copy_columns.new.0
+    line_in s.args.list.now s.args.at s.args.end s.args.line.now opened.open_place.new.list
+    copied.copy_columns.new.part
     s.requires.0
     s.requires.1
     s.requires.2

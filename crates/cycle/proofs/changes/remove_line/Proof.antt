@@ -10,11 +10,11 @@ returns : tie.Need-returns
 returns c =
     let blanked = c.before.before in
     let closed = blanked.before.before.before.before in
-    let s = closed.before.before.before in
-    line_out s.args.list.now s.args.at s.args.end closed.close_place.new.0 blanked.print_blanks.new.0
+    let s = closed in
+    line_out s.args.list.now s.args.at s.args.end closed.close_place.new.list blanked.print_blanks.new.part
     s.requires.0
     s.requires.1
-    closed.close_place.auto.0
+    closed.close_place.auto.list
     closed.close_place.ensures
     blanked.print_blanks.ensures
 

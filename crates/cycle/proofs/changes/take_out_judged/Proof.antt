@@ -61,17 +61,17 @@ slice_first_equal c = (known c.before.before.before).places
 
 length_first_equal : tie.Need-slice_bounds-first_equal-end-2
 length_first_equal c =
-    let s = c.before.before.before.before in
+    let s = c.before.before.before in
     sym (length-take-le (line_length * s.args.lines) (bytes s) (known s).places)
 
 first_equal_requires : tie.Need-first_equal-place-requires
 first_equal_requires c κs =
-    let s = c.before.before.before.before.before.before in
+    let s = c.before.before.before.before.before in
     (length-take-le (line_length * s.args.lines) (bytes s) (known s).places, (known s).few)
 
 -- the entry, seen from behind the search
 abbrev start : tie.After-first_equal-place → tie.Start
-start c = c.before.before.before.before.before.before.before
+start c = c.before.before.before.before.before.before
 
 module _ (c : tie.After-first_equal-place) where
   abbrev s : tie.Start
@@ -85,7 +85,7 @@ module _ (c : tie.After-first_equal-place) where
   found =
       c.first_equal-place.ensures
       ∙ ap (λ l. place_or s.args.lines (first_from (same_numbers l) 0 (list_lines (take (line_length * s.args.lines) (bytes s)))))
-      (c.before.spelled_line.ensures ∙ spelled_part (line s) 0)
+      (c.spelled_line.ensures ∙ spelled_part (line s) 0)
 
   low : place ≤ s.args.lines
   low = place_within (line s) (former s) s.args.lines (known s).listed place found
@@ -134,31 +134,31 @@ judged_list : (c : tie.After-judge_room-judged) → let s = start1 c.before.befo
 judged_list c =
     let e1 = c.before.before in
     let s = start1 e1 in
-    let told = c.before.figures_of.ensures in
+    let told = c.figures_of.ensures in
     sym
     (c.judge_room-judged.ensures
     ∙ figures_judged (set s) (change s).list (room s) (s.args.lines - 1) (known s).settings (few e1) (listed e1)
-    c.before.figures_of.result told.0 told.1)
+    c.figures_of.result told.0 told.1)
 
 returns_2 : tie.Need-returns-in-Refused
 returns_2 c =
-    let call = c.before.before.before in
+    let call = c.before in
     let e1 = call.before.before in
     let s = start1 e1 in
     change_refused (set s) (bytes s) s.args.lines (line s) (change s) (room s) _ _ s.args.out.now
     (judged_refused (set s) (bytes s) s.args.lines (line s) (change s) (room s) s.requires.0 (free e1) (s.args.lines - 1) (known s).settings
-    (few e1) (listed e1) _ _ (judged_list call ∙ c.before.judged-1.given.1))
+    (few e1) (listed e1) _ _ (judged_list call ∙ c.in-Refused.is))
 
 -- ---- the line is removed
 
 abbrev else1 : tie.In-Cycle → tie.Else-place-lines
-else1 c = c.before.before.before.before.before
+else1 c = c.before.before.before
 
 abbrev made : tie.In-Cycle → Figures
-made c = c.before.judged-in-Cycle-1.given.0.0
+made c = c.in-Cycle.f
 
 figured : (c : tie.In-Cycle) → let s = start1 (else1 c) in judge (set s) (change s).list (room s) ≡ Judged.Cycle (made c)
-figured c = judged_list c.before.before.before ∙ c.before.judged-in-Cycle-1.given.1
+figured c = judged_list c.before ∙ c.in-Cycle.is
 
 within : (c : tie.Else-place-lines) → line_length * place c.before + line_length ≤ line_length * (start1 c).args.lines
 within c =
@@ -177,7 +177,7 @@ abbrev told2 : tie.After-remove_line → tie.In-Cycle
 told2 c = c.before.before
 
 changed : (c : tie.After-remove_line) → let s = start1 (else1 (told2 c)) in
-    take (line_length * s.args.lines - line_length) c.remove_line.new.0 ≡ (change s).list
+    take (line_length * s.args.lines - line_length) c.remove_line.new.list ≡ (change s).list
 changed c =
     let e1 = else1 (told2 c) in
     let s = start1 e1 in
@@ -185,19 +185,19 @@ changed c =
     ∙ gone_front (bytes s) s.args.lines (line s) (known s).places (known s).listed (place e1.before) (found e1.before) (inside e1)
 
 roomy : (c : tie.After-remove_line) → let s = start1 (else1 (told2 c)) in
-    line_length * s.args.lines - line_length ≤ length c.remove_line.new.0
-roomy c = omega (arith, (known (start1 (else1 (told2 c)))).places, c.remove_line.auto.0)
+    line_length * s.args.lines - line_length ≤ length c.remove_line.new.list
+roomy c = omega (arith, (known (start1 (else1 (told2 c)))).places, c.remove_line.auto.list)
 
 slice_send : tie.Need-slice_bounds-send-end
 slice_send c = roomy c.before.before
 
 length_send : tie.Need-slice_bounds-send-end-in-Cycle
-length_send c = sym (length-take-le _ c.before.before.before.remove_line.new.0 (roomy c.before.before.before))
+length_send c = sym (length-take-le _ c.remove_line.new.list (roomy c.before.before))
 
 send_requires : tie.Need-send-requires
 unfolding departure
 send_requires c κs =
-    let gone = c.before.before.before.before in
+    let gone = c.before.before.before in
     let told = told2 gone in
     let s = start1 (else1 told) in
     let sent = sending_judged (set s) (change s).list (room s) (made told) (figured told) in (
@@ -209,7 +209,7 @@ send_requires c κs =
 returns_3 : tie.Need-returns-in-Cycle
 returns_3 c =
     let call = c.before.before in
-    let gone = call.before.before.before.before.before in
+    let gone = call.before.before.before.before in
     let told = told2 gone in
     let e1 = else1 told in
     let s = start1 e1 in
@@ -233,8 +233,8 @@ take_out_judged_spec =
     length_first_equal
     (λ c. search rules)
     (λ c. search rules)
-    (λ c. omega (arith, (known c.before.before.before.before).long))
-    (λ c κs. length-take-le 26 (line c.before.before.before.before.before) (omega (arith, (known c.before.before.before.before.before).long)))
+    (λ c. omega (arith, (known c.before.before.before).long))
+    (λ c κs. length-take-le 26 (line c.before.before.before.before) (omega (arith, (known c.before.before.before.before).long)))
     first_equal_requires
     (λ c. search rules)
     returns

@@ -42,7 +42,7 @@ start3 c = start1 c.before.before
 -- what does not hold, at each place
 tested : (c : tie.After-settings_fit) → settings_fit (set c.before.before) ≡ c.settings_fit.result
 tested c =
-    let s = c.before.before in
+    let s = c in
     any_copies s.args.n s.args.p s.args.layout 0 s.args.copies ∙ sym c.settings_fit.ensures
 
 fit1 : (c : tie.Else-not-settings_fit) → settings_fit (set (start1 c)) ≡ true
@@ -52,7 +52,7 @@ fit3 : (c : tie.Else-lines-gt-LINES_MOST) → settings_fit (set (start3 c)) ≡ 
 fit3 c = fit1 c.before.before
 
 whole3 : (c : tie.Else-lines-gt-LINES_MOST) → whole_lines (length (bytes (start3 c))) ≡ true
-whole3 c = lines_fit (length (bytes (start3 c))) c.before.if-length-ne0.false (omega (arith, c.if-lines-gt-LINES_MOST.false))
+whole3 c = lines_fit (length (bytes (start3 c))) c.if-length-ne0.false (omega (arith, c.if-lines-gt-LINES_MOST.false))
 
 -- what was found of the lines
 lines_told : (c : tie.After-judge_lines-told) {r : LinesJudged} → c.judge_lines-told.result ≡ r → LinesTold (bytes (start3 c.before)) r
@@ -74,14 +74,14 @@ returns c =
     let met = c.before.before in
     let s = met.before.before in
     refuses s c.refused.ensures
-    (refused_1 (set s) (bytes s) s.args.room (tested met ∙ not-true _ c.before.if-not-settings_fit.true-raw))
+    (refused_1 (set s) (bytes s) s.args.room (tested met ∙ not-true _ c.if-not-settings_fit.true-raw))
 
 returns_2 : tie.Need-returns-then-length-ne0
 returns_2 c =
     let met = c.before.before in
     let s = start1 met in
     refuses s c.refused-then-length-ne0.ensures
-    (refused_2 (set s) (bytes s) s.args.room (fit1 met) (no_multiple (length (bytes s)) c.before.if-length-ne0.true))
+    (refused_2 (set s) (bytes s) s.args.room (fit1 met) (no_multiple (length (bytes s)) c.if-length-ne0.true))
 
 returns_3 : tie.Need-returns-then-lines-gt-LINES_MOST
 returns_3 c =
@@ -89,29 +89,29 @@ returns_3 c =
     let s = start1 met.before in
     refuses s c.refused-then-lines-gt-LINES_MOST.ensures
     (refused_2 (set s) (bytes s) s.args.room (fit1 met.before)
-    (too_long (length (bytes s)) met.if-length-ne0.false (omega (arith, c.before.if-lines-gt-LINES_MOST.true))))
+    (too_long (length (bytes s)) met.if-length-ne0.false (omega (arith, c.if-lines-gt-LINES_MOST.true))))
 
 figures_of_requires : tie.Need-figures_of-requires
 figures_of_requires c κs =
-    let e3 = c.before.before.before.before in
-    (Accepted.settings_fit_lem (set (start3 e3)) (fit3 e3), omega (arith, e3.if-lines-gt-LINES_MOST.false))
+    let e3 = c.before.before in
+    (Accepted.settings_fit_lem (set (start3 e3)) (fit3 e3), omega (arith, e3.if-not-settings_fit.false))
 
 returns_4 : tie.Need-returns-in-Misprinted
 returns_4 c =
-    let found = c.before.before in
-    let call = found.before.before in
+    let found = c.before in
+    let call = found.before in
     let e3 = call.before in
     let s = start3 e3 in
     refuses s c.refused-in-Misprinted.ensures
-    (refused_3 (set s) (bytes s) s.args.room (fit3 e3) (whole3 e3) _ (lines_told call found.told.given.1))
+    (refused_3 (set s) (bytes s) s.args.room (fit3 e3) (whole3 e3) _ (lines_told call found.in-Misprinted.is))
 
 returns_5 : tie.Need-returns-in-Falls
 returns_5 c =
-    let found = c.before.before in
-    let call = found.before.before in
+    let found = c.before in
+    let call = found.before in
     let e3 = call.before in
     let s = start3 e3 in
-    let lines = lines_told call found.told-in-Falls-1.given.1 in
+    let lines = lines_told call found.in-Falls.is in
     refuses s c.refused-in-Falls.ensures
     (refused_4 (set s) (bytes s) s.args.room (fit3 e3) (whole3 e3) _ lines.0 lines.1)
 
@@ -119,12 +119,12 @@ returns_5 c =
 returns_6 : tie.Need-returns-in-Passed
 returns_6 c =
     let made = c.before in
-    let found = made.before.before in
-    let call = found.before.before in
+    let found = made.before in
+    let call = found.before in
     let e3 = call.before in
     let s = start3 e3 in
     let list = bytes s in
-    let risen = lines_told call found.told-in-Passed-1.given.1 in
+    let risen = lines_told call found.in-Passed.is in
     let told = made.figures_of.ensures in
     let lines = told.1 ∙ sym (length_list_lines list) in (
       ap Judging.numbers

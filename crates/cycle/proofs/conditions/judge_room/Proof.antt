@@ -25,20 +25,20 @@ whole s = sized s.args.f (cycle_size (planned s))
 -- ---- the figures pass 5 and 6
 
 abbrev call : tie.In-Cycle → tie.After-judge_figures-judged
-call c = c.before.before.before
+call c = c.before
 
 abbrev made : tie.In-Cycle → Figures
-made c = c.before.judged-in-Cycle-1.given.0.0
+made c = c.in-Cycle.sized
 
 passed :
     (c : tie.In-Cycle) →
     (first_refusal (size_conditions (planned (call c).before)) ≡ none) × (whole (call c).before ≡ made c)
 passed c =
     judged_cycle (first_refusal (size_conditions (planned (call c).before))) (whole (call c).before) (made c)
-    (sym (call c).judge_figures-judged.ensures ∙ c.before.judged-in-Cycle-1.given.1)
+    (sym (call c).judge_figures-judged.ensures ∙ c.in-Cycle.is)
 
 size_is : (c : tie.In-Cycle) → (made c).size ≡ cycle_size (planned (call c).before)
-size_is c = sym (ap (λ (g : Figures). g.size) (passed c).1) ∙ size_held (call c).before.args.f _
+size_is c = sym (ap (λ (g : Figures). g.size) (passed c).1) ∙ size_held (call c).args.f _
 
 mul_if1 : tie.Need-overflow_mul-sized
 mul_if1 c =
@@ -54,12 +54,12 @@ returns c =
 
 returns_2 : tie.Need-returns-in-Refused
 returns_2 c =
-    let figures = c.before.before.before in
+    let figures = c.before in
     let s = figures.before in
     refusal_judged _ _ _ (whole s)
     (refused_before_7 (planned s) s.args.room _
     (judged_refusal (first_refusal (size_conditions (planned s))) (whole s) _ _
-    (sym figures.judge_figures-judged.ensures ∙ c.before.judged-1.given.1)))
+    (sym figures.judge_figures-judged.ensures ∙ c.in-Refused.is)))
 
 returns_3 : tie.Need-returns-else-room-sized
 returns_3 c =

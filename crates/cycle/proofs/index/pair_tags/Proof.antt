@@ -28,13 +28,13 @@ bounds c = few_copies c.args.f c.requires.0 c.requires.3
 
 loop_holds : tie.Need-loop-level-init invariant-loop-level decreases-loop-level
 unfolding filled
-loop_holds c = (omega arith, omega (arith, c.before.requires.4), refl)
+loop_holds c = (omega arith, omega (arith, c.requires.4), refl)
 
 add_h : tie.Need-overflow_add-h invariant-loop-level decreases-loop-level
 add_h c = omega (arith, (bounds c.before.before.before.before).0)
 
 sub_h : tie.Need-overflow_sub-h invariant-loop-level decreases-loop-level
-sub_h c = omega (arith, c.before.before.before.before.requires.5)
+sub_h c = omega (arith, c.requires.5)
 
 add_e : tie.Need-overflow_add-e invariant-loop-level decreases-loop-level
 add_e c = omega (arith, (bounds c.before.before.before.before.before).2)
@@ -52,14 +52,14 @@ power_requires c κs =
 
 div_largest_tag : tie.Need-nonzero_div-b invariant-loop-level decreases-loop-level
 div_largest_tag c =
-    let s = c.before.before.before.before.before.before in
-    power_some s.args.f s.requires.0 s.requires.3 c.before.before.before.before.loop-level.level (omega arith) (omega (arith, s.requires.5)) c.power.result c.power.ensures
+    let s = c in
+    power_some s.args.f s.requires.0 s.requires.3 c.loop-level.level (omega arith) (omega (arith, s.requires.5)) c.power.result c.power.ensures
 
 largest_tag_requires : tie.Need-largest_tag-requires invariant-loop-level decreases-loop-level
 largest_tag_requires c κs =
-    let s = c.before.before.before.before.before.before in
+    let s = c in
     let f = s.args.f in
-    let level : ℕ = c.before.before.before.before.loop-level.level in
+    let level : ℕ = c.loop-level.level in
     let low : 1 ≤ level = omega arith in
     let high : level ≤ f.copies + 1 = omega (arith, s.requires.5) in (
       s.requires.0,
@@ -85,7 +85,7 @@ loop_again : tie.Need-loop-level-preserved invariant-loop-level decreases-loop-l
 unfolding plan_in
 loop_again c =
     let s = c.before.before.before.before.before.before.before in
-    let l = c.before.before.before.before.before.loop-level in
+    let l = c.loop-level in
     let f = s.args.f in
     let t = plan_in f s.args.source s.args.text.now in
     let level : ℕ = l.level in
@@ -96,15 +96,15 @@ loop_again c =
           (c.largest_tag.ensures
           ∙ ap₂ (largest_tag t) same
           (place_over_lem f s.requires.0 s.requires.3 level (omega arith) (omega (arith, s.requires.5)) (lines_held f s.args.source s.args.text.now) s.args.b
-          c.before.power.result c.before.power.ensures))
+          c.power.result c.power.ensures))
           (omega arith) (omega (arith, (bounds s).0, s.requires.5)),
     )
 
 returns : tie.Need-returns invariant-loop-level decreases-loop-level
 unfolding pair_tags
 returns c =
-    let s = c.before.before.before in
-    let l = c.before.loop-level in
+    let s = c in
+    let l = c.loop-level in
     let t = plan_in s.args.f s.args.source s.args.text.now in
     let all : l.level ≡ s.args.i + 1 = omega arith in
     l.invariant.2

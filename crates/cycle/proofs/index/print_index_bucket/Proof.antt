@@ -32,7 +32,7 @@ put_entries_requires : tie.Need-put_entries-requires
 put_entries_requires c κs =
     let b = c.before.before.before in
     let s = begun b in (
-      b.start_index.auto.0 ∙ s.requires.0,
+      b.start_index.auto.part ∙ s.requires.0,
       (
         started_blank _ (eqb s.args.s.first 0) s.args.pairs s.args.tags.now s.args.distances.now _ s.requires.1.1.1.1.1.0 b.start_index.ensures,
         (s.requires.1.0, (s.requires.1.1.0, s.requires.1.1.1.0)),
@@ -48,7 +48,7 @@ returns c =
     ∙ ap (λ d. put d entries_start (joined print_entry (child_entries s.args.f s.args.source s.args.text.now s.args.e s.args.j s.args.x s.args.count)))
     (b.start_index.ensures
     ∙ ap (λ h. padded bucket_end (index_front h (pairs_of (eqb s.args.s.first 0) (take s.args.pairs (entries_of s.args.tags.now s.args.distances.now))) s.args.count) ++ newline ∷ [])
-    b.before.before.head_at.ensures)
+    b.head_at.ensures)
 
 pub print_index_bucket_spec : {M : Type 1} → statement M
 print_index_bucket_spec =

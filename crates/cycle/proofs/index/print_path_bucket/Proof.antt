@@ -92,7 +92,7 @@ print_index_bucket_requires : tie.Need-print_index_bucket-requires
 print_index_bucket_requires c κs =
     let s = start c in
     let w = printing s in
-    let tags = filled_wide pairs_most _ (paired c).before.pair_tags-tags.ensures in
+    let tags = filled_wide pairs_most _ (paired c).pair_tags-tags.ensures in
     let distances = filled_wide pairs_most _ (paired c).pair_distances-distances.ensures in
     let sits = seated s.args.f s.args.s w.ready w.placed in (
       s.requires.0,
@@ -117,7 +117,7 @@ returns c =
     let b = put.before in
     let s = start b in
     let t = paired b in
-    path_printed (printing s) (on_path_lem s) (over (counted b).before) t.before.before.last_sent_tag-first.ensures t.before.pair_tags-tags.ensures t.pair_distances-distances.ensures
+    path_printed (printing s) (on_path_lem s) (over (counted b).before) t.last_sent_tag-first.ensures t.pair_tags-tags.ensures t.pair_distances-distances.ensures
     _ _ _ _ refl (counted b).child_count-count.ensures refl put.print_index_bucket.ensures
 
 pub print_path_bucket_spec : {M : Type 1} → statement M

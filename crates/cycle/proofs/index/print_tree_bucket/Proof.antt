@@ -28,8 +28,8 @@ tagged c = c.before.before.before.before
 abbrev start : tie.After-distances-1 → tie.Start
 start c = (tagged c).before.before.before.before
 
-few_there : (c : tie.After-distances-1) → (tagged c).before.tree_pairs-pairs.result ≤ 1
-few_there c = one_at_most (eqb (start c).args.f.layout 2) (eqb (start c).args.e (start c).args.f.k) (tagged c).before.tree_pairs-pairs.ensures
+few_there : (c : tie.After-distances-1) → (tagged c).tree_pairs-pairs.result ≤ 1
+few_there c = one_at_most (eqb (start c).args.f.layout 2) (eqb (start c).args.e (start c).args.f.k) (tagged c).tree_pairs-pairs.ensures
 
 print_index_bucket_requires : tie.Need-print_index_bucket-requires
 print_index_bucket_requires c κs =
@@ -46,7 +46,7 @@ returns c =
     let put = c.before.before in
     let s = start put.before in
     let t = tagged put.before in
-    tree_printed s.requires.1.0 s.requires.1.1.0 t.before.tree_pairs-pairs.ensures t.first_tag_lem.ensures
+    tree_printed s.requires.1.0 s.requires.1.1.0 t.tree_pairs-pairs.ensures t.first_tag.ensures
     _ _ _ _ refl s.requires.1.1.1 refl put.print_index_bucket.ensures
 
 pub print_tree_bucket_spec : {M : Type 1} → statement M
@@ -55,7 +55,7 @@ print_tree_bucket_spec =
     (tie.spec
     (λ c κs. tt)
     first_tag_requires
-    (λ c. let s = c.before.before.before.before.before in omega (arith, (tree_place s.requires.1.0 s.requires.1.1.0).below))
+    (λ c. let s = c in omega (arith, (tree_place s.requires.1.0 s.requires.1.1.0).below))
     (λ c. search rules)
     (λ c. search rules)
     print_index_bucket_requires

@@ -58,27 +58,27 @@ start c = c.before.before.before.before.before.before
 abbrev turn : tie.In-loop-i invariant-loop-i decreases-loop-i → Start
 turn c = start c.before
 
-child : (c : tie.In-loop-i invariant-loop-i decreases-loop-i) → c.before.loop-i.i < length (children (plan_of (turn c).args.f []) ((turn c).args.f.k + 1 - (turn c).args.e) (turn c).args.j)
+child : (c : tie.In-loop-i invariant-loop-i decreases-loop-i) → c.loop-i.i < length (children (plan_of (turn c).args.f []) ((turn c).args.f.k + 1 - (turn c).args.e) (turn c).args.j)
 child c = omega (arith, (turn c).requires.1.1.1.1, c.loop-i-test.true)
 
 tag_place_requires : tie.Need-tag_place-from-requires invariant-loop-i decreases-loop-i
 tag_place_requires c κs =
     let s = turn c in
-    ((printing s).ready, ((printing s).placed, place_asked (printing s) (place s) (child c) c.before.before.before.before.power-span.ensures))
+    ((printing s).ready, ((printing s).placed, place_asked (printing s) (place s) (child c) c.power-span.ensures))
 
 child_distance_requires : tie.Need-child_distance-distance-requires invariant-loop-i decreases-loop-i
 child_distance_requires c κs =
     let t = c.before in
     let s = turn t in
-    ((printing s).ready, ((printing s).placed, (place s, (t.before.before.before.full_size-full.ensures, child t))))
+    ((printing s).ready, ((printing s).placed, (place s, (t.full_size-full.ensures, child t))))
 
 put_entry_requires : tie.Need-put_entry-requires invariant-loop-i decreases-loop-i
 put_entry_requires c κs =
     let g = c.before.before in
     let t = g.before in
     let s = turn t in
-    let l = t.before.loop-i in
-    let power = t.before.before.before.before.power-span.ensures in (
+    let l = t.loop-i in
+    let power = t.power-span.ensures in (
       columns_wide (printing s) (place s) s.args.part.now s.requires.0 l.i l.invariant.1 (omega (arith, child t)),
       (
         few_left (printing s) (place s) (child t),
@@ -99,23 +99,23 @@ loop_again : tie.Need-loop-i-preserved invariant-loop-i decreases-loop-i
 loop_again c =
     let t = turn2 c in
     let s = turn t in
-    let d = c.before.before.before.before in
-    let l = t.before.loop-i in (
+    let d = c in
+    let l = t.loop-i in (
       omega (arith, t.loop-i-test.true),
       one_entry (printing s) (place s) s.args.part.now s.requires.0 l.i l.invariant.1 (child t)
-          t.before.before.before.before.power-span.ensures d.before.tag_place-from.ensures d.child_distance_lem.ensures c.before.before.put_entry.ensures,
+          t.power-span.ensures d.tag_place-from.ensures d.child_distance-distance.ensures c.put_entry.ensures,
     )
 
 same_length : tie.Need-shape_of-part invariant-loop-i decreases-loop-i
 same_length c =
     let s = start c.before in
-    let l = c.before.loop-i in
+    let l = c.loop-i in
     columns_wide (printing s) (place s) s.args.part.now s.requires.0 l.i l.invariant.1 (omega (arith, l.invariant.0, s.requires.1.1.1.1)) ∙ sym s.requires.0
 
 returns : tie.Need-returns invariant-loop-i decreases-loop-i
 returns c =
     let s = start c.before in
-    let l = c.before.loop-i in
+    let l = c.loop-i in
     let all : l.i ≡ s.args.count = omega (arith, l.invariant.0, c.loop-i-test.false) in
     l.invariant.1 ∙ ap (columns_to s.args.f s.args.source s.args.text.now s.args.e s.args.j s.args.x s.args.part.now) all
 

@@ -61,20 +61,20 @@ unfolding InTree
 tree_size_requires c κs =
     let call = c.before.before.before in
     let k = known call in
-    (call.before.requires.0, k.low, (k.high, rw (root c) (last_starts call.before.args.f.d (call.before.args.f.n ^ call.tree_height_lem.result) k.span_low)))
+    (call.before.requires.0, k.low, (k.high, rw (root c) (last_starts call.before.args.f.d (call.before.args.f.n ^ call.tree_height-e.result) k.span_low)))
 
 returns : tie.Need-returns
 unfolding plan_of last_tree sized
 returns c =
     let call = c.before.before.before.before in
     let f = call.before.args.f in
-    let e = call.tree_height_lem.ensures in
+    let e = call.tree_height-e.ensures in
     let t = plan_of f [] in
     let span : c.before.before.before.power-span.result ≡ f.n ^ tree_height t = c.before.before.before.power-span.ensures ∙ ap (λ h. f.n ^ h) e in
     let full : c.before.before.full_size-full.result ≡ full_size f.n (tree_height t) = c.before.before.full_size-full.ensures ∙ ap (λ h. full_size f.n h) e in
     let last : c.tree_size-last.result ≡ last_tree t =
     c.tree_size-last.ensures
-    ∙ ap (λ j. length (tree_at t call.tree_height_lem.result j)) (root c.before)
+    ∙ ap (λ j. length (tree_at t call.tree_height-e.result j)) (root c.before)
     ∙ ap (λ h. length (tree_at t h (last_place f.d (f.n ^ h)))) e in
     λ i. with_trees f f.size (span i) (full i) (last i)
 

@@ -10,14 +10,14 @@ use Rattle.cycle.proofs.places.image_place.Tie as tie
 
 segment_place_requires : tie.Need-segment_place-requires
 segment_place_requires c κs =
-    let p = c.before.before.before.before.requires in
-    (p.0, (p.1.0, (c.before.before.if-f-eq1.true, (p.1.1.0, p.1.1.1.1 c.if-span-f.true))))
+    let p = c.requires in
+    (p.0, (p.1.0, (c.if-f-eq1.true, (p.1.1.0, p.1.1.1.1 c.if-span-f.true))))
 
 returns_2 : tie.Need-returns
 unfolding tag_place
 returns_2 c =
-    let s = c.before.before.before.before in
-    c.line_place.ensures ∙ ap (line_at (plan_of s.args.f []) InImage) c.before.last_line.ensures.1
+    let s = c in
+    c.line_place.ensures ∙ ap (line_at (plan_of s.args.f []) InImage) c.last_line.ensures.1
 
 pub image_place_spec : {M : Type 1} → statement M
 image_place_spec =

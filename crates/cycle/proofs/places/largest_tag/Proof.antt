@@ -10,22 +10,22 @@ use Rattle.cycle.proofs.places.largest_tag.Tie as tie
 
 power_requires : tie.Need-power-requires
 power_requires c κs =
-    let start = c.before in
+    let start = c in
     let s = start.requires.0.shaped in
     (s.n_low, s.n_high, (reached start.args.f start.args.e start.args.j s start.requires.2).height)
 
 last_line_requires : tie.Need-last_line-requires
 last_line_requires c κs =
-    let start = c.before.before in
+    let start = c in
     (start.requires.0, (start.requires.1, record { height = start.args.e; power = c.power.ensures; inside = start.requires.2 }))
 
 returns : tie.Need-returns
 returns c =
-    let start = c.before.before.before.before in
+    let start = c in
     let f = start.args.f in
     c.tag_of.ensures
     ∙ ap (tag_at f start.args.source start.args.text.now)
-    (c.before.last_line.ensures.1 ∙ ap (λ m. min f.lines ((start.args.j + 1) * m * f.p) - 1) c.before.before.power.ensures)
+    (c.last_line.ensures.1 ∙ ap (λ m. min f.lines ((start.args.j + 1) * m * f.p) - 1) c.power.ensures)
     ∙ sym
     (largest_tag_lem f start.args.e start.args.j start.requires.0.shaped start.requires.1 start.requires.2 start.args.source
     start.args.text.now)
@@ -35,5 +35,5 @@ largest_tag_spec = tie.close
     (tie.spec
     power_requires
     last_line_requires
-    (λ c κs. let p = c.before.before.before.requires in (p.0, c.last_line.ensures.0, p.3))
+    (λ c κs. let p = c.requires in (p.0, c.last_line.ensures.0, p.3))
     returns)

@@ -13,7 +13,7 @@ use Rattle.cycle.proofs.places.line_place.Tie as tie
 
 data_place_requires : tie.Need-data_place-at-requires
 data_place_requires c κs =
-    let start = c.before.before.before in
+    let start = c in
     (start.requires.0, line_bucket start.args.f start.args.i start.requires.0.shaped start.requires.1)
 
 -- the position of the line's data bucket is within the cycle
@@ -25,32 +25,32 @@ bucket_place c =
 
 mul_result_2 : tie.Need-overflow_mul-result-in-Image
 mul_result_2 c =
-    let start = c.before.before.before.before in
+    let start = c.before.before.before in
     let place = bucket_place start in
     rw c.data_place-at.ensures (omega (arith, start.requires.0.size_high))
 
 mul_result_3 : tie.Need-overflow_mul-result-in-Image-2
 mul_result_3 c =
-    let start = c.before.before.before.before.before in
+    let start = c in
     omega (arith, line_column start.args.f start.args.i start.requires.0.shaped)
 
 add_result : tie.Need-overflow_add-result
 add_result c =
-    let start = c.before.before.before.before.before in
+    let start = c in
     omega (arith, line_column start.args.f start.args.i start.requires.0.shaped)
 
 add_result_2 : tie.Need-overflow_add-result-in-Image
 add_result_2 c =
-    let start = c.before.before.before.before.before in
+    let start = c.before.before.before.before in
     let f = start.args.f in
     let i = start.args.i in
     let column = line_column f i start.requires.0.shaped in
     let place = bucket_place start in
-    rw c.before.data_place-at.ensures (omega (arith, start.requires.0.size_high))
+    rw c.data_place-at.ensures (omega (arith, start.requires.0.size_high))
 
 returns_2 : tie.Need-returns-in-Image
 unfolding plan_of
-returns_2 c = rw (c.before.before.before.enum_told-in-Image-1.given.1, c.before.data_place-at.ensures)
+returns_2 c = rw (c.in-Image.is, c.data_place-at.ensures)
 
 pub line_place_spec : {M : Type 1} → statement M
 line_place_spec =
@@ -63,5 +63,5 @@ line_place_spec =
     mul_result_3
     add_result
     add_result_2
-    (λ c. rw c.enum_told.given.1)
+    (λ c. rw c.in-List.is)
     returns_2)

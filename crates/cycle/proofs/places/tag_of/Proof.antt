@@ -12,7 +12,7 @@ use Rattle.cycle.proofs.places.tag_of.Tie as tie
 
 spelled_tag_requires : tie.Need-spelled_tag-requires
 spelled_tag_requires c κs =
-    let start = c.before.before in
+    let start = c in
     rw c.line_place-at.ensures
     (line_fits start.args.f start.args.source start.args.i (length start.args.text.now) start.requires.0 start.requires.1 start.requires.2)
 
@@ -20,7 +20,7 @@ returns : tie.Need-returns
 unfolding tag_at
 returns c =
     c.spelled_tag.ensures
-    ∙ ap (λ x. value 0 (take tag_width (drop x c.before.before.before.args.text.now))) c.before.line_place-at.ensures
+    ∙ ap (λ x. value 0 (take tag_width (drop x c.args.text.now))) c.line_place-at.ensures
 
 pub tag_of_spec : {M : Type 1} → statement M
 tag_of_spec = tie.close

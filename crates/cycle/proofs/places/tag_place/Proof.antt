@@ -11,15 +11,15 @@ use Rattle.cycle.proofs.places.tag_place.Tie as tie
 returns : tie.Need-returns-in-List
 unfolding tag_place
 returns c =
-    let s = c.before.before.before.before in
+    let s = c in
     c.line_place.ensures
-    ∙ ap (line_at (plan_of s.args.f []) InList) c.before.last_line.ensures.1
-    ∙ ap (λ y. tag_place s.args.f y s.args.span s.args.j) (sym c.before.before.enum_told-1.given.1)
+    ∙ ap (line_at (plan_of s.args.f []) InList) c.last_line.ensures.1
+    ∙ ap (λ y. tag_place s.args.f y s.args.span s.args.j) (sym c.in-List.is)
 
 returns_2 : tie.Need-returns-in-Image
 returns_2 c =
-    let s = c.before.before.before in
-    c.image_place.ensures ∙ ap (λ y. tag_place s.args.f y s.args.span s.args.j) (sym c.before.enum_told-in-Image-1.given.1)
+    let s = c in
+    c.image_place.ensures ∙ ap (λ y. tag_place s.args.f y s.args.span s.args.j) (sym c.in-Image.is)
 
 pub tag_place_spec : {M : Type 1} → statement M
 tag_place_spec =

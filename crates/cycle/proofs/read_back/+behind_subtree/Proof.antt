@@ -12,43 +12,43 @@ use Rattle.cycle.specs.Inner.Comparing.{Matches}
 use Rattle.cycle.proofs.Basics.Deciding.{decides_not, decides_told, finds_none, finds_some}
 use Rattle.cycle.proofs.ReadingBack.Matching.{matches_one, matches_on, matches_at, matches_part, matches_to}
 use Rattle.cycle.proofs.Segmenting.Subtrees.{Behind, own_there, alone, first_fits, none_behind, child_place, child_fits, child_inside, next_behind, all_behind}
-use Rattle.cycle.proofs.read_back.behind_subtree-next.Reads as behind-subtree
-use Rattle.cycle.proofs.read_back.behind_subtree-next.Kinds as behind-subtree-kinds
-use Rattle.cycle.proofs.read_back.+behind_subtree.Lts-behind_subtree as behind-subtree-lts
-use Rattle.cycle.proofs.index.child_count-count.Reads as child-count-reads
-use Rattle.cycle.proofs.read_back.is_tree_bucket.Reads as is-tree-bucket-reads
+use Rattle.cycle.proofs.read_back.behind_subtree.Reads as behind_subtree_reads
+use Rattle.cycle.proofs.read_back.behind_subtree.Kinds as behind_subtree_kinds
+use Rattle.cycle.proofs.read_back.+behind_subtree.Lts-behind_subtree as behind_subtree_lts
+use Rattle.cycle.proofs.index.child_count.Reads as child_count_reads
+use Rattle.cycle.proofs.read_back.is_tree_bucket.Reads as is_tree_bucket_reads
 use Rattle.cycle.proofs.read_back.+behind_subtree.{statement}
 use Rattle.cycle.proofs.read_back.+behind_subtree.Tie.{close}
 
-abbrev μ_behind_subtree : Measures 1 behind-subtree-kinds.ps ℕ
+abbrev μ_behind_subtree : Measures 1 behind_subtree_kinds.ps ℕ
 μ_behind_subtree κs a = a.1.1.1.0
 
-abbrev behind_subtree_at : ℕ → In 1 behind-subtree-kinds.ps
+abbrev behind_subtree_at : ℕ → In 1 behind_subtree_kinds.ps
 behind_subtree_at t =
-    and 1 behind-subtree-kinds.ps (is 1 behind-subtree-kinds.ps μ_behind_subtree t) behind-subtree.Pre
+    and 1 behind_subtree_kinds.ps (is 1 behind_subtree_kinds.ps μ_behind_subtree t) behind_subtree_reads.Pre
 
-abbrev behind_subtree_below : ℕ → In 1 behind-subtree-kinds.ps
+abbrev behind_subtree_below : ℕ → In 1 behind_subtree_kinds.ps
 behind_subtree_below t =
-    and 1 behind-subtree-kinds.ps (falls 1 behind-subtree-kinds.ps ◌<◌ μ_behind_subtree t) behind-subtree.Pre
+    and 1 behind_subtree_kinds.ps (falls 1 behind_subtree_kinds.ps ◌<◌ μ_behind_subtree t) behind_subtree_reads.Pre
 
-abbrev behind_subtree_Inv_loop : behind-subtree-lts.invariant-loop
+abbrev behind_subtree_Inv_loop : behind_subtree_lts.invariant-loop-i
 behind_subtree_Inv_loop image f s e j x count next₀ below first i₀ next i =
     Behind f e j x count i next × Matches (plan_in f InImage image) image x next
 
-abbrev behind_subtree_μ_loop : behind-subtree-lts.decreases-loop
+abbrev behind_subtree_μ_loop : behind_subtree_lts.decreases-loop-i
 behind_subtree_μ_loop image f s e j x count next₀ below first i₀ next i = count - i
 
-pub +behind-subtree-spec : {M : Type 1} → statement M
-+behind-subtree-spec = close μ_behind_subtree λ t. behind-subtree-lts.spec (
-  child-count-reads.Asked,
-  child-count-reads.Learnt,
-  is-tree-bucket-reads.Asked,
-  is-tree-bucket-reads.Learnt,
+pub +behind_subtree_spec : {M : Type 1} → statement M
++behind_subtree_spec = close μ_behind_subtree λ t. behind_subtree_lts.spec (
+  child_count_reads.Asked,
+  child_count_reads.Learnt,
+  is_tree_bucket_reads.Asked,
+  is_tree_bucket_reads.Learnt,
   behind_subtree_below t,
-  behind-subtree.Post,
+  behind_subtree_reads.Post,
 )
     (behind_subtree_at t)
-    behind-subtree.Post
+    behind_subtree_reads.Post
     behind_subtree_Inv_loop
     behind_subtree_μ_loop
     -- child-count-requires
@@ -62,9 +62,9 @@ pub +behind-subtree-spec : {M : Type 1} → statement M
     let w = st.requires.1.0.comparing in
     let there = own_there w.holding.ready w.placed st.requires.1.1 in
     finds_none
-    ((decides_not c.if-not-is_tree_bucket.true-raw (matches_at st.args.x (omega arith) there.0) c.before.is_tree_bucket.ensures).no refl))
+    ((decides_not c.if-not-is_tree_bucket.true-raw (matches_at st.args.x (omega arith) there.0) c.is_tree_bucket.ensures).no refl))
     -- add-next
-    (λ c. let given = c.before.before.before.before.requires.1 in
+    (λ c. let given = c.requires.1 in
     let w = given.0.comparing in
     omega (arith, own_there w.holding.ready w.placed given.1))
     -- returns-2
@@ -72,55 +72,55 @@ pub +behind-subtree-spec : {M : Type 1} → statement M
     let st = told.before.before.before.before in
     let w = st.requires.1.0.comparing in
     let end = alone w.holding.ready w.placed st.requires.1.1 c.if-e-eq1.true in
-    finds_some (matches_to end (matches_one (decides_told told.if-not-is_tree_bucket.false-raw told.before.is_tree_bucket.ensures))) (st.args.x + 1) end (omega arith))
+    finds_some (matches_to end (matches_one (decides_told told.if-not-is_tree_bucket.false-raw told.is_tree_bucket.ensures))) (st.args.x + 1) end (omega arith))
     -- sub-below
-    (λ c. c.before.before.before.before.before.requires.1.1.low)
+    (λ c. c.requires.1.1.low)
     -- mul-first
-    (λ c. let given = c.before.before.before.before.before.before.requires.1 in
+    (λ c. let given = c.requires.1 in
     let w = given.0.comparing in
     first_fits w.holding.ready w.placed given.1)
     -- loop-holds
     (λ c. let told = c.before.before in
-    let given = told.before.before.before.before.requires.1 in
+    let given = told.requires.1 in
     let w = given.0.comparing in
-    (none_behind w.holding.ready w.placed given.1 told.before.before.child_count-count.ensures, matches_one (decides_told told.if-not-is_tree_bucket.false-raw told.before.is_tree_bucket.ensures)))
+    (none_behind w.holding.ready w.placed given.1 told.child_count-count.ensures, matches_one (decides_told told.if-not-is_tree_bucket.false-raw told.is_tree_bucket.ensures)))
     -- add-behind-subtree
-    (λ c. let loop = c.before in
-    let given = loop.before.before.before.before.before.before.before.requires.1 in
+    (λ c. let loop = c in
+    let given = loop.requires.1 in
     let w = given.0.comparing in
-    let count = loop.before.before.before.before.before.child_count-count.ensures in
-    child_fits w.holding.ready w.placed given.1 count loop.loop-i.invariant.0 loop.before.before.if-e-eq1.false c.loop-i-test.true)
+    let count = loop.child_count-count.ensures in
+    child_fits w.holding.ready w.placed given.1 count loop.loop-i.invariant.0 loop.if-e-eq1.false c.loop-i-test.true)
     -- behind-subtree-requires
-    (λ c κs. let loop = c.before in
-    let st = loop.before.before.before.before.before.before.before in
+    (λ c κs. let loop = c in
+    let st = loop in
     let w = st.requires.1.0.comparing in
-    let count = loop.before.before.before.before.before.child_count-count.ensures in
-    let place = child_place w.holding.ready w.placed st.requires.1.1 count loop.loop-i.invariant.0 loop.before.before.if-e-eq1.false c.loop-i-test.true in
+    let count = loop.child_count-count.ensures in
+    let place = child_place w.holding.ready w.placed st.requires.1.1 count loop.loop-i.invariant.0 loop.if-e-eq1.false c.loop-i-test.true in
     (omega (arith, st.requires.0, st.requires.1.1.low), (st.requires.1.0, place)))
     -- returns-3
-    (λ c. let turn = c.before.before in
+    (λ c. let turn = c in
     let loop = turn.before in
-    let given = loop.before.before.before.before.before.before.before.requires.1 in
+    let given = loop.requires.1 in
     let w = given.0.comparing in
-    let count = loop.before.before.before.before.before.child_count-count.ensures in
-    let fits = child_inside w.holding.ready w.placed given.1 count loop.loop-i.invariant.0 loop.before.before.if-e-eq1.false turn.loop-i-test.true in
-    finds_none (λ whole. c.before.behind_subtree-next.ensures.none c.if-next-eq0.true (matches_part _ _ (omega (arith, loop.loop-i.invariant.0)) fits whole)))
+    let count = loop.child_count-count.ensures in
+    let fits = child_inside w.holding.ready w.placed given.1 count loop.loop-i.invariant.0 loop.if-e-eq1.false turn.loop-i-test.true in
+    finds_none (λ whole. c.behind_subtree-next.ensures.none c.if-next-eq0.true (matches_part _ _ (omega (arith, loop.loop-i.invariant.0)) fits whole)))
     -- add-i
-    (λ c. omega (arith, c.before.before.loop-i-test.true))
+    (λ c. omega (arith, c.loop-i-test.true))
     -- loop-less
-    (λ c. omega (arith, c.before.before.loop-i-test.true))
+    (λ c. omega (arith, c.loop-i-test.true))
     -- loop-again
-    (λ c. let turn = c.before.before in
+    (λ c. let turn = c in
     let loop = turn.before in
-    let given = loop.before.before.before.before.before.before.before.requires.1 in
+    let given = loop.requires.1 in
     let w = given.0.comparing in
-    let count = loop.before.before.before.before.before.child_count-count.ensures in
-    let told = c.before.behind_subtree-next.ensures.found c.if-next-eq0.false in
+    let count = loop.child_count-count.ensures in
+    let told = c.behind_subtree-next.ensures.found c.if-next-eq0.false in
     (next_behind w.holding.ready w.placed given.1 count loop.loop-i.invariant.0 turn.loop-i-test.true told.1, matches_to (sym told.1) (matches_on loop.loop-i.invariant.1 told.0)))
     -- returns-4
-    (λ c. let loop = c.before in
-    let given = loop.before.before.before.before.before.before.before.requires.1 in
+    (λ c. let loop = c in
+    let given = loop.requires.1 in
     let w = given.0.comparing in
-    let count = loop.before.before.before.before.before.child_count-count.ensures in
+    let count = loop.child_count-count.ensures in
     let end = all_behind w.holding.ready w.placed given.1 count loop.loop-i.invariant.0 c.loop-i-test.false in
     finds_some (matches_to end loop.loop-i.invariant.1) loop.loop-i.next end (omega (arith, loop.loop-i.invariant.0)))

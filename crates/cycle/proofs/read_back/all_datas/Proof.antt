@@ -39,14 +39,14 @@ returns : tie.Need-returns-then-not-are_datas invariant-loop-i decreases-loop-i
 returns c =
     let seg = c.before.before in
     let s = start seg.before.before.before in
-    decides_not c.if-not-are_datas.true-raw (datas_within s.args.f s.args.image.now seg.segment_of.result (comparing seg)) c.before.are_datas.ensures
+    decides_not c.if-not-are_datas.true-raw (datas_within s.args.f s.args.image.now seg.segment_of.result (comparing seg)) c.are_datas.ensures
 
 loop_again : tie.Need-loop-i-preserved invariant-loop-i decreases-loop-i
 loop_again c =
     let seg = c.before.before in
     let s = start seg.before.before.before in
-    let told = decides_told c.if-not-are_datas.false-raw c.before.are_datas.ensures in
-    through_next seg.before.before.loop-i.invariant seg.before.loop-i-test.true seg.segment_of.ensures
+    let told = decides_told c.if-not-are_datas.false-raw c.are_datas.ensures in
+    through_next seg.loop-i.invariant seg.loop-i-test.true seg.segment_of.ensures
     (λ d. datas_more s.args.f s.args.image.now seg.segment_of.result (comparing seg) d told)
 
 returns_2 : tie.Need-returns invariant-loop-i decreases-loop-i
@@ -54,19 +54,19 @@ returns_2 c =
     let count = c.before.before in
     let f = (start count).args.f in
     let ready = (start count).requires.ready in
-    let all = through_all c.before.loop-i.invariant ready count.segment_count-count.ensures c.loop-i-test.false in
+    let all = through_all c.loop-i.invariant ready count.segment_count-count.ensures c.loop-i-test.false in
     decides_yes (datas_to (ap (sent_by (plan_of f [])) ready.size_is ∙ all_sent f ready) all)
 
 pub all_datas_spec : {M : Type 1} → statement M
 all_datas_spec =
     tie.close
     (tie.spec invariant-loop-i decreases-loop-i
-    (λ c κs. c.before.requires.ready)
+    (λ c κs. c.requires.ready)
     (λ c. through_none (datas_to (sym (sent_none _)) datas_none))
-    (λ c κs. segment_asked c.before.loop-i.invariant (start c.before.before).requires.ready c.before.before.segment_count-count.ensures c.loop-i-test.true)
+    (λ c κs. segment_asked c.loop-i.invariant (start c.before.before).requires.ready c.segment_count-count.ensures c.loop-i-test.true)
     (λ c κs. comparing c)
     returns
-    (λ c. omega (arith, c.before.before.before.loop-i-test.true))
-    (λ c. omega (arith, c.before.before.before.loop-i-test.true))
+    (λ c. omega (arith, c.loop-i-test.true))
+    (λ c. omega (arith, c.loop-i-test.true))
     loop_again
     returns_2)

@@ -28,7 +28,7 @@ returns : tie.Need-returns-then-not-is_data invariant-loop-q decreases-loop-q
 returns c =
     let turn = c.before.before in
     let loop = turn.before.before in
-    row_not ((start loop).requires.placed []).ends loop.loop-q.invariant.0 turn.loop-q-test.true c.if-not-is_data.true-raw c.before.is_data.ensures
+    row_not ((start loop).requires.placed []).ends loop.loop-q.invariant.0 turn.loop-q-test.true c.if-not-is_data.true-raw c.is_data.ensures
 
 add_x : tie.Need-overflow_add-x invariant-loop-q decreases-loop-q
 add_x c =
@@ -42,7 +42,7 @@ loop_again c =
     let turn = c.before.before in
     let loop = turn.before.before in (
       row_next ((start loop).requires.placed []).ends loop.loop-q.invariant.0 turn.loop-q-test.true,
-      matches_next loop.loop-q.invariant.1 (decides_told c.if-not-is_data.false-raw c.before.is_data.ensures),
+      matches_next loop.loop-q.invariant.1 (decides_told c.if-not-is_data.false-raw c.is_data.ensures),
     )
 
 pub are_datas_spec : {M : Type 1} → statement M
@@ -53,8 +53,8 @@ are_datas_spec =
     (λ c κs. let loop = c.before.before in ((start loop).requires, data_place loop.loop-q.invariant.0 c.loop-q-test.true))
     returns
     add_x
-    (λ c. omega (arith, c.before.before.loop-q-test.true, c.before.before.before.struct_known-1.given))
-    (λ c. omega (arith, c.before.before.loop-q-test.true))
+    (λ c. omega (arith, c.loop-q-test.true, c.struct_known-1.given))
+    (λ c. omega (arith, c.loop-q-test.true))
     loop_again
     (λ c. let loop = c.before.before in
     row_all ((start loop).requires.placed []).ends loop.loop-q.invariant.0 c.loop-q-test.false loop.loop-q.invariant.1))

@@ -49,16 +49,16 @@ none_builds_lem c h = (every_read_back (set c) (bytes c) (length c.args.out.now)
 abbrev entry : tie.After-with_size-sized → tie.Start
 entry c = c.before.before.before.before.before
 
-copies_are : (c : tie.Else-not-copies_fit) → copies_fit (plan_of c.before.before.before.before.args.f []) ≡ true
-copies_are c = sym c.before.copies_fit.ensures ∙ not-false _ c.if-not-copies_fit.false-raw
+copies_are : (c : tie.Else-not-copies_fit) → copies_fit (plan_of c.args.f []) ≡ true
+copies_are c = sym c.copies_fit.ensures ∙ not-false _ c.if-not-copies_fit.false-raw
 
 sizes : (c : tie.After-with_size-sized) → Sized (entry c).args.f c.with_size-sized.result
-sizes c = ReadBackAnswers.with_size-sized (entry c).args.f c.with_size-sized.result (entry c).requires.0 c.with_size-sized.ensures
+sizes c = ReadBackAnswers.with_size (entry c).args.f c.with_size-sized.result (entry c).requires.0 c.with_size-sized.ensures
 
 count : (c : tie.After-with_size-sized) → c.with_size-sized.result.lines ≡ counted c.with_size-sized.result.p (bytes (entry c))
 count c = (sizes c).lines_same ∙ ((entry c).requires.4 ∙ ap (λ p. counted p (bytes (entry c))) (sym (sizes c).p_same))
 
-held : (c : tie.Else-sized-count) → Holding c.before.before.with_size-sized.result (bytes (entry c.before.before))
+held : (c : tie.Else-sized-count) → Holding c.with_size-sized.result (bytes (entry c.before.before))
 held c =
     let sized = c.before.before in
     let s = entry sized in
@@ -69,7 +69,7 @@ returns c =
     let s = c.before.before.before.before in
     refuses 13 0 _ s.args.out.now
     (none_builds_lem s
-    (copies_refused (set s) s.args.f (bytes s) (figured s) s.requires.4 (sym c.before.copies_fit.ensures ∙ not-true _ c.if-not-copies_fit.true-raw)))
+    (copies_refused (set s) s.args.f (bytes s) (figured s) s.requires.4 (sym c.copies_fit.ensures ∙ not-true _ c.if-not-copies_fit.true-raw)))
 
 returns_2 : tie.Need-returns-then-sized-count
 returns_2 c =
@@ -86,7 +86,7 @@ returns_3 c =
     refuses 13 0 _ s.args.out.now
     (none_builds_lem s
     (cycle_refused (set s) sized.with_size-sized.result (bytes s) (sizes sized).figured (count sized) (sizes sized).size_is
-    (c.before.is_cycle.ensures.no (not-true _ c.if-not-is_cycle.true-raw))))
+    (c.is_cycle.ensures.no (not-true _ c.if-not-is_cycle.true-raw))))
 
 mul_if4 : tie.Need-overflow_mul-sized
 mul_if4 c =
@@ -100,7 +100,7 @@ returns_4 c =
     let s = entry sized in
     refuses 7 0 _ s.args.out.now
     (room_refused (set s) sized.with_size-sized.result (bytes s) (fit s) (sizes sized).figured (held same.before.before)
-    (decides_told same.if-not-is_cycle.false-raw same.before.is_cycle.ensures) (length s.args.out.now) (omega (arith, c.if-room-sized.true)))
+    (decides_told same.if-not-is_cycle.false-raw same.is_cycle.ensures) (length s.args.out.now) (omega (arith, c.if-room-sized.true)))
 
 write_list_requires : tie.Need-write_list-requires
 write_list_requires c κs =
@@ -116,7 +116,7 @@ returns_5 c =
     let sized = same.before.before.before.before in
     let s = entry sized in
     list_written (set s) sized.with_size-sized.result (bytes s) (fit s) (sizes sized).figured (held same.before.before)
-    (decides_told same.if-not-is_cycle.false-raw same.before.is_cycle.ensures) s.args.out.now _ (omega (arith, roomy.if-room-sized.false)) wrote.write_list.ensures
+    (decides_told same.if-not-is_cycle.false-raw same.is_cycle.ensures) s.args.out.now _ (omega (arith, roomy.if-room-sized.false)) wrote.write_list.ensures
 
 pub hand_out_spec : {M : Type 1} → statement M
 hand_out_spec =
@@ -124,7 +124,7 @@ hand_out_spec =
     (tie.spec
     (λ c κs. search rules)
     returns
-    (λ c κs. (c.before.before.before.before.requires.0, copies_are c))
+    (λ c κs. (c.requires.0, copies_are c))
     returns_2
     (λ c κs. held c)
     returns_3

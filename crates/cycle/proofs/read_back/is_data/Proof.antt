@@ -51,7 +51,7 @@ lines_low c =
 -- ---- what is read
 
 abbrev seen : tie.After-read_bucket-r → Option Bucket
-seen c = read_bucket (bucket_at c.before.before.before.args.image.now c.before.before.before.args.x)
+seen c = read_bucket (bucket_at c.args.image.now c.args.x)
 
 read_is : (c : tie.After-read_bucket-r) → c.read_bucket-r.result ≡ as_reading (seen c)
 read_is c = c.read_bucket-r.ensures ∙ ap (λ s. as_reading (read_bucket s)) (part_bytes _ _)
@@ -86,7 +86,7 @@ misprint_apart e = let z : ◌≡◌ {A = ℕ} 0 1 = cc in omega arith
 
 -- the place behind the reading, and the entry
 abbrev met : tie.After-head-1 → tie.After-read_bucket-r
-met c = c.before.before.before
+met c = c.before.before
 
 abbrev entry : tie.After-read_bucket-r → tie.Start
 entry c = c.before.before.before
@@ -102,7 +102,7 @@ returns c =
     let called = c.before.before in
     let at = met called.before in
     by_facts (entry at) _ _ _ false called.head_at.ensures refl refl
-    (decides_not c.if-not-same_head.true-raw (λ g. ap (λ r. r.head) (read_is at) ∙ g.0.head_is) c.before.same_head.ensures)
+    (decides_not c.if-not-same_head.true-raw (λ g. ap (λ r. r.head) (read_is at) ∙ g.0.head_is) c.same_head.ensures)
 
 abbrev headed : tie.Else-not-same_head → tie.After-head_at
 headed c = c.before.before
@@ -121,7 +121,7 @@ returns_2 : tie.Need-returns-then-r-lesser
 returns_2 c =
     let called = headed c.before.before.before.before in
     let at = met called.before in
-    by_facts (entry at) _ _ _ false called.head_at.ensures c.before.lesser.ensures refl
+    by_facts (entry at) _ _ _ false called.head_at.ensures c.lesser.ensures refl
     (decides_no (λ g. c.if-r-lesser.true (ap (λ r. r.lines) (read_is at) ∙ g.0.count_is)))
 
 -- behind the test of the number of lines
@@ -134,7 +134,7 @@ some_lines : (c : tie.Else-r-lesser) →
 some_lines c =
     let s = entry (met (told c).before) in
     let shaped = s.requires.0.holding.ready.shaped in
-    let least = c.before.lesser.ensures in (
+    let least = c.lesser.ensures in (
       omega (arith, c.if-r-lesser.false, least, lines_low s, shaped.p_low),
       omega (arith, c.if-r-lesser.false, least, shaped.p_high),
     )
@@ -149,7 +149,7 @@ last_read c =
     let s = entry at in
     last_known s.args.f s.args.image.now s.requires.0.holding.ready s.args.x s.args.q
     (stands_here s.args.f s.args.image.now s.args.s s.requires.0 s.args.q s.args.x s.requires.1.low s.requires.1.high s.requires.1.here)
-    at.read_bucket-r.result (read_is at) called.before.before.enum_told-in-Data-1.given.1 (c.if-r-lesser.false ∙ c.before.lesser.ensures) (some_lines c).0
+    at.read_bucket-r.result (read_is at) called.in-Data.is (c.if-r-lesser.false ∙ c.lesser.ensures) (some_lines c).0
 
 is_followed_requires : tie.Need-is_followed-requires
 is_followed_requires c κs =
@@ -158,28 +158,28 @@ is_followed_requires c κs =
 
 returns_3 : tie.Need-returns-in-Index
 returns_3 c =
-    let at = c.before.before in
+    let at = c.before in
     by_facts (entry at) _ _ _ false refl refl refl
-    (other_kind (seen at) at.read_bucket-r.result KindIndex _ _ _ (read_is at) c.enum_told.given.1 index_apart)
+    (other_kind (seen at) at.read_bucket-r.result KindIndex _ _ _ (read_is at) c.in-Index.is index_apart)
 
 returns_4 : tie.Need-returns-in-Misprinted
 returns_4 c =
-    let at = c.before.before in
+    let at = c.before in
     by_facts (entry at) _ _ _ false refl refl refl
-    (other_kind (seen at) at.read_bucket-r.result KindMisprinted _ _ _ (read_is at) c.enum_told-in-Misprinted-1.given.1 misprint_apart)
+    (other_kind (seen at) at.read_bucket-r.result KindMisprinted _ _ _ (read_is at) c.in-Misprinted.is misprint_apart)
 
 returns_5 : tie.Need-returns-else-r-lesser
 returns_5 c =
     let third = c.before.before in
-    let second = third.before.before.before.before in
+    let second = third in
     let called = told third in
     let at = met called.before in
-    by_facts (entry at) _ _ _ _ called.head_at.ensures third.before.lesser.ensures refl
+    by_facts (entry at) _ _ _ _ called.head_at.ensures third.lesser.ensures refl
     (decides_by
     (λ w. (
       record {
-        kind_is = sym (ap (λ r. r.kind) (read_is at)) ∙ called.before.before.enum_told-in-Data-1.given.1;
-        head_is = sym (ap (λ r. r.head) (read_is at)) ∙ decides_told second.if-not-same_head.false-raw second.before.same_head.ensures;
+        kind_is = sym (ap (λ r. r.kind) (read_is at)) ∙ called.in-Data.is;
+        head_is = sym (ap (λ r. r.head) (read_is at)) ∙ decides_told second.if-not-same_head.false-raw second.same_head.ensures;
         count_is = sym (ap (λ r. r.lines) (read_is at)) ∙ third.if-r-lesser.false;
         follow_is = sym (ap (λ r. r.follow_on) (read_is at)) ∙ w.follow_is;
       },

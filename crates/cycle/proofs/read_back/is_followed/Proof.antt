@@ -50,29 +50,29 @@ first_is : (c : tie.After-spelled_tag-first) →
     ≡ value 0 (take tag_width (drop (bucket_length * first_place (plan_of s.args.f []) (s.args.f.k + 1) (s.args.q + 1) + lines_start) s.args.image.now))
 first_is c =
     let s = start1 c.before.before in
-    c.spelled_tag-first.ensures ∙ ap (λ z. value 0 (take tag_width (drop (bucket_length * z + lines_start) s.args.image.now))) c.before.next_data-place.ensures
+    c.spelled_tag-first.ensures ∙ ap (λ z. value 0 (take tag_width (drop (bucket_length * z + lines_start) s.args.image.now))) c.next_data-place.ensures
 
 -- the follow-on decides
 decided : (c : tie.Else-first-last) (want : ℕ) →
     let spelt = c.before in
     let s = start1 spelt.before.before in
     want ≡ pick (eqb spelt.spelled_tag-first.result s.args.last) (first_place (plan_of s.args.f []) (s.args.f.k + 1) (s.args.q + 1) - s.args.x) 0 →
-    Decides (Followed (plan_in s.args.f InImage s.args.image.now) s.args.q s.args.x s.args.follow-on) (eqb s.args.follow-on want)
+    Decides (Followed (plan_in s.args.f InImage s.args.image.now) s.args.q s.args.x s.args.follow_on) (eqb s.args.follow_on want)
 decided c want e =
     let spelt = c.before in
     let s = start1 spelt.before.before in
     next_followed s.args.f s.args.image.now s.args.s s.requires.0 s.args.q s.args.x s.requires.1.low s.requires.1.high s.requires.1.here
-    s.args.last spelt.spelled_tag-first.result (next spelt.before.before) s.requires.2 (first_is spelt) s.args.follow-on _ c.if-first-last.false
-    (decides_by (λ h. h ∙ e) (λ h. h ∙ sym e) (decides_eqb s.args.follow-on want))
+    s.args.last spelt.spelled_tag-first.result (next spelt.before.before) s.requires.2 (first_is spelt) s.args.follow_on _ c.if-first-last.false
+    (decides_by (λ h. h ∙ e) (λ h. h ∙ sym e) (decides_eqb s.args.follow_on want))
 
 add_next : tie.Need-overflow_add-next
 add_next c = let s = c.before in omega (arith, in_d s, data_high s.args.f s.requires.0.holding.ready.shaped)
 
 returns : tie.Need-returns-then-next-f
 returns c =
-    let s = c.before.before.before in
+    let s = c in
     last_followed s.args.f s.args.image.now s.args.s s.requires.0 s.args.q s.args.x s.requires.1.low s.requires.1.high s.requires.1.here
-    s.args.follow-on _ c.if-next-f.true (decides_eqb s.args.follow-on 0)
+    s.args.follow_on _ c.if-next-f.true (decides_eqb s.args.follow_on 0)
 
 next_data_requires : tie.Need-next_data-place-requires
 next_data_requires c κs =
@@ -85,7 +85,7 @@ returns_2 c =
     let s = start1 spelt.before.before in
     decides_no
     (next_falls s.args.f s.args.image.now s.args.s s.requires.0 s.args.q s.args.x s.requires.1.low s.requires.1.high s.requires.1.here
-    s.args.last spelt.spelled_tag-first.result (next spelt.before.before) s.requires.2 (first_is spelt) s.args.follow-on c.if-first-last.true)
+    s.args.last spelt.spelled_tag-first.result (next spelt.before.before) s.requires.2 (first_is spelt) s.args.follow_on c.if-first-last.true)
 
 sub_result : tie.Need-overflow_sub-result
 sub_result c =
@@ -94,7 +94,7 @@ sub_result c =
     let stands = stands_here s.args.f s.args.image.now s.args.s s.requires.0 s.args.q s.args.x s.requires.1.low s.requires.1.high s.requires.1.here in
     omega (
       arith,
-      placed.next_data_lem.ensures,
+      placed.next_data-place.ensures,
       follow_far s.args.f s.requires.0.holding.ready InImage s.args.image.now s.args.q s.args.x stands (next placed.before),
     )
 
@@ -103,7 +103,7 @@ returns_3 c =
     let spelt = c.before.before in
     let s = start1 spelt.before.before in
     decided c.before _
-    (rw (eq-eqb spelt.spelled_tag-first.result s.args.last c.if-first-last-2.true) (ap (λ z. z - s.args.x) spelt.before.next_data-place.ensures))
+    (rw (eq-eqb spelt.spelled_tag-first.result s.args.last c.if-first-last-2.true) (ap (λ z. z - s.args.x) spelt.next_data-place.ensures))
 
 returns_4 : tie.Need-returns
 returns_4 c =

@@ -37,7 +37,7 @@ returns : tie.Need-returns-then-not-is_path_bucket invariant-loop-i decreases-lo
 returns c =
     let turn = c.before.before in
     let loop = turn.before.before in
-    row_not (path_end (start loop)) loop.loop-i.invariant.0 (omega (arith, turn.loop-i-test.true)) c.if-not-is_path_bucket.true-raw c.before.is_path_bucket.ensures
+    row_not (path_end (start loop)) loop.loop-i.invariant.0 (omega (arith, turn.loop-i-test.true)) c.if-not-is_path_bucket.true-raw c.is_path_bucket.ensures
 
 add_x : tie.Need-overflow_add-x invariant-loop-i decreases-loop-i
 add_x c =
@@ -60,7 +60,7 @@ loop_again c =
     let turn = c.before.before in
     let loop = turn.before.before in (
       row_next (path_end (start loop)) loop.loop-i.invariant.0 (omega (arith, turn.loop-i-test.true)),
-      matches_next loop.loop-i.invariant.1 (decides_told c.if-not-is_path_bucket.false-raw c.before.is_path_bucket.ensures),
+      matches_next loop.loop-i.invariant.1 (decides_told c.if-not-is_path_bucket.false-raw c.is_path_bucket.ensures),
     )
 
 pub is_path_spec : {M : Type 1} → statement M
@@ -72,7 +72,7 @@ is_path_spec =
     returns
     add_x
     add_i
-    (λ c. omega (arith, c.before.before.loop-i-test.true))
+    (λ c. omega (arith, c.loop-i-test.true))
     loop_again
     (λ c. let loop = c.before.before in
     row_all (path_end (start loop)) loop.loop-i.invariant.0 (omega (arith, c.loop-i-test.false)) loop.loop-i.invariant.1))

@@ -22,7 +22,7 @@ below c =
 
 print_tree_bucket_requires : tie.Need-print_tree_bucket-requires
 print_tree_bucket_requires c κs =
-    let s = c.before.before in
+    let s = c in
     (refl, (printing s.args.f s.args.image.now s.args.s s.requires.0, (s.requires.1, s.requires.2)))
 
 abbrev begun : tie.After-print_tree_bucket → tie.Start
@@ -33,7 +33,7 @@ is_at_requires c κs =
     let printed = c.before.before in
     let s = begun printed in
     let room = room_at s.args.f s.args.image.now s.args.s s.requires.0.comparing s.args.x (omega (arith, seated s, below s)) in
-    (room.0, room.1, printed.print_tree_bucket.auto.0)
+    (room.0, room.1, printed.print_tree_bucket.auto.part)
 
 returns : tie.Need-returns
 returns c =

@@ -69,31 +69,31 @@ loop_holds c =
 loop_again : tie.Need-loop-x-preserved invariant-loop-x decreases-loop-x
 loop_again c =
     let known = c.before in
-    let at = known.before.before.loop-x in
-    let start = known.before.before.before in
-    let h = known.before.loop-x-test.true in
+    let at = known.loop-x in
+    let start = known in
+    let h = known.loop-x-test.true in
     let next = counted_bucket start.args.image.now start.args.p at.d at.last _ at.x h in
     ⊎_elim
     (λ w.
-    rw (w.2, w.3)
-    (turn at.invariant h (omega arith) (omega (arith, w.1.given (bucket_length * at.x + item_digit_column))) (next ∙ rw (eq-eqb _ letter_data w.0.taken))))
-    (λ w. rw (w.1, w.2) (turn at.invariant h (omega arith) at.invariant.small (next ∙ rw (ne_eqb _ letter_data w.0.left))))
-    c.if-image-at-eq-DATA.branch
+    rw (w.d-is, w.last-is)
+    (turn at.invariant h (omega arith) (omega (arith, w.shared_slice_known-then-image-at-eq-DATA-1.given (bucket_length * at.x + item_digit_column))) (next ∙ rw (eq-eqb _ letter_data w.if-image-at-eq-DATA.true))))
+    (λ w. rw (w.d-is, w.last-is) (turn at.invariant h (omega arith) at.invariant.small (next ∙ rw (ne_eqb _ letter_data w.if-image-at-eq-DATA.false))))
+    c.if-image-at-eq-DATA.branch-raw
 
 returns : tie.Need-returns-then-d-eq0 invariant-loop-x decreases-loop-x
 returns c =
-    let o = c.before.before.loop-x.invariant in
-    sym (ended o c.before.loop-x-test.false ∙ by_none _ _ _ c.if-d-eq0.true)
+    let o = c.loop-x.invariant in
+    sym (ended o c.loop-x-test.false ∙ by_none _ _ _ c.if-d-eq0.true)
 
 returns_2 : tie.Need-returns-then-last-lt48 invariant-loop-x decreases-loop-x
 returns_2 c =
-    let o = c.before.before.before.loop-x.invariant in
-    sym (ended o c.before.before.loop-x-test.false ∙ by_low _ _ _ c.before.if-d-eq0.false c.if-last-lt48.true)
+    let o = c.loop-x.invariant in
+    sym (ended o c.loop-x-test.false ∙ by_low _ _ _ c.if-d-eq0.false c.if-last-lt48.true)
 
 returns_3 : tie.Need-returns invariant-loop-x decreases-loop-x
 returns_3 c =
-    let o = c.before.before.before.loop-x.invariant in
-    sym (ended o c.before.before.loop-x-test.false ∙ by_digit _ _ _ c.before.if-d-eq0.false c.if-last-lt48.false)
+    let o = c.loop-x.invariant in
+    sym (ended o c.loop-x-test.false ∙ by_digit _ _ _ c.if-d-eq0.false c.if-last-lt48.false)
 
 pub line_count_spec : {M : Type 1} → statement M
 line_count_spec =
@@ -105,10 +105,10 @@ line_count_spec =
     loop_again
     returns
     returns_2
-    (λ c. omega (arith, c.before.if-d-eq0.false))
-    (λ c. let start = c.before.before.before.before in omega (arith, most c.before.before.before.loop-x.invariant start.requires.0 start.requires.1))
-    (λ c. omega (arith, c.before.before.before.loop-x.invariant.small))
-    (λ c. let start = c.before.before.before.before in
-    let o = c.before.before.before.loop-x.invariant in
+    (λ c. omega (arith, c.if-d-eq0.false))
+    (λ c. let start = c in omega (arith, most c.loop-x.invariant start.requires.0 start.requires.1))
+    (λ c. omega (arith, c.loop-x.invariant.small))
+    (λ c. let start = c in
+    let o = c.loop-x.invariant in
     omega (arith, most o start.requires.0 start.requires.1, o.small))
     returns_3)

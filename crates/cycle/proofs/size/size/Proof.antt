@@ -26,7 +26,7 @@ set s = settings s.args.n s.args.p s.args.layout s.args.copies
 
 tested : (c : tie.After-settings_fit) → settings_fit (set c.before) ≡ c.settings_fit.result
 tested c =
-    let s = c.before in
+    let s = c in
     any_copies s.args.n s.args.p s.args.layout 0 s.args.copies ∙ sym c.settings_fit.ensures
 
 fit : (c : tie.Else-not-settings_fit) → settings_fit (set c.before.before) ≡ true
@@ -54,19 +54,19 @@ planned c =
 
 -- the figures that were judged, and what they give
 abbrev made : tie.In-Cycle → Figures
-made c = c.before.judged-in-Cycle-1.given.0.0
+made c = c.in-Cycle.f
 
 measured :
     (c : tie.In-Cycle) →
-    let s = c.before.before.before.before.before.before.before.before in
+    let s = c.before.before.before.before.before.before in
     Measured (made c) ×
     (Size.numbers (Cycle (dimensions (plan_of (made c) []) s.args.c)) ≡ Size.numbers (Size.size (set s) s.args.lines s.args.c))
 measured c =
-    let answer = c.before.before.before in
+    let answer = c.before in
     let f = answer.before in
     let s = f.before.before.before.before in
-    judged_size f.figures_of.result f.figures_of.ensures.0.shaped (set s) s.args.lines (planned f) (fit f.before.before) f.before.if-lines-gt-LINES_MOST.false s.args.c
-    (made c) (sym answer.judge_figures-judged.ensures ∙ c.before.judged-in-Cycle-1.given.1)
+    judged_size f.figures_of.result f.figures_of.ensures.0.shaped (set s) s.args.lines (planned f) (fit f.before.before) f.if-lines-gt-LINES_MOST.false s.args.c
+    (made c) (sym answer.judge_figures-judged.ensures ∙ c.in-Cycle.is)
 
 dimensions_of_requires : tie.Need-dimensions_of-requires
 dimensions_of_requires c κs =
@@ -75,11 +75,11 @@ dimensions_of_requires c κs =
 
 returns_3 : tie.Need-returns-in-Refused
 returns_3 c =
-    let answer = c.before.before.before in
+    let answer = c.before in
     let f = answer.before in
     let s = f.before.before.before.before in
-    judged_refused f.figures_of.result f.figures_of.ensures.0.shaped (set s) s.args.lines (planned f) (fit f.before.before) f.before.if-lines-gt-LINES_MOST.false s.args.c
-    _ _ (sym answer.judge_figures-judged.ensures ∙ c.before.judged-1.given.1)
+    judged_refused f.figures_of.result f.figures_of.ensures.0.shaped (set s) s.args.lines (planned f) (fit f.before.before) f.if-lines-gt-LINES_MOST.false s.args.c
+    _ _ (sym answer.judge_figures-judged.ensures ∙ c.in-Refused.is)
 
 returns_4 : tie.Need-returns-in-Cycle
 returns_4 c = ap (λ d. Size.numbers (Cycle d)) c.dimensions_of.ensures ∙ (measured c.before).1

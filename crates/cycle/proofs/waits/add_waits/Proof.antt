@@ -22,12 +22,12 @@ begun c = c.before.before.before
 
 tag_of_requires : tie.Need-tag_of-tag-requires invariant-loop-i decreases-loop-i
 tag_of_requires c κs =
-    let pre = c.before.requires in
+    let pre = c.requires in
     (pre.0.ready, pre.1, pre.0.whole)
 
 loop_holds : tie.Need-loop-i-init invariant-loop-i decreases-loop-i
 loop_holds c =
-    let start = c.before.before in
+    let start = c in
     list_starts start.args.f start.args.list.now start.requires.0 start.requires.1 c.tag_of-tag.result c.tag_of-tag.ensures
 
 tag_of_requires_2 : tie.Need-tag_of-next-requires invariant-loop-i decreases-loop-i
@@ -75,14 +75,14 @@ loop_again c =
     let list : List ℕ = start.args.list.now in
     ⊎_elim
     (λ w.
-    rw (w.4, w.5, w.6, w.7)
+    rw (w.tag-is, w.first-is, w.tags-is, w.sum-is)
     (list_next f list start.requires.0 l.tag l.first l.tags l.sum l.i l.invariant turn.loop-i-test.true read.tag_of-next.result read.tag_of-next.ensures
-    w.0.taken w.2.result w.2.ensures))
+    w.if-next-tag.true w.waits_between-sum.result w.waits_between-sum.ensures))
     (λ w.
-    rw (w.1, w.2, w.3, w.4)
+    rw (w.tag-is, w.first-is, w.tags-is, w.sum-is)
     (list_same f list start.requires.0 l.tag l.first l.tags l.sum l.i l.invariant turn.loop-i-test.true read.tag_of-next.result read.tag_of-next.ensures
-    w.0.left))
-    c.if-next-tag.branch
+    w.if-next-tag.false))
+    c.if-next-tag.branch-raw
 
 -- ---- the last tag
 
@@ -131,14 +131,14 @@ add_waits_spec =
     tag_of_requires
     loop_holds
     tag_of_requires_2
-    (λ c. omega (arith, c.before.before.before.before.loop-i.invariant.low))
+    (λ c. omega (arith, c.loop-i.invariant.low))
     (λ c. omega (arith, (begun c.before.before.before.before.before).requires.0.ready.shaped.p_low))
     waits_between_requires
     add_sum
     add_tags
     (λ c. omega (arith, (begun c.before.before.before.before.before.before.before).requires.0.ready.shaped.p_low))
-    (λ c. omega (arith, c.before.before.loop-i-test.true, (begun c.before.before.before.before).requires.0.ready.shaped.lines_high))
-    (λ c. omega (arith, c.before.before.loop-i-test.true))
+    (λ c. omega (arith, c.loop-i-test.true, (begun c.before.before.before.before).requires.0.ready.shaped.lines_high))
+    (λ c. omega (arith, c.loop-i-test.true))
     loop_again
     (λ c. omega (arith, (begun c.before.before.before).requires.1))
     (λ c. omega (arith, (begun c.before.before.before.before).requires.0.ready.shaped.p_low))

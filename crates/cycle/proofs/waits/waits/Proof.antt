@@ -25,37 +25,37 @@ known : (c : tie.After-judge-judged) → judge (set (start c)) (start c).args.li
 known c = sym (judged_told c.judge-judged.result (judge (set (start c)) (start c).args.list.now room_most) c.judge-judged.ensures)
 
 -- it answered with figures
-abbrev made : tie.In-Cycle-2 → Figures
-made c = c.judged-in-Cycle-1.given.0.0
+abbrev made : tie.In-Cycle → Figures
+made c = c.in-Cycle.f
 
-figured : (c : tie.In-Cycle-2) → let s = start c.before.before in judge (set s) s.args.list.now room_most ≡ Cycle (made c)
-figured c = known c.before.before ∙ c.judged-in-Cycle-1.given.1
+figured : (c : tie.In-Cycle) → let s = start c.before in judge (set s) s.args.list.now room_most ≡ Cycle (made c)
+figured c = known c.before ∙ c.in-Cycle.is
 
 -- no line
 returns : tie.Need-returns-then-f-eq0
 returns c =
-    let told = c.before.before.before in
-    let s = start told.before.before in
+    let told = c.before.before in
+    let s = start told.before in
     waits_no_line (set s) s.args.list.now (made told) (figured told) c.if-f-eq0.true
 
 add_waits_requires : tie.Need-add_waits-requires
 add_waits_requires c κs =
-    let told = c.before.before.before in
-    let s = start told.before.before in
+    let told = c.before.before in
+    let s = start told.before in
     let some_line : 1 ≤ (made told).lines = omega (arith, c.if-f-eq0.false) in
     ((sending_judged (set s) s.args.list.now room_most (made told) (figured told)).0, some_line)
 
 returns_2 : tie.Need-returns-in-Refused
 returns_2 c =
-    let j = c.before.before.before in
+    let j = c.before in
     let s = start j in
-    waits_refused (set s) s.args.list.now _ _ (known j ∙ c.before.judged-1.given.1)
+    waits_refused (set s) s.args.list.now _ _ (known j ∙ c.in-Refused.is)
 
 returns_3 : tie.Need-returns-else-f-eq0
 returns_3 c =
-    let told = c.before.before.before.before in
-    let s = start told.before.before in
-    waits_summed (set s) s.args.list.now (made told) (figured told) c.before.if-f-eq0.false c.add_waits.result c.add_waits.ensures
+    let told = c.before.before.before in
+    let s = start told.before in
+    waits_summed (set s) s.args.list.now (made told) (figured told) c.if-f-eq0.false c.add_waits.result c.add_waits.ensures
 
 pub waits_spec : {M : Type 1} → statement M
 waits_spec =
