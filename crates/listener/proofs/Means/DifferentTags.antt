@@ -2,7 +2,7 @@
 -- Assumes nothing.
 use mathlib.Core.Path.{◌≡◌, refl, ap₂}
 use Prim.Native.Nat.{ℕ, suc, ◌+◌, ◌≤◌}
-use mathlib.Core.Bool.{Bool, true, false, or_true}
+use mathlib.Core.Bool.{Bool, true, false, or-true}
 use mathlib.Core.List.{List, [], ◌∷◌}
 use native.Mathlib.Omega.{arith}
 use lib.Dec.{eqb}
@@ -20,7 +20,7 @@ unfolding tag_among
 total_listed f g [] h = refl
 total_listed f g (l ∷ ls) h =
     by (tag_among l.tag ls) (h l.tag (rw (eq-eqb l.tag l.tag refl)))
-    (total_listed f g ls (λ tag e. h tag (rw e (or_true (eqb l.tag tag)))))
+    (total_listed f g ls (λ tag e. h tag (rw e (or-true (eqb l.tag tag)))))
   where
     by :
         (b : Bool) → f l.tag ≡ g l.tag → total f (different_tags ls) ≡ total g (different_tags ls) →

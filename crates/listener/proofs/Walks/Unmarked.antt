@@ -13,7 +13,7 @@ use Rattle.buckets.specs.declared.Line.{Line}
 use Rattle.listener.specs.Listener.{start, step, stopped, named}
 use Rattle.listener.specs.Hearing.{Taken, Supply, at, anywhere, given, onward, steps_from, hearing, End, end_of, until_end, heard_in, elapsed_in, refused_before_end, lines_got, listener_after, count_if}
 use Rattle.listener.specs.Demand3.{refused_by14}
-use Rattle.listener.specs.Lost.{Marked, marked_from, marked_hearing, steps, up_to_end, lost_in, lines_held, lines_since, unmarked, NoLoss}
+use Rattle.listener.specs.Lost.{Marked, taken_by, marked_from, marked_hearing, steps, up_to_end, lost_in, lines_held, lines_since, unmarked, NoLoss}
 use Rattle.listener.specs.declared.Listener.{Listener}
 use Rattle.listener.specs.declared.Phase.TheVariants.{TuneIn, Ended}
 use Rattle.listener.specs.declared.Answer.{Answer}
@@ -34,7 +34,9 @@ elapsed_gone (x ∷ xs) = refl
 pub length_marked :
     (sent strays : ℕ → List ℕ) (s : Listener) (w : Supply) (marks : List Bool) → length (marked_from sent strays s w marks) ≡ length marks
 length_marked sent strays s w [] = refl
-length_marked sent strays s w (mark ∷ marks) = ap suc (length_marked sent strays _ _ marks)
+length_marked sent strays s w (mark ∷ marks) =
+    let r : Stepped = (taken_by mark s (given sent strays (length marks) w)).outcome in
+    ap suc (length_marked sent strays r.listener (onward w r.answer) marks)
 
 none_marked : (m : ℕ) → any (λ b. b) (unmarked m) ≡ false
 none_marked zero = refl

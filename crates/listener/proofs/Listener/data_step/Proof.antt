@@ -23,7 +23,7 @@ use Rattle.listener.proofs.Listener.data_step.Tie as tie
 returns : tie.Need-returns-then-matching-eq0
 unfolding data_choice
 returns c =
-    rw (← c.before.before.lines_matching-matching.ensures, eq-eqb _ 0 c.before.if-matching-eq0.true) c.end_by.ensures
+    rw (← c.lines_matching-matching.ensures, eq-eqb _ 0 c.if-matching-eq0.true) c.end_by.ensures
 
 -- ---- where a line matches there is one, and so a last one
 
@@ -31,50 +31,50 @@ abbrev start : tie.After-lines_before-first → tie.Start
 start c = c.before.before.before
 
 abbrev lines : tie.After-lines_before-first → List Line
-lines c = tagged_lines (start c).args.count (start c).args.t5
+lines c = tagged_lines (start c).args.count (start c).args.tags
 
 some_line : (c : tie.After-lines_before-first) → 1 ≤ (start c).args.count
 some_line c =
     omega (
       arith,
-      c.before.if-matching-eq0.false,
-      c.before.before.lines_matching-matching.ensures,
+      c.if-matching-eq0.false,
+      c.lines_matching-matching.ensures,
       matching_few (start c).args.self.tag (lines c),
-      length_tagged (start c).args.count (start c).args.t5 (omega arith),
+      length_tagged (start c).args.count (start c).args.tags (omega arith),
     )
 
 last_line :
     (c : tie.After-lines_before-first) →
     last_is (start c).args.self.tag (lines c) ≡
-    eqb (get_or (start c).args.t5 ((start c).args.count - 1) 0) (start c).args.self.tag
+    eqb (get_or (start c).args.tags ((start c).args.count - 1) 0) (start c).args.self.tag
 last_line c =
-    last_tagged (start c).args.self.tag (start c).args.count (start c).args.t5 (some_line c) (omega arith)
+    last_tagged (start c).args.self.tag (start c).args.count (start c).args.tags (some_line c) (omega arith)
 
 -- the choice by the last line and the follow-on
 by_last :
     (c : tie.After-lines_before-first) →
-    data_choice (start c).args.self.tag (start c).args.follow-on (lines c) ≡
+    data_choice (start c).args.self.tag (start c).args.follow_on (lines c) ≡
     pick
-    (eqb (get_or (start c).args.t5 ((start c).args.count - 1) 0) (start c).args.self.tag && not (eqb (start c).args.follow-on 0))
-    (dozes (start c).args.follow-on Data c.lines_before-first.result c.before.before.lines_matching-matching.result)
-    (finds c.lines_before-first.result c.before.before.lines_matching-matching.result)
+    (eqb (get_or (start c).args.tags ((start c).args.count - 1) 0) (start c).args.self.tag && not (eqb (start c).args.follow_on 0))
+    (dozes (start c).args.follow_on Data c.lines_before-first.result c.lines_matching-matching.result)
+    (finds c.lines_before-first.result c.lines_matching-matching.result)
 unfolding data_choice
 by_last c =
-    rw (← c.before.before.lines_matching-matching.ensures, ne_eqb _ 0 c.before.if-matching-eq0.false, last_line c, ← c.lines_before-first.ensures)
+    rw (← c.lines_matching-matching.ensures, ne_eqb _ 0 c.if-matching-eq0.false, last_line c, ← c.lines_before-first.ensures)
 
 returns_2 : tie.Need-returns-then-tags-last
-returns_2 c = rw (by_last c.before.before.before, ne_eqb _ _ c.before.if-tags-last.true) c.end_by-then-tags-last.ensures
+returns_2 c = rw (by_last c.before.before.before, ne_eqb _ _ c.if-tags-last.true) c.end_by-then-tags-last.ensures
 
 returns_3 : tie.Need-returns-then-follow_on-eq0
 returns_3 c =
-    rw (by_last c.before.before.before.before, eq-eqb _ _ c.before.before.if-tags-last.false, eq-eqb _ 0 c.before.if-follow_on-eq0.true)
+    rw (by_last c.before.before.before.before, eq-eqb _ _ c.if-tags-last.false, eq-eqb _ 0 c.if-follow_on-eq0.true)
     c.end_by-then-follow_on-eq0.ensures
 
 returns_4 : tie.Need-returns
 returns_4 c =
     let here = c.before.before.before.before in
-    rw (by_last here, eq-eqb _ _ c.before.before.if-tags-last.false, ne_eqb _ 0 c.before.if-follow_on-eq0.false)
-    (c.doze_by.ensures (data_body (start here).args.follow-on (lines here)))
+    rw (by_last here, eq-eqb _ _ c.if-tags-last.false, ne_eqb _ 0 c.if-follow_on-eq0.false)
+    (c.doze_by.ensures (data_body (start here).args.follow_on (lines here)))
 
 pub data_step_spec : {M : Type 1} → statement M
 data_step_spec =

@@ -58,9 +58,9 @@ entry_held c = c.entry_from-entry.ensures
 
 doze_by_requires : tie.Need-doze_by-requires
 doze_by_requires c κs =
-    let s = c.before.before in
+    let s = c in
     let Near_by = first_near s.args.self.tag s.args.x.blank (pairs_held s.args.x) s.requires.1.pairs_near in
-    (s.requires.0, omega (arith, c.before.first_pair-first.ensures, Near_by))
+    (s.requires.0, omega (arith, c.first_pair-first.ensures, Near_by))
 
 doze_by_requires_2 : tie.Need-doze_by-requires-then-later-ne0
 doze_by_requires_2 c κs =
@@ -88,7 +88,7 @@ unfolding dozes_unless0
 by_later c =
     let s = start c in
     by_three s.args.self s.args.h s.args.x s.requires.1
-    ∙ rw (← (first c).first_pair-first.ensures, eq-eqb _ 0 c.before.before.before.if-first-ne0.false, ← below_held c)
+    ∙ rw (← (first c).first_pair-first.ensures, eq-eqb _ 0 c.if-first-ne0.false, ← below_held c)
 
 by_entry :
     (c : tie.After-entry_from-entry) →
@@ -96,32 +96,32 @@ by_entry :
     decided s.self (bucket_with s.h (index_of s.x)) (body_choice s.self.tag (index_of s.x)) ≡
     decided s.self (bucket_with s.h (index_of s.x)) (dozes_unless0 c.entry_from-entry.result TheVariants.Either misses)
 unfolding dozes_unless0
-by_entry c = by_later (later c) ∙ rw (eq-eqb _ 0 c.before.before.before.if-later-ne0.false, ← entry_held c)
+by_entry c = by_later (later c) ∙ rw (eq-eqb _ 0 c.if-later-ne0.false, ← entry_held c)
 
 returns : tie.Need-returns-then-first-ne0
 unfolding dozes_unless0
 returns c =
-    let s = c.before.before.before in
+    let s = c in
     c.doze_by.ensures (index_of s.args.x) ∙
     sym
     (by_three s.args.self s.args.h s.args.x s.requires.1 ∙
-    rw (← c.before.before.first_pair-first.ensures, ne_eqb _ 0 c.before.if-first-ne0.true))
+    rw (← c.first_pair-first.ensures, ne_eqb _ 0 c.if-first-ne0.true))
 
 returns_2 : tie.Need-returns-then-later-ne0
 unfolding dozes_unless0
 returns_2 c =
     let here = c.before.before in
-    c.doze_by-then-later-ne0.ensures (index_of (start here).args.x) ∙ sym (by_later here ∙ rw (ne_eqb _ 0 c.before.if-later-ne0.true))
+    c.doze_by-then-later-ne0.ensures (index_of (start here).args.x) ∙ sym (by_later here ∙ rw (ne_eqb _ 0 c.if-later-ne0.true))
 
 returns_3 : tie.Need-returns-then-entry-ne0
 unfolding dozes_unless0
 returns_3 c =
     let here = c.before.before in
-    c.doze_by-then-entry-ne0.ensures (index_of (start (later here)).args.x) ∙ sym (by_entry here ∙ rw (ne_eqb _ 0 c.before.if-entry-ne0.true))
+    c.doze_by-then-entry-ne0.ensures (index_of (start (later here)).args.x) ∙ sym (by_entry here ∙ rw (ne_eqb _ 0 c.if-entry-ne0.true))
 
 returns_4 : tie.Need-returns
 unfolding dozes_unless0
-returns_4 c = c.end_by.ensures ∙ sym (by_entry c.before.before ∙ rw (eq-eqb _ 0 c.before.if-entry-ne0.false))
+returns_4 c = c.end_by.ensures ∙ sym (by_entry c.before.before ∙ rw (eq-eqb _ 0 c.if-entry-ne0.false))
 
 pub index_step_spec : {M : Type 1} → statement M
 index_step_spec =
@@ -130,7 +130,7 @@ index_step_spec =
     (λ c κs. search rules)
     doze_by_requires
     returns
-    (λ c κs. c.before.before.before.before.requires.1.few_pairs)
+    (λ c κs. c.requires.1.few_pairs)
     doze_by_requires_2
     returns_2
     (λ c κs. (start c.before.before.before).requires.1.few_entries)

@@ -9,25 +9,25 @@ use Rattle.listener.proofs.Listener.step.Tie as tie
 
 returns : tie.Need-returns-then-is_ended
 returns c =
-    let s = c.before.before.before.before in
+    let s = c in
     step_tells
     (c.refused_ended.ensures ∙
     sym
-    (step_ended s.args.self s.args.bucket.now (sym c.before.before.is_ended.ensures ∙ c.before.if-is_ended.true)))
+    (step_ended s.args.self s.args.bucket.now (sym c.is_ended.ensures ∙ c.if-is_ended.true)))
 
 take_reading_requires : tie.Need-take_reading-requires
 take_reading_requires c κs =
-    let s = c.before.before.before.before in
+    let s = c in
     record { bytes = s.args.bucket.now; is = c.read_bucket-reading.ensures }
 
 returns_2 : tie.Need-returns
 returns_2 c =
-    let s = c.before.before.before.before.before in
+    let s = c in
     step_tells
-    (c.take_reading.ensures s.args.bucket.now c.before.read_bucket-reading.ensures ∙
+    (c.take_reading.ensures s.args.bucket.now c.read_bucket-reading.ensures ∙
     sym
     (step_read s.args.self s.args.bucket.now
-    (sym c.before.before.before.is_ended.ensures ∙ c.before.before.if-is_ended.false)))
+    (sym c.is_ended.ensures ∙ c.if-is_ended.false)))
 
 pub step_spec : {M : Type 1} → statement M
 step_spec =

@@ -12,7 +12,7 @@ use Rattle.listener.proofs.Listener.take_index.Tie as tie
 abbrev body : tie.Start → Body
 body s = index_of s.args.x
 
-told : (c : tie.After-awaits) → c.awaits.result ≡ awaited c.before.args.self (bucket_with c.before.args.h (body c.before))
+told : (c : tie.After-awaits) → c.awaits.result ≡ awaited c.args.self (bucket_with c.args.h (body c.before))
 unfolding index_of
 told c = c.awaits.ensures (body c.before) refl
 
@@ -21,20 +21,20 @@ unfolding bucket_with
 returns_2 c =
     let tuning = c.before.before in
     let here = tuning.before.before in
-    heeds_first _ _ (told here) tuning.before.if-not-awaits.false-raw tuning.is_tune_in.ensures c.before.if-is_tune_in.true (c.doze_by.ensures (body here.before))
+    heeds_first _ _ (told here) tuning.if-not-awaits.false-raw tuning.is_tune_in.ensures c.if-is_tune_in.true (c.doze_by.ensures (body here.before))
 
 returns_3 : tie.Need-returns
 unfolding bucket_with index_of
 returns_3 c =
     let tuning = c.before.before in
-    heeds_later _ _ (told tuning.before.before) tuning.before.if-not-awaits.false-raw tuning.is_tune_in.ensures c.before.if-is_tune_in.false c.index_step.ensures
+    heeds_later _ _ (told tuning.before.before) tuning.if-not-awaits.false-raw tuning.is_tune_in.ensures c.if-is_tune_in.false c.index_step.ensures
 
 pub take_index_spec : {M : Type 1} → statement M
 take_index_spec =
     tie.close
     (tie.spec
     (λ c κs. search rules) (λ c κs. search rules)
-    (λ c. heeds_not _ _ (told c.before.before) c.before.if-not-awaits.true-raw c.refused.ensures)
+    (λ c. heeds_not _ _ (told c.before.before) c.if-not-awaits.true-raw c.refused.ensures)
     (λ c κs. search rules) (λ c κs. search rules)
     returns_2
     (λ c κs. search rules)

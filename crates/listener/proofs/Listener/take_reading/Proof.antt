@@ -9,33 +9,33 @@ use Rattle.listener.proofs.Listener.take_reading.Tie as tie
 
 take_index_requires : tie.Need-take_index-requires
 take_index_requires c κs =
-    let s = c.before.before.before.before in
-    let i = index_read s.requires.bytes s.args.r s.requires.is c.before.enum_told-1.given.1 in
+    let s = c in
+    let i = index_read s.requires.bytes s.args.r s.requires.is c.in-Index.is in
     (i.head, i.index)
 
 take_data_requires : tie.Need-take_data-requires
 take_data_requires c κs =
-    let s = c.before.before.before.before in
-    let i = data_read s.requires.bytes s.args.r s.requires.is c.before.enum_told-in-Data-1.given.1 in
+    let s = c in
+    let i = data_read s.requires.bytes s.args.r s.requires.is c.in-Data.is in
     (i.head, (i.near, i.few))
 
 returns : tie.Need-returns-in-Index
 returns c bytes e =
-    let s = c.before.before.before.before.before in
+    let s = c in
     c.take_index.ensures ∙
-    (index_read bytes s.args.r e c.before.before.enum_told-1.given.1).is s.args.self
+    (index_read bytes s.args.r e c.in-Index.is).is s.args.self
 
 returns_2 : tie.Need-returns-in-Data
 returns_2 c bytes e =
-    let s = c.before.before.before.before.before in
+    let s = c in
     c.take_data.ensures ∙
-    (data_read bytes s.args.r e c.before.before.enum_told-in-Data-1.given.1).is s.args.self
+    (data_read bytes s.args.r e c.in-Data.is).is s.args.self
 
 returns_3 : tie.Need-returns-in-Misprinted
 returns_3 c bytes e =
-    let s = c.before.before.before.before in
+    let s = c in
     c.refused.ensures ∙
-    ap (heed_read s.args.self) (sym (misprint_read bytes s.args.r e c.before.enum_told-in-Misprinted-1.given.1))
+    ap (heed_read s.args.self) (sym (misprint_read bytes s.args.r e c.in-Misprinted.is))
 
 pub take_reading_spec : {M : Type 1} → statement M
 take_reading_spec =

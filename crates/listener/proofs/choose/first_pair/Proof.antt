@@ -9,27 +9,27 @@ use Rattle.listener.proofs.choose.first_pair.Tie as tie
 
 returns : tie.Need-returns-then-x-eq0
 returns c =
-    let s = c.before in
-    sym (first_none s.args.tag s.args.t2 s.requires c.if-x-eq0.true)
+    let s = c in
+    sym (first_none s.args.tag s.args.x s.requires c.if-x-eq0.true)
 
 returns_2 : tie.Need-returns-then-x
 returns_2 c =
-    let s = c.before.before in
-    sym (first_some s.args.tag s.args.t2 s.requires c.before.if-x-eq0.false ∙ rw c.if-x.true)
+    let s = c in
+    sym (first_some s.args.tag s.args.x s.requires c.if-x-eq0.false ∙ rw c.if-x.true)
 
 returns_3 : tie.Need-returns-then-x-tag
 returns_3 c =
-    let s = c.before.before.before.before in
+    let s = c in
     sym
-    (first_some s.args.tag s.args.t2 s.requires c.before.before.before.if-x-eq0.false ∙
-    rw (c.before.before.if-x.false, lt-leb _ _ c.if-x-tag.true))
+    (first_some s.args.tag s.args.x s.requires c.if-x-eq0.false ∙
+    rw (c.if-x.false, lt-leb _ _ c.if-x-tag.true))
 
 returns_4 : tie.Need-returns
 returns_4 c =
-    let s = c.before.before.before.before.before in
+    let s = c in
     sym
-    (first_some s.args.tag s.args.t2 s.requires c.before.before.before.before.if-x-eq0.false ∙
-    rw (c.before.before.before.if-x.false, le-leb _ _ c.before.if-x-tag.false))
+    (first_some s.args.tag s.args.x s.requires c.if-x-eq0.false ∙
+    rw (c.if-x.false, le-leb _ _ c.if-x-tag.false))
 
 pub first_pair_spec : {M : Type 1} → statement M
 first_pair_spec =

@@ -19,27 +19,27 @@ decreases-loop-i tag count tags i₀ i = count - i
 
 returns : tie.Need-returns-then-tags-i invariant-loop-i decreases-loop-i
 returns c =
-    let s = c.before.before.before in
+    let s = c in
     omega (
       arith,
-      before_hit s.args.tag s.args.count s.args.t3 c.before.before.loop-i.i (omega arith) (omega arith)
+      before_hit s.args.tag s.args.count s.args.tags c.loop-i.i (omega arith) (omega arith)
           c.if-tags-i.true,
     )
 
 loop_again : tie.Need-loop-i-preserved invariant-loop-i decreases-loop-i
 loop_again c =
-    let s = c.before.before.before in
+    let s = c in
     omega (
       arith,
-      before_miss s.args.tag s.args.count s.args.t3 c.before.before.loop-i.i (omega arith) (omega arith)
+      before_miss s.args.tag s.args.count s.args.tags c.loop-i.i (omega arith) (omega arith)
           c.if-tags-i.false,
     )
 
 returns_2 : tie.Need-returns invariant-loop-i decreases-loop-i
 returns_2 c =
-    let s = c.before.before in
+    let s = c in
     omega
-    (arith, before_end s.args.tag s.args.count s.args.t3 c.before.loop-i.i c.loop-i-test.false)
+    (arith, before_end s.args.tag s.args.count s.args.tags c.loop-i.i c.loop-i-test.false)
 
 pub lines_before_spec : {M : Type 1} → statement M
 lines_before_spec =

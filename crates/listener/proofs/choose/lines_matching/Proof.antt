@@ -21,22 +21,22 @@ decreases-loop-i tag count tags found₀ i₀ found i = count - i
 
 loop_again : tie.Need-loop-i-preserved invariant-loop-i decreases-loop-i
 loop_again c =
-    let s = c.before.before.before in
-    let i = c.before.before.loop-i.i in
+    let s = c in
+    let i = c.loop-i.i in
     ⊎_elim
     (λ w.
     omega
-    (arith, matching_hit s.args.tag s.args.count s.args.t3 i (omega arith) (omega arith) w.0.taken))
+    (arith, matching_hit s.args.tag s.args.count s.args.tags i (omega arith) (omega arith) w.if-tags-i.true))
     (λ w.
     omega
-    (arith, matching_miss s.args.tag s.args.count s.args.t3 i (omega arith) (omega arith) w.0.left))
-    c.if-tags-i.branch
+    (arith, matching_miss s.args.tag s.args.count s.args.tags i (omega arith) (omega arith) w.if-tags-i.false))
+    c.if-tags-i.branch-raw
 
 returns : tie.Need-returns invariant-loop-i decreases-loop-i
 returns c =
-    let s = c.before.before in
+    let s = c in
     omega
-    (arith, matching_end s.args.tag s.args.count s.args.t3 c.before.loop-i.i c.loop-i-test.false)
+    (arith, matching_end s.args.tag s.args.count s.args.tags c.loop-i.i c.loop-i-test.false)
 
 pub lines_matching_spec : {M : Type 1} → statement M
 lines_matching_spec =

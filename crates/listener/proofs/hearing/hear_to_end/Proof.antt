@@ -22,9 +22,9 @@ decreases-loop-lines image count tag t h₀ from₀ lines₀ h from lines = to_g
 
 loop_holds : tie.Need-loop-lines-init invariant-loop-lines decreases-loop-lines
 loop_holds c =
-    let s = c.before.before.before in
+    let s = c in
     let f =
-    at_start s.args.image.now s.args.count s.args.tag s.args.t c.before.new-l.ensures c.hear-step.ensures
+    at_start s.args.image.now s.args.count s.args.tag s.args.t c.new-l.ensures c.hear-step.ensures
     s.requires.0 in
     (f, begins f refl)
 
@@ -45,21 +45,21 @@ begun c =
     let s = start c in
     let goal = whole_run s.args.image.now s.args.count s.args.tag s.args.t in
     ⊎_elim
-    (λ w. subst (Begins s.args.image.now s.args.count goal) (sym w.3) (begins (at c).loop-lines.invariant.0 w.0.taken))
+    (λ w. subst (Begins s.args.image.now s.args.count goal) (sym w.from-is) (begins (at c).loop-lines.invariant.0 w.if-lines-eq0.true))
     (⊎_elim
-    (λ w. subst (Begins s.args.image.now s.args.count goal) (sym w.3) (at c).loop-lines.invariant.1)
-    (λ w. subst (Begins s.args.image.now s.args.count goal) (sym w.1) (at c).loop-lines.invariant.1))
-    c.if-lines-eq0.branch
+    (λ w. subst (Begins s.args.image.now s.args.count goal) (sym w.from-is) (at c).loop-lines.invariant.1)
+    (λ w. subst (Begins s.args.image.now s.args.count goal) (sym w.from-is) (at c).loop-lines.invariant.1))
+    c.if-lines-eq0.branch-raw
 
 -- ---- it dozes
 
 abbrev here : tie.In-Doze invariant-loop-lines decreases-loop-lines → tie.Joined-lines-eq0 invariant-loop-lines decreases-loop-lines
-here c = c.before.before.before.before
+here c = c.before.before
 
 dozed :
     (c : tie.In-Doze invariant-loop-lines decreases-loop-lines) →
-    (at (here c)).loop-lines.h.step.answer ≡ Doze c.before.answer-1.given.0.0
-dozed c = c.before.answer-1.given.1
+    (at (here c)).loop-lines.h.step.answer ≡ Doze c.in-Doze.d
+dozed c = c.in-Doze.is
 
 hear_next_requires : tie.Need-hear_next-h-requires invariant-loop-lines decreases-loop-lines
 hear_next_requires c κs =
@@ -68,13 +68,13 @@ hear_next_requires c κs =
 
 loop_less : tie.Need-loop-lines-smaller invariant-loop-lines decreases-loop-lines
 loop_less c =
-    fewer_to_go (at (here c.before)).loop-lines.invariant.0 c.before.before.answer-1.given.0.0 (dozed c.before)
+    fewer_to_go (at (here c.before)).loop-lines.invariant.0 c.in-Doze.d (dozed c.before)
     c.hear_next-h.ensures
 
 loop_again : tie.Need-loop-lines-preserved invariant-loop-lines decreases-loop-lines
 loop_again c =
     let f = (at (here c.before)).loop-lines.invariant.0 in (
-      rw c.hear_next-h.ensures (onward f c.before.before.answer-1.given.0.0 (dozed c.before)),
+      rw c.hear_next-h.ensures (onward f c.in-Doze.d (dozed c.before)),
       begun (here c.before),
     )
 
@@ -82,31 +82,31 @@ loop_again c =
 
 returns : tie.Need-returns-in-Found invariant-loop-lines decreases-loop-lines
 returns c =
-    let j = c.before.before.before in
+    let j = c.before.before in
     let f = (at j).loop-lines.invariant.0 in
     record {
       begins = begun j;
       ends =
           ap (Found (at j).loop-lines.h.step.listener) (sym (counted_with f)) ∙
-          ap as_ending (sym (after_step f c.enum_told.given.1));
+          ap as_ending (sym (after_step f c.in-Found.is));
     }
 
 returns_2 : tie.Need-returns-in-Absent invariant-loop-lines decreases-loop-lines
 returns_2 c =
-    let j = c.before.before.before in
-    record { begins = begun j; ends = ap as_ending (sym (after_step (at j).loop-lines.invariant.0 c.enum_told-in-Absent-1.given.1)) }
+    let j = c.before.before in
+    record { begins = begun j; ends = ap as_ending (sym (after_step (at j).loop-lines.invariant.0 c.in-Absent.is)) }
 
 returns_3 : tie.Need-returns-in-Refused invariant-loop-lines decreases-loop-lines
 returns_3 c =
-    let j = c.before.before.before.before in
-    record { begins = begun j; ends = ap as_ending (sym (after_step (at j).loop-lines.invariant.0 c.before.answer-in-Refused-1.given.1)) }
+    let j = c.before.before in
+    record { begins = begun j; ends = ap as_ending (sym (after_step (at j).loop-lines.invariant.0 c.in-Refused.is)) }
 
 pub hear_to_end_spec : {M : Type 1} → statement M
 hear_to_end_spec =
     tie.close
     (tie.spec invariant-loop-lines decreases-loop-lines
     (λ c κs. search rules)
-    (λ c κs. omega (arith, c.before.before.requires))
+    (λ c κs. omega (arith, c.requires))
     loop_holds
     (λ c. omega (arith, lines_few (at c.before).loop-lines.invariant.0))
     (λ c. search rules)

@@ -23,7 +23,7 @@ abbrev start : tie.Else-number-ne0 → tie.Start
 start c = c.before.before.before.before
 
 neither : (c : tie.Else-number-ne0) → refusal_of (length (start c).args.image.now) (start c).args.t ≡ 0
-neither c = sym c.before.refusal-number.ensures ∙ c.if-number-ne0.false
+neither c = sym c.refusal-number.ensures ∙ c.if-number-ne0.false
 
 abbrev ran : tie.Else-number-ne0 → Finish
 ran c =
@@ -52,17 +52,17 @@ ended c e =
 
 found_in :
     (c : tie.In-Found) →
-    FoundIn (ran (end c.before.before).before) (end c.before.before).hear_to_end-ran.result.last.step.listener
-    (end c.before.before).hear_to_end-ran.result.lines
-found_in c = as_found (ran (end c.before.before).before) (ended c.before.before c.enum_told.given.1)
+    FoundIn (ran (end c.before).before) (end c.before).hear_to_end-ran.result.last.step.listener
+    (end c.before).hear_to_end-ran.result.lines
+found_in c = as_found (ran (end c.before).before) (ended c.before c.in-Found.is)
 
 -- ---- the answers
 
 returns : tie.Need-returns-then-number-ne0
 unfolding refuse
 returns c =
-    let s = c.before.before.before.before in
-    let number = c.before.refusal-number.ensures in
+    let s = c in
+    let number = c.refusal-number.ensures in
     handed s.args.out.now
     (concludes s.args.image.now s.args.tag s.args.t (length s.args.out.now)
     (runs_not s.args.image.now s.args.tag s.args.t (λ e. c.if-number-ne0.true (number ∙ e))))
@@ -77,7 +77,7 @@ hear_to_end_requires c κs =
 returns_2 : tie.Need-returns-then-out-lines
 unfolding refuse
 returns_2 c =
-    let last = end c.before.before.before in
+    let last = end c.before.before in
     let here = last.before in
     let f = found_in c.before in
     handed (start here).args.out.now
@@ -90,7 +90,7 @@ returns_2 c =
 write_found_requires : tie.Need-write_found-requires
 write_found_requires c κs =
     let found = c.before.before.before in
-    let last = end found.before.before in
+    let last = end found.before in
     let here = last.before in
     let r = room (length (start here).args.image.now) (start here).args.t (neither here) in
     let f = found_in found in (
@@ -103,7 +103,7 @@ write_found_requires c κs =
           is = sym last.hear_to_end-ran.ensures.begins.all ∙ f.is;
           fits =
               has_room (length (start here).args.out.now) last.hear_to_end-ran.result.last.step.listener f.got
-              (omega (arith, f.counted, c.before.before.if-out-lines.false));
+              (omega (arith, f.counted, c.if-out-lines.false));
         },
       ),
     )
@@ -111,34 +111,34 @@ write_found_requires c κs =
 returns_3 : tie.Need-returns-else-out-lines
 returns_3 c =
     let found = c.before.before.before.before.before.before.before.before in
-    let last = end found.before.before in
+    let last = end found.before in
     let here = last.before in
     let out = (start here).args.out.now in
     let f = found_in found in
     handed out
     (by_the_run here f.is ∙
     finds (length out) last.hear_to_end-ran.result.last.step.listener f.got
-    (omega (arith, f.counted, c.before.before.before.before.before.before.before.if-out-lines.false)))
-    (found_alike c.before.heard.ensures c.elapsed.ensures (sym f.counted))
-    (c.before.before.before.before.write_found.ensures ∙
+    (omega (arith, f.counted, c.if-out-lines.false)))
+    (found_alike c.heard.ensures c.elapsed.ensures (sym f.counted))
+    (c.write_found.ensures ∙
     ap (λ z. put out 0 (joined print_line (got_by z))) (sym last.hear_to_end-ran.ensures.begins.all ∙ f.is))
 
 returns_4 : tie.Need-returns-in-Absent
 returns_4 c =
-    let l = c.before.before.before.before in
+    let l = c.before.before.before in
     let here = (end l).before in
     handed (start here).args.out.now
-    (by_the_run here (as_absent (ran here) (ended l c.before.before.enum_told-in-Absent-1.given.1)))
-    (absent_alike c.before.heard-in-Absent.ensures c.elapsed-in-Absent.ensures)
+    (by_the_run here (as_absent (ran here) (ended l c.in-Absent.is)))
+    (absent_alike c.heard-in-Absent.ensures c.elapsed-in-Absent.ensures)
     (sym (put_nil (start here).args.out.now 0))
 
 returns_5 : tie.Need-returns-in-Refused
 unfolding refuse
 returns_5 c =
-    let l = c.before.before.before in
+    let l = c.before in
     let here = (end l).before in
     handed (start here).args.out.now
-    (by_the_run here (as_refused (ran here) (ended l c.before.stop-1.given.1)))
+    (by_the_run here (as_refused (ran here) (ended l c.in-Refused.is)))
     refl
     (sym (put_nil (start here).args.out.now 0))
 

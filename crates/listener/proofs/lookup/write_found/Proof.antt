@@ -25,7 +25,7 @@ decreases-loop-d image count out₀ h₀ lines₀ out h lines = to_go h
 
 loop_holds : tie.Need-loop-d-init invariant-loop-d decreases-loop-d
 loop_holds c =
-    let s = c.before.before in
+    let s = c in
     nothing_written s.args.image.now s.args.count s.args.out.now s.requires.1.0
 
 -- ---- at a bucket heard
@@ -60,18 +60,18 @@ at c = (copied c).before.before.before
 -- a call keeps the buffer's length
 kept_length :
     (c : tie.After-struct_known-1 invariant-loop-d decreases-loop-d) →
-    length (copied c).copy_named.new.1.1.1.1.0 ≡ length (start (at c)).args.out.now
-kept_length c = (copied c).copy_named.auto.1.1.1.1.0 ∙ (at c).loop-d.invariant.kept
+    length (copied c).copy_named.new.out ≡ length (start (at c)).args.out.now
+kept_length c = (copied c).copy_named.auto.out ∙ (at c).loop-d.invariant.kept
 
 -- ---- it dozes
 
 abbrev heard : tie.In-Doze invariant-loop-d decreases-loop-d → tie.After-struct_known-1 invariant-loop-d decreases-loop-d
-heard c = c.before.before.before
+heard c = c.before
 
 dozed :
     (c : tie.In-Doze invariant-loop-d decreases-loop-d) →
-    (at (heard c)).loop-d.h.step.answer ≡ Doze c.before.answer-1.given.0.0
-dozed c = c.before.answer-1.given.1
+    (at (heard c)).loop-d.h.step.answer ≡ Doze c.in-Doze.d
+dozed c = c.in-Doze.is
 
 hear_next_requires : tie.Need-hear_next-h-requires invariant-loop-d decreases-loop-d
 hear_next_requires c κs =
@@ -81,38 +81,38 @@ hear_next_requires c κs =
 loop_less : tie.Need-loop-d-smaller invariant-loop-d decreases-loop-d
 loop_less c =
     let here = c.before in
-    fewer_to_go (at (heard here)).loop-d.invariant.so_far here.before.answer-1.given.0.0 (dozed here) c.hear_next-h.ensures
+    fewer_to_go (at (heard here)).loop-d.invariant.so_far here.in-Doze.d (dozed here) c.hear_next-h.ensures
 
 loop_again : tie.Need-loop-d-preserved invariant-loop-d decreases-loop-d
 loop_again c =
     let here = c.before in
     let copy = (copied (heard here)).copy_named in
-    written_onward (writing (at (heard here))) here.before.answer-1.given.0.0 (dozed here)
+    written_onward (writing (at (heard here))) here.in-Doze.d (dozed here)
     c.hear_next-h.ensures
-    copy.kept.1.1.1.1.0
+    copy.auto.out
     copy.ensures
 
 -- ---- it ends: a run that finds does not end in another way
 
 returns : tie.Need-returns-in-Found invariant-loop-d decreases-loop-d
 returns c =
-    let here = c.before.before in
+    let here = c.before in
     wrote_with (writing (at here)) (copied here).copy_named.ensures ∙
     ap (λ got. put (start (at here)).args.out.now 0 (joined print_line got))
-    (sym (ap got_by (after_step (writing (at here)).written.so_far c.enum_told.given.1)))
+    (sym (ap got_by (after_step (writing (at here)).written.so_far c.in-Found.is)))
 
 returns_2 : tie.Need-returns-in-Absent invariant-loop-d decreases-loop-d
 returns_2 c =
-    let here = c.before.before in
-    let a = after_step (at here).loop-d.invariant.so_far c.enum_told-in-Absent-1.given.1 in
+    let here = c.before in
+    let a = after_step (at here).loop-d.invariant.so_far c.in-Absent.is in
     let f = (start (at here)).requires.1.1.is in
     let z : ◌≡◌ {A = ℕ} 0 1 = cc in
     absurd (omega arith)
 
 returns_3 : tie.Need-returns-in-Refused invariant-loop-d decreases-loop-d
 returns_3 c =
-    let here = c.before.before in
-    let a = after_step (at here).loop-d.invariant.so_far c.enum_told-in-Refused-1.given.1 in
+    let here = c.before in
+    let a = after_step (at here).loop-d.invariant.so_far c.in-Refused.is in
     let f = (start (at here)).requires.1.1.is in
     let z : ◌≡◌ {A = ℕ} 0 1 = cc in
     absurd (omega arith)
@@ -129,11 +129,11 @@ write_found_spec =
     loop_less
     loop_again
     (λ c. search rules)
-    (λ c. kept_length c.before.before)
+    (λ c. kept_length c.before)
     returns
     (λ c. search rules)
-    (λ c. kept_length c.before.before)
+    (λ c. kept_length c.before)
     returns_2
     (λ c. search rules)
-    (λ c. kept_length c.before.before)
+    (λ c. kept_length c.before)
     returns_3)

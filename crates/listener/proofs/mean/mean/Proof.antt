@@ -24,31 +24,31 @@ known : (c : tie.After-waits-waited) → waits (set (start c)) (start c).args.li
 known c = sym (waited_told c.waits-waited.result (waits (set (start c)) (start c).args.list.now) c.waits-waited.ensures)
 
 -- it answered with a sum
-abbrev made : tie.In-Sum-2 → WaitSum
-made c = c.waited-in-Sum-1.given.0.0
+abbrev made : tie.In-Sum → WaitSum
+made c = c.in-Sum.w
 
 summed :
-    (c : tie.In-Sum-2) →
-    let s = start c.before.before in waits (set s) s.args.list.now ≡ Sum (made c)
-summed c = known c.before.before ∙ c.waited-in-Sum-1.given.1
+    (c : tie.In-Sum) →
+    let s = start c.before in waits (set s) s.args.list.now ≡ Sum (made c)
+summed c = known c.before ∙ c.in-Sum.is
 
 average_requires : tie.Need-average-requires
 average_requires c κs =
-    let told = c.before in
-    let s = start told.before.before in
+    let told = c in
+    let s = start told.before in
     let d = divisible (set s) s.args.list.now (made told) (summed told) in
     (d.n_low, d.n_high, d.tags_low, d.tags_high)
 
 returns : tie.Need-returns-in-Refused
 returns c =
-    let w = c.before.before.before in
+    let w = c.before in
     let s = start w in
-    mean_refused (set s) s.args.list.now _ _ (known w ∙ c.before.waited-1.given.1)
+    mean_refused (set s) s.args.list.now _ _ (known w ∙ c.in-Refused.is)
 
 returns_2 : tie.Need-returns-in-Sum
 returns_2 c =
-    let told = c.before.before in
-    let s = start told.before.before in
+    let told = c.before in
+    let s = start told.before in
     ap (λ m. Mean.numbers (Mean m)) c.average.ensures ∙ mean_divided (set s) s.args.list.now (made told) (summed told)
 
 pub mean_spec : {M : Type 1} → statement M

@@ -12,8 +12,8 @@ use Rattle.listener.proofs.run.run.Tie as tie
 
 returns : tie.Need-returns-then-number-ne0
 returns c =
-    let s = c.before.before.before in
-    let number = c.before.refusal-number.ensures in
+    let s = c in
+    let number = c.refusal-number.ensures in
     ap ending_numbers
     (ap (λ z. Refused z 0) number ∙
     ap as_ending (sym (runs_not s.args.image.now s.args.tag s.args.t (λ e. c.if-number-ne0.true (number ∙ e)))))
@@ -23,7 +23,7 @@ abbrev start : tie.Else-number-ne0 → tie.Start
 start c = c.before.before.before
 
 neither : (c : tie.Else-number-ne0) → refusal_of (length (start c).args.image.now) (start c).args.t ≡ 0
-neither c = sym c.before.refusal-number.ensures ∙ c.if-number-ne0.false
+neither c = sym c.refusal-number.ensures ∙ c.if-number-ne0.false
 
 hear_to_end_requires : tie.Need-hear_to_end-ran-requires
 hear_to_end_requires c κs =
@@ -56,6 +56,6 @@ run_spec =
     returns
     hear_to_end_requires
     (λ c. search rules) (λ c. search rules) (λ c. search rules)
-    (λ c. ended c.before.before c.enum_told.given.1)
-    (λ c. ended c.before.before c.enum_told-in-Absent-1.given.1)
-    (λ c. ended c.before.before.before c.before.stop-1.given.1))
+    (λ c. ended c.before c.in-Found.is)
+    (λ c. ended c.before c.in-Absent.is)
+    (λ c. ended c.before c.in-Refused.is))
