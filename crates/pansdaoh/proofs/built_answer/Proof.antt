@@ -7,11 +7,11 @@ use Rattle.pansdaoh.proofs.built_answer.Tie as tie
 
 returns : tie.Need-returns-in-Cycle
 unfolding built_answer answer_of
-returns c = rw c.before.built-1.given.1 refl
+returns c = rw c.in-Cycle.is refl
 
 returns_2 : tie.Need-returns-in-Refused
 unfolding built_answer answer_of
-returns_2 c = rw c.before.built-in-Refused-1.given.1 refl
+returns_2 c = rw c.in-Refused.is refl
 
 pub built_answer_spec : {M : Type 1} → statement M
 built_answer_spec = tie.close (tie.spec (λ c. search rules) (λ c. search rules) returns returns_2)

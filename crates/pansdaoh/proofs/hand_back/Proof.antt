@@ -8,13 +8,13 @@ use Rattle.pansdaoh.proofs.hand_back.Tie as tie
 
 returns : tie.Need-returns-then-was_ended
 unfolding state_after
-returns c = (c.step_answer.ensures, rw (sym c.before.before.was_ended.ensures, c.before.if-was_ended.true))
+returns c = (c.step_answer.ensures, rw (sym c.was_ended.ensures, c.if-was_ended.true))
 
 returns_2 : tie.Need-returns
 unfolding state_after
 returns_2 c =
-    let w = c.before.before.before.before in
-    (c.step_answer-2.ensures, rw (sym w.was_ended.ensures, c.before.before.before.if-was_ended.false) c.before.saved.ensures)
+    let w = c in
+    (c.step_answer-2.ensures, rw (sym w.was_ended.ensures, c.if-was_ended.false) c.saved.ensures)
 
 pub hand_back_spec : {M : Type 1} → statement M
 hand_back_spec =

@@ -7,15 +7,15 @@ use Rattle.pansdaoh.proofs.line_answer.Tie as tie
 
 returns : tie.Need-returns-in-Line
 unfolding line_answer
-returns c = rw c.before.answer-1.given.1 refl
+returns c = rw c.in-Line.is refl
 
 returns_2 : tie.Need-returns-in-Nothing
 unfolding line_answer
-returns_2 c = rw c.before.enum_told-1.given.1 c.no_line.ensures
+returns_2 c = rw c.in-Nothing.is c.no_line.ensures
 
 returns_3 : tie.Need-returns-in-Misprinted
 unfolding line_answer
-returns_3 c = rw c.before.enum_told-in-Misprinted-1.given.1 c.no_line-in-Misprinted.ensures
+returns_3 c = rw c.in-Misprinted.is c.no_line-in-Misprinted.ensures
 
 pub line_answer_spec : {M : Type 1} → statement M
 line_answer_spec =

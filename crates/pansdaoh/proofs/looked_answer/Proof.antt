@@ -7,15 +7,15 @@ use Rattle.pansdaoh.proofs.looked_answer.Tie as tie
 
 returns : tie.Need-returns-in-Found
 unfolding looked_answer
-returns c = rw c.before.looked-1.given.1 refl
+returns c = rw c.in-Found.is refl
 
 returns_2 : tie.Need-returns-in-Absent
 unfolding looked_answer
-returns_2 c = rw c.before.looked-in-Absent-1.given.1 refl
+returns_2 c = rw c.in-Absent.is refl
 
 returns_3 : tie.Need-returns-in-Refused
 unfolding looked_answer
-returns_3 c = rw c.before.looked-in-Refused-1.given.1 refl
+returns_3 c = rw c.in-Refused.is refl
 
 pub looked_answer_spec : {M : Type 1} → statement M
 looked_answer_spec =

@@ -8,7 +8,7 @@ use Rattle.pansdaoh.proofs.pansdaoh_build.Tie as tie
 returns : tie.Need-returns
 unfolding built_answer
 returns c =
-    let told = c.before.before.before.build-built.ensures in
+    let told = c.build-built.ensures in
     (c.built_answer.ensures ∙ ap answer_of told.0, told.1)
 
 pub pansdaoh_build_spec : {M : Type 1} → statement M

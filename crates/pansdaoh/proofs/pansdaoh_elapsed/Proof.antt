@@ -9,4 +9,4 @@ pansdaoh_elapsed_spec = tie.close
     (tie.spec
     (λ c κs. search rules)
     (λ c κs. search rules)
-    (λ c. c.elapsed.ensures ∙ ap (λ l. l.elapsed) c.before.restored-l.ensures))
+    (λ c. c.elapsed.ensures ∙ ap (λ l. l.elapsed) c.restored-l.ensures))

@@ -9,4 +9,4 @@ pansdaoh_heard_spec = tie.close
     (tie.spec
     (λ c κs. search rules)
     (λ c κs. search rules)
-    (λ c. c.heard.ensures ∙ ap (λ l. l.heard) c.before.restored-l.ensures))
+    (λ c. c.heard.ensures ∙ ap (λ l. l.heard) c.restored-l.ensures))

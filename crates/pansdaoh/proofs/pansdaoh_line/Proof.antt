@@ -10,4 +10,4 @@ pansdaoh_line_spec = tie.close
     (tie.spec
     (λ c κs. search rules)
     (λ c κs. search rules)
-    (λ c. c.line_answer.ensures ∙ ap line_answer c.before.Line-of.ensures))
+    (λ c. c.line_answer.ensures ∙ ap line_answer c.line_of-line.ensures))

@@ -10,11 +10,11 @@ use Rattle.pansdaoh.proofs.pansdaoh_lookup.Tie as tie
 
 returns : tie.Need-returns
 returns c =
-    let l = c.before.before.before in
-    let a = l.before.before.before.before.args in
+    let l = c in
+    let a = l.args in
     let answer = (lookup a.image.now a.tag a.tune_in (length a.out.now)).answer in (
-      c.looked_answer.ensures ∙ ap looked_answer (looked_told l.lookup.result answer l.lookup.ensures.0),
-      l.lookup.ensures.1,
+      c.looked_answer.ensures ∙ ap looked_answer (looked_told l.lookup-looked.result answer l.lookup-looked.ensures.0),
+      l.lookup-looked.ensures.1,
     )
 
 pub pansdaoh_lookup_spec : {M : Type 1} → statement M

@@ -8,7 +8,7 @@ use Rattle.pansdaoh.proofs.pansdaoh_read_back.Tie as tie
 returns : tie.Need-returns
 unfolding read_back_answer
 returns c =
-    let told = c.before.before.before.read_back-restored.ensures in
+    let told = c.read_back-restored.ensures in
     (c.read_back_answer.ensures ∙ ap answer_of told.0, told.1)
 
 pub pansdaoh_read_back_spec : {M : Type 1} → statement M

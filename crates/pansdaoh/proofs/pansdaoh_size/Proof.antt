@@ -7,7 +7,7 @@ use Rattle.pansdaoh.proofs.pansdaoh_size.Tie as tie
 
 returns : tie.Need-returns
 unfolding size_answer
-returns c = c.size_answer.ensures ∙ ap size_of c.before.size.ensures
+returns c = c.size_answer.ensures ∙ ap size_of c.size.ensures
 
 pub pansdaoh_size_spec : {M : Type 1} → statement M
 pansdaoh_size_spec = tie.close (tie.spec (λ c κs. search rules) (λ c κs. search rules) returns)

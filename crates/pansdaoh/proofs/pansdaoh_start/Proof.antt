@@ -10,4 +10,4 @@ pansdaoh_start_spec = tie.close
     (tie.spec
     (λ c κs. search rules)
     (λ c κs. search rules)
-    (λ c. c.saved.ensures ∙ ap saved c.before.new-l.ensures))
+    (λ c. c.saved.ensures ∙ ap saved c.new-l.ensures))

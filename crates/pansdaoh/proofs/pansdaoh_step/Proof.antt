@@ -10,18 +10,18 @@ use Rattle.pansdaoh.proofs.pansdaoh_step.Tie as tie
 
 -- the step from the saved state
 taken : (c : tie.After-step-r) →
-    let s = c.before.before.before.before in
+    let s = c in
     c.step-r.result ≡ step_from s.args.state.now s.args.bucket.now
 unfolding step_from
 taken c =
-    let bucket = c.before.before.before.before.args.bucket.now in
-    step_told c.step-r.result (step c.before.restored-l.result bucket) c.step-r.ensures.0 c.step-r.ensures.1 ∙
-    ap (λ l. step l bucket) c.before.restored-l.ensures
+    let bucket = c.args.bucket.now in
+    step_told c.step-r.result (step c.restored-l.result bucket) c.step-r.ensures.0 c.step-r.ensures.1 ∙
+    ap (λ l. step l bucket) c.restored-l.ensures
 
 returns : tie.Need-returns
 returns c =
     let r = c.before.before in
-    let state = r.before.before.before.before.args.state.now in
+    let state = r.args.state.now in
     (c.hand_back.ensures.0 ∙ ap step_answer (taken r), c.hand_back.ensures.1 ∙ ap (state_after state) (taken r))
 
 pub pansdaoh_step_spec : {M : Type 1} → statement M

@@ -8,7 +8,7 @@ use Rattle.pansdaoh.proofs.pansdaoh_take_out.Tie as tie
 returns : tie.Need-returns
 unfolding change_answer
 returns c =
-    let told = c.before.before.before.before.before.take_out-changed.ensures in
+    let told = c.take_out-changed.ensures in
     (c.change_answer.ensures ∙ ap change_of told.0, told.1, told.2)
 
 pub pansdaoh_take_out_spec : {M : Type 1} → statement M

@@ -7,11 +7,11 @@ use Rattle.pansdaoh.proofs.size_answer.Tie as tie
 
 returns : tie.Need-returns-in-Cycle
 unfolding size_answer size_of
-returns c = rw c.before.sized-1.given.1 refl
+returns c = rw c.in-Cycle.is refl
 
 returns_2 : tie.Need-returns-in-Refused
 unfolding size_answer size_of
-returns_2 c = rw c.before.sized-in-Refused-1.given.1 refl
+returns_2 c = rw c.in-Refused.is refl
 
 pub size_answer_spec : {M : Type 1} → statement M
 size_answer_spec = tie.close (tie.spec (λ c. search rules) (λ c. search rules) returns returns_2)

@@ -7,19 +7,19 @@ use Rattle.pansdaoh.proofs.step_answer.Tie as tie
 
 returns : tie.Need-returns-in-Doze
 unfolding step_answer
-returns c = rw c.before.answer-1.given.1 refl
+returns c = rw c.in-Doze.is refl
 
 returns_2 : tie.Need-returns-in-Found
 unfolding step_answer
-returns_2 c = rw c.enum_told.given.1 refl
+returns_2 c = rw c.in-Found.is refl
 
 returns_3 : tie.Need-returns-in-Absent
 unfolding step_answer
-returns_3 c = rw c.enum_told-in-Absent-1.given.1 refl
+returns_3 c = rw c.in-Absent.is refl
 
 returns_4 : tie.Need-returns-in-Refused
 unfolding step_answer
-returns_4 c = rw c.before.answer-in-Refused-1.given.1 refl
+returns_4 c = rw c.in-Refused.is refl
 
 pub step_answer_spec : {M : Type 1} → statement M
 step_answer_spec =

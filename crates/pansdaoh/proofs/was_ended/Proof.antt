@@ -10,4 +10,4 @@ was_ended_spec =
     (tie.spec
     (λ c. search rules) (λ c. search rules) (λ c. search rules) (λ c. search rules) (λ c. search rules)
     (λ c. search rules) (λ c. search rules)
-    (λ c. rw c.before.answer-1.given.1 refl))
+    (λ c. rw c.in-Refused.is refl))
