@@ -1,4 +1,5 @@
 // List lines and buckets: document 01, "A list line" and "A bucket".
+#![tactic(auto)]
 
 pub mod bucket_line;
 mod fields;

@@ -1,4 +1,6 @@
 // Decimal columns: document 01, "Printed numbers".
+#![tactic(auto)]
+
 ghost use Rattle.std.specs.Prelude.{◌≡◌, ◌-◌, ◌^◌, ◌<◌, ◌≤◌, true, ◌&&◌, ◌||◌, [], ◌∷◌, length, take, drop, ◌==◌};
 ghost use Rattle.columns.specs.Lists.{pick, put, every};
 ghost use Rattle.columns.specs.Inner.Places.{column_printed, column_digits};

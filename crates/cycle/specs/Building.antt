@@ -1,6 +1,6 @@
 -- Document 01, "Refused inputs": building, with the conditions 1 to 7 in that order.
 -- Assumes nothing.
-use Rattle.std.specs.Prelude.{ℕ, ◌-◌, ◌*◌, min, max, Bool, ◌&&◌, not, List, [], ◌∷◌, leb, ltb, eqb, length}
+use Rattle.std.specs.Prelude.{ℕ, ◌-◌, min, max, Bool, ◌&&◌, not, List, [], ◌∷◌, leb, ltb, eqb, length}
 use Rattle.std.proofs.Math.Option.{Option, none, some}
 use Rattle.columns.specs.Lists.{pick}
 use Rattle.buckets.specs.Lengths.{buckets_most}

@@ -23,6 +23,8 @@
 //   read_back  an image held against the cycle of its own lines, and their list: ReadingBack.read_back. Laws: ReadingBack
 //
 // Figures, Segment and Source are what these files hand on; specs/Inner says what each stands for.
+#![tactic(auto)]
+
 pub mod build;
 pub mod changes;
 mod conditions;

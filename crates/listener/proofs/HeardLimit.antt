@@ -1,6 +1,6 @@
 -- The limit on heard buckets that sizing gives is demand 3's: a tag lies in no more than D data buckets.
 -- Assumes nothing.
-use mathlib.Core.Path.{◌≡◌, sym, ap, ap₂, ◌∙◌}
+use mathlib.Core.Path.{sym, ap₂, ◌∙◌}
 use Prim.Native.Nat.{ℕ, ◌+◌, ◌≤◌}
 use native.Mathlib.Nat.{min-eq_left}
 use native.Mathlib.Omega.{arith}
@@ -12,9 +12,8 @@ use Rattle.columns.specs.Lists.{pick, any, parts, up}
 use Rattle.columns.proofs.Joined.{length_parts}
 use Rattle.buckets.specs.declared.Line.{Line}
 use Rattle.buckets.specs.ListLine.{list_lines}
-use Rattle.cycle.specs.Tree.{Settings, Plan, data_buckets, plan}
-use Rattle.cycle.specs.Size.{heard_most, Listed}
-use Rattle.cycle.specs.declared.Dimensions.{Dimensions}
+use Rattle.cycle.specs.Tree.{Settings, data_buckets, plan}
+use Rattle.cycle.specs.Size.{heard_most}
 use Rattle.cycle.proofs.Building.SizeAgrees.{every_size, heard_given}
 use Rattle.listener.specs.Hearing.{count_if, runs_with}
 use Rattle.listener.specs.Demand3.{heard_limit}

@@ -1,6 +1,6 @@
 -- Document 01, "The listener", second paragraph: a lookup, with the conditions 11, 12, the steps' own and 7 in that order.
 -- Assumes nothing.
-use Rattle.std.specs.Prelude.{ℕ, zero, suc, ◌+◌, ◌-◌, ◌*◌, ◌/◌, ◌%◌, List, [], ◌∷◌, ◌++◌, leb, length}
+use Rattle.std.specs.Prelude.{ℕ, zero, suc, ◌+◌, ◌*◌, ◌/◌, ◌%◌, List, [], ◌∷◌, ◌++◌, leb, length}
 use Rattle.std.proofs.Math.Option.{Option, none, some}
 use Rattle.columns.specs.Lists.{joined}
 use Rattle.buckets.specs.Lengths.{bucket_length, line_length}

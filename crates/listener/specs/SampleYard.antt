@@ -1,9 +1,8 @@
 -- Document 01, "Sample yard": P1 to P11 and the printed table, as one table computed from the definitions.
 -- Assumes nothing.
-use Rattle.std.specs.Prelude.{◌≡◌, refl, ℕ, zero, suc, ◌+◌, ◌-◌, ◌*◌, List, [], ◌∷◌, ◌++◌, map, length, drop, replicate}
+use Rattle.std.specs.Prelude.{ℕ, ◌+◌, ◌*◌, List, [], ◌∷◌, ◌++◌, map, drop, replicate}
 use Rattle.columns.specs.Lists.{pick, joined, range}
 use Rattle.buckets.specs.Lengths.{bucket_length, line_length}
-use Rattle.buckets.specs.declared.Line.{Line}
 use Rattle.buckets.specs.ListLine.{print_line, list_lines}
 use Rattle.cycle.specs.Tree.{Settings, Plan, plan}
 use Rattle.cycle.specs.Layouts.{Slot, slots}

@@ -1,4 +1,6 @@
 // The listener, the lookup and the mean wait: document 01, "The listener", with document 02, C-12, C-16 and C-17.
+#![tactic(auto)]
+
 mod choose;
 mod hearing;
 pub mod lookup;

@@ -2,6 +2,8 @@
 // a lookup, a listener whose state is eight numbers that the caller keeps, given a bucket or told of a lost one, and the lines
 // of a bucket.
 // Each takes any input. A lent buffer keeps every byte that the output does not cover, and all of them on a refusal.
+#![tactic(auto)]
+
 ghost use Rattle.std.specs.Prelude.{◌≡◌, ℕ, [], ◌∷◌, length};
 ghost use Rattle.columns.specs.Lists.{onto, put};
 ghost use Rattle.buckets.specs.Bucket.{read_bucket};

@@ -1,7 +1,7 @@
 -- Lines and buckets read field by field, each column once: what each function of the reader answers. That this is the strict
 -- reading of `ListLine` and `Bucket` is a law.
 -- Assumes nothing.
-use Rattle.std.specs.Prelude.{ℕ, zero, suc, ◌+◌, ◌-◌, ◌*◌, ◌≡◌, ◌&&◌, List, [], ◌∷◌, ◌++◌, leb, eqb, length, take, drop, get_or}
+use Rattle.std.specs.Prelude.{ℕ, zero, suc, ◌-◌, ◌*◌, ◌≡◌, ◌&&◌, List, [], ◌∷◌, ◌++◌, leb, eqb, length, take, drop, get_or}
 use Rattle.std.proofs.Math.Option.{Option, none, some}
 use Rattle.columns.specs.Lists.{pick, joined, strict}
 use Rattle.columns.specs.PrintedNumbers.{all_blank, read_number, blank_zeros}

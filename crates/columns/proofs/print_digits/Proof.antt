@@ -2,7 +2,7 @@
 -- before are blank, and the rest is the number without the columns that are written.
 -- Assumes nothing.
 use Rattle.std.proofs.Common.{◌≡◌, ℕ, suc, ◌+◌, ◌-◌, ◌/◌, ◌%◌, ◌^◌, ◌<◌, ◌≤◌, List, ◌++◌, length, set, sym, refl, ap, ◌∙◌, append-nil, div-one, arith, lit<, length-append, length-set}
-use Rattle.columns.proofs.Rows.{◌▹◌, ◌▹₂◌, ◌▹₃◌}
+use Rattle.columns.proofs.Rows.{◌▹◌}
 use Rattle.columns.specs.PrintedNumbers.{print, blanks}
 use Rattle.columns.proofs.FromTheRight.{length_blanks, blanks_set_last, print_digit, next_quotient, print_whole}
 use Rattle.columns.proofs.Printed.{length_print}

@@ -6,7 +6,6 @@ use native.Mathlib.Omega.{arith}
 use mathlib.Core.Bool.{Bool, true, false}
 use mathlib.Core.List.{List, [], ◌∷◌, ◌++◌}
 use lib.Dec.{eqb}
-use lib.ListN
 use lib.ListN.{length, drop, length-append, length-take}
 use Rattle.columns.specs.Lists.{pick, every, last_or}
 use Rattle.columns.proofs.Strict.{both}

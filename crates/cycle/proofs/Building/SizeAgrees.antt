@@ -1,29 +1,27 @@
 -- The dimensions of a cycle from a number of lines agree with what building a list of that many lines gives, and so do refusals.
 -- Assumes nothing.
-use mathlib.Core.Path.{◌≡◌, refl, sym, ap, ap₂, subst, ◌∙◌}
+use mathlib.Core.Path.{◌≡◌, refl, sym, ap, subst, ◌∙◌}
 use Prim.Native.Nat.{ℕ, ◌*◌, ◌/◌, ◌%◌, ◌≤◌, ◌<◌, min}
 use native.Mathlib.Omega.{arith}
 use mathlib.Core.Bool.{Bool, true, false, not}
 use mathlib.Core.Option.{Option, none, some}
 use mathlib.Core.List.{List, [], ◌∷◌}
-use lib.Dec.{ltb, leb}
+use lib.Dec.{ltb}
 use lib.ListN.{length}
 use borrow.Author.Tests.{lt-ltb, le-ltb, eq-eqb}
 use Rattle.columns.specs.Lists.{pick}
-use Rattle.buckets.specs.declared.Line.{Line}
 use Rattle.buckets.specs.Lengths.{line_length, bucket_length, buckets_most}
 use Rattle.buckets.specs.ListLine.{list_lines, whole_lines, few_lines}
 use Rattle.buckets.proofs.Lists.{length_list_lines}
-use Rattle.cycle.specs.Refusals.{Refusal, refusal, Condition, row, row_at, first_refusal}
+use Rattle.cycle.specs.Refusals.{Refusal, refusal, row, row_at, first_refusal}
 use Rattle.cycle.specs.Tree.{Settings, Plan, plan_for, plan}
-use Rattle.cycle.specs.Cycle.{cycle_size, image_length, image}
+use Rattle.cycle.specs.Cycle.{cycle_size, image_length}
 use Rattle.cycle.specs.Building as building
 use Rattle.cycle.specs.Building.{settings_fit, copies_fit, build}
 use Rattle.cycle.specs.Judging.{figures_of}
-use Rattle.cycle.specs.Size
-use Rattle.cycle.specs.Size.{conditions, heard_most, dimensions, numbers, outcome, size, Listed, built, Agrees, EverySize}
+use Rattle.cycle.specs.Size.{conditions, heard_most, dimensions, numbers, outcome, size, Listed, built, EverySize}
 use Rattle.cycle.specs.declared.Dimensions.{Dimensions}
-use Rattle.cycle.specs.declared.Sized.TheVariants.{Cycle, Refused}
+use Rattle.cycle.specs.declared.Sized.TheVariants.{Cycle}
 use Rattle.cycle.specs.declared.Built.TheVariants as Built
 use Rattle.cycle.specs.Inner.Held.{plan_of}
 use Rattle.cycle.proofs.Building.AcceptedPlans.{copies_shape}

@@ -1,20 +1,19 @@
 -- Sizing: what it answers under each condition, and the dimensions that judged figures have.
 -- Assumes nothing.
-use mathlib.Core.Path.{◌≡◌, refl, sym, ap, ap₂, subst, ◌∙◌}
+use mathlib.Core.Path.{◌≡◌, refl, sym, ap, subst, ◌∙◌}
 use Prim.Native.Nat.{ℕ, ◌≤◌, ◌<◌}
 use mathlib.Core.Bool.{true, false}
-use mathlib.Core.Option.{Option, none, some}
-use mathlib.Core.List.{List, []}
+use mathlib.Core.Option.{none, some}
+use mathlib.Core.List.{[]}
 use borrow.Author.Tests.{le-leb, lt-leb}
 use Rattle.buckets.specs.Lengths.{lines_most, buckets_most}
-use Rattle.cycle.specs.Tree.{Settings, Plan, plan_for, levels_most}
+use Rattle.cycle.specs.Tree.{Settings, plan_for, levels_most}
 use Rattle.cycle.specs.Cycle.{cycle_size}
-use Rattle.cycle.specs.Refusals.{Refusal, refusal, first_refusal}
+use Rattle.cycle.specs.Refusals.{refusal, first_refusal}
 use Rattle.cycle.specs.Building.{settings_fit}
 use Rattle.cycle.specs.Judging.{judged, size_conditions}
 use Rattle.cycle.specs.Size.{conditions, dimensions, numbers, outcome, size}
 use Rattle.cycle.specs.declared.Figures.{Figures}
-use Rattle.cycle.specs.declared.Dimensions.{Dimensions}
 use Rattle.cycle.specs.declared.Judged.TheVariants as Judged
 use Rattle.cycle.specs.declared.Sized.TheVariants.{Cycle, Refused}
 use Rattle.cycle.specs.Inner.Held.{plan_of, Shaped, sized}

@@ -5,7 +5,6 @@ use mathlib.Core.Bool.{true}
 use mathlib.Core.List.{List, [], ◌∷◌, map, map-id}
 use Prim.Native.Nat.{ℕ, ◌-◌, ◌≤◌}
 use native.Mathlib.Omega.{arith}
-use lib.ListN
 use lib.ListN.{length, replicate, length-map}
 use lib.Seq.{take_at}
 use borrow.Author.Tests.{le-leb}

@@ -7,7 +7,7 @@ use mathlib.Core.List.{List}
 use lib.Dec.{eqb}
 use lib.ListN.{get_or, drop}
 use Rattle.columns.specs.Lists.{pick}
-use Rattle.listener.specs.Listener.{numbers, stepped, step_numbers}
+use Rattle.listener.specs.Listener.{stepped, step_numbers}
 use Rattle.listener.specs.Lookup
 use Rattle.listener.specs.declared.Listener.{Listener}
 use Rattle.listener.specs.declared.Answer.{Answer}
