@@ -8,6 +8,8 @@ use super::numbers::{COLUMNS, Figure, number};
 use super::requests::Numbers;
 use cycle::Changed;
 use cycle::changes::{arrive, take_out};
+use std::io;
+use std::io::Print;
 
 // The columns of the three numbers.
 const FRONT: usize = 36;
@@ -46,39 +48,42 @@ fn change(
 
 // Makes the call and says its answer.
 fn say_change(
+    rt: &impl Print,
     letter: u8,
     numbers: &Numbers,
     lines: u64,
     given: &[u8],
     list: &mut [u8],
     lent: &mut [u8],
-) -> bool {
+) -> io::Result<bool> {
     let changed = change(letter, numbers, lines, given, list, lent);
     let list_after = hash(list);
     let lent_after = hash(lent);
     match changed {
-        Changed::Cycle(c) => say(&[0, 0, c.lines, c.d, c.k, c.n, list_after, lent_after]),
+        Changed::Cycle(c) => say(rt, &[0, 0, c.lines, c.d, c.k, c.n, list_after, lent_after]),
         Changed::Refused(number, place) => {
-            say(&[number, place, 0, 0, 0, 0, list_after, lent_after])
+            say(rt, &[number, place, 0, 0, 0, 0, list_after, lent_after])
         }
     }
 }
 
 // Parts a body behind its numbers, where the given line has so many bytes, and makes the call.
 fn part(
+    rt: &impl Print,
     letter: u8,
     numbers: &Numbers,
     lines: u64,
     size: usize,
     body: &mut [u8],
     lent: &mut [u8],
-) -> bool
+) -> io::Result<bool>
     requires { size ≤ length body.old }
 {
     let count = looked_at(size);
     let mut given = [0u8; GIVEN];
     columns::copy_columns(&mut given[0..count], &body[0..count]);
     say_change(
+        rt,
         letter,
         numbers,
         lines,
@@ -89,27 +94,34 @@ fn part(
 }
 
 // Reads the numbers of a body and makes the call.
-pub fn serve_change(letter: u8, numbers: &Numbers, body: &mut [u8], lent: &mut [u8]) -> bool {
+pub fn serve_change(
+    rt: &impl Print,
+    letter: u8,
+    numbers: &Numbers,
+    body: &mut [u8],
+    lent: &mut [u8],
+) -> io::Result<bool> {
     if body.len() < FRONT {
-        return stop(b"error: a body of A or T is under 36 bytes\n");
+        return stop(rt, b"error: a body of A or T is under 36 bytes\n");
     }
     let Figure::Value(lines) = number(&body[0..COLUMNS]) else {
-        return stop(b"error: a number of lines is no number\n");
+        return stop(rt, b"error: a number of lines is no number\n");
     };
     let Figure::Value(length) = number(&body[COLUMNS..2 * COLUMNS]) else {
-        return stop(b"error: the length of a list's buffer is no number\n");
+        return stop(rt, b"error: the length of a list's buffer is no number\n");
     };
     let Figure::Value(size) = number(&body[2 * COLUMNS..FRONT]) else {
-        return stop(b"error: the length of a given line is no number\n");
+        return stop(rt, b"error: the length of a given line is no number\n");
     };
     let rest = (body.len() - FRONT) as u64;
     if rest < size {
-        return stop(b"error: a body of A or T ends inside its given line\n");
+        return stop(rt, b"error: a body of A or T ends inside its given line\n");
     }
     if rest - size != length {
-        return stop(b"error: a list's buffer has another length\n");
+        return stop(rt, b"error: a list's buffer has another length\n");
     }
     part(
+        rt,
         letter,
         numbers,
         lines,

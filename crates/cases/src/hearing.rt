@@ -3,6 +3,8 @@ ghost use Rattle.std.specs.Prelude.{◌≡◌, ◌+◌, ◌<◌, ◌≤◌, min}
 
 use super::answers::{say, stop};
 use listener::{Answer, Listener, Stepped};
+use std::io;
+use std::io::Print;
 
 // An answer's number: 1 doze, 2 found, 3 absent, 4 refused.
 fn kind(answer: Answer) -> u64 {
@@ -25,7 +27,7 @@ fn figure(answer: Answer) -> u64 {
 }
 
 // The answer to one bucket, with the counts of the listener handed back.
-fn say_step(stepped: Stepped) -> bool {
+fn say_step(rt: &impl Print, stepped: Stepped) -> io::Result<bool> {
     let answer = stepped.answer;
     let next = stepped.listener;
     let line = [
@@ -36,7 +38,7 @@ fn say_step(stepped: Stepped) -> bool {
         next.heard(),
         next.elapsed(),
     ];
-    say(&line)
+    say(rt, &line)
 }
 
 // Where the bucket that starts at `from` ends: the last one may be shorter.
@@ -51,8 +53,8 @@ fn bucket_end(from: usize, size: usize, length: usize) -> usize
     }
 }
 
-// A listener started with tag, given the buckets of body in turn, each of size bytes. Whether each answer was written.
-pub fn hear(tag: u64, size: usize, body: &[u8]) -> bool
+// A listener started with tag, given the buckets of body in turn, each of size bytes. The stream goes on.
+pub fn hear(rt: &impl Print, tag: u64, size: usize, body: &[u8]) -> io::Result<bool>
     requires { 0 < size }
 {
     let mut current = Listener::new(tag);
@@ -60,13 +62,11 @@ pub fn hear(tag: u64, size: usize, body: &[u8]) -> bool
     while from < body.len() {
         let end = bucket_end(from, size, body.len());
         let stepped = current.step(&body[from..end]);
-        if !say_step(stepped) {
-            return false;
-        }
+        say_step(rt, stepped)?;
         current = stepped.listener;
         from = end;
     }
-    true
+    Ok(true)
 }
 
 // The same of a bucket with its letter in front: a lost one, X, has no bytes.
@@ -96,23 +96,21 @@ fn is_mark(letter: u8) -> bool {
     letter == b'X'
 }
 
-// A listener started with tag, given the buckets of body in turn, each behind its letter. Whether each answer was written.
-pub fn hear_marked(tag: u64, size: usize, body: &[u8]) -> bool {
+// A listener started with tag, given the buckets of body in turn, each behind its letter. The stream goes on.
+pub fn hear_marked(rt: &impl Print, tag: u64, size: usize, body: &[u8]) -> io::Result<bool> {
     let mut current = Listener::new(tag);
     let mut from = 0;
     while from < body.len() {
         let letter = body[from];
         if !is_mark(letter) {
-            return stop(b"error: a bucket's letter is none of B, X\n");
+            return stop(rt, b"error: a bucket's letter is none of B, X\n");
         }
         let at = from + 1;
         let end = marked_end(letter, at, size, body.len());
         let stepped = hand_in(current, letter, &body[at..end]);
-        if !say_step(stepped) {
-            return false;
-        }
+        say_step(rt, stepped)?;
         current = stepped.listener;
         from = end;
     }
-    true
+    Ok(true)
 }

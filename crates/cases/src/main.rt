@@ -1,5 +1,7 @@
 // Answers request streams: a request read from standard input makes one of the public calls, and its answer goes to standard output.
 // What is wrong with a stream is said in one line that begins `error`, and the program stops there.
+#![tactic(auto)]
+
 mod answers;
 mod calls;
 mod changes;
@@ -8,19 +10,29 @@ mod lent;
 mod numbers;
 mod requests;
 
+use std::io;
+use std::io::{Print, Read};
+
 // The longest body of a request, and the longest lent buffer.
 const LIMIT: usize = 2400000;
 
-// The requests of a stream in turn. A proved loop has to end, so this one counts down from a number that no stream uses up.
-fn serve(body: &mut [u8], lent: &mut [u8]) {
-    let mut turns = u64::MAX;
-    while turns > 0 && requests::serve_request(body, lent) {
-        turns -= 1;
+// The requests of a stream in turn. A proved loop has to end: this one ends at a number of requests that no stream has.
+fn serve<R: Read>(
+    input: &mut R,
+    rt: &impl Print,
+    body: &mut [u8],
+    lent: &mut [u8],
+) -> io::Result<()> {
+    for _ in 0..u64::MAX {
+        if !requests::serve_request(input, rt, body, lent)? {
+            break;
+        }
     }
+    Ok(())
 }
 
-fn main() {
+fn main(rt: HostRuntime) -> io::Result<()> {
     let mut body = [0u8; LIMIT];
     let mut lent = [0u8; LIMIT];
-    serve(&mut body, &mut lent);
+    serve(&mut rt.reader(), &rt, &mut body, &mut lent)
 }

@@ -4,7 +4,9 @@ ghost use Rattle.std.specs.Prelude.{◌≡◌, length};
 use super::answers::stop;
 use super::calls::answer;
 use super::numbers::{COLUMNS, Figure, number};
-use libc::STDIN_FILENO;
+use std::io;
+use std::io::{Print, Read};
+use streams::read_full;
 
 // The bytes of a head, the newline among them, and of each of its numbers.
 const HEAD: usize = 74;
@@ -31,34 +33,46 @@ fn read_numbers(head: &[u8], numbers: &mut Numbers) -> bool
 }
 
 // Reads the body that the head announces, and answers. Whether the stream goes on.
-fn serve_body(letter: u8, numbers: &Numbers, body: &mut [u8], lent: &mut [u8]) -> bool {
+fn serve_body<R: Read>(
+    input: &mut R,
+    rt: &impl Print,
+    letter: u8,
+    numbers: &Numbers,
+    body: &mut [u8],
+    lent: &mut [u8],
+) -> io::Result<bool> {
     let size = numbers[5] as usize;
     if body.len() < size {
-        return stop(b"error: a body is over the limit\n");
+        return stop(rt, b"error: a body is over the limit\n");
     }
-    let got = io::read_full(STDIN_FILENO, &mut body[..size]);
+    let got = read_full(input, &mut body[..size])?;
     if got < size {
-        return stop(b"error: the stream ends inside a body\n");
+        return stop(rt, b"error: the stream ends inside a body\n");
     }
-    answer(letter, numbers, &mut body[..size], lent)
+    answer(rt, letter, numbers, &mut body[..size], lent)
 }
 
 // Reads a request and answers it. Whether the stream goes on: not behind its last request, and not behind an error.
-pub fn serve_request(body: &mut [u8], lent: &mut [u8]) -> bool {
+pub fn serve_request<R: Read>(
+    input: &mut R,
+    rt: &impl Print,
+    body: &mut [u8],
+    lent: &mut [u8],
+) -> io::Result<bool> {
     let mut head = [0u8; HEAD];
-    let got = io::read_full(STDIN_FILENO, &mut head);
+    let got = read_full(input, &mut head)?;
     if got == 0 {
-        return false;
+        return Ok(false);
     }
     if got < HEAD {
-        return stop(b"error: the stream ends inside a head\n");
+        return stop(rt, b"error: the stream ends inside a head\n");
     }
     if head[NEWLINE] != b'\n' {
-        return stop(b"error: byte 73 of a head is no newline\n");
+        return stop(rt, b"error: byte 73 of a head is no newline\n");
     }
     let mut numbers = [0u64; 6];
     if !read_numbers(&head, &mut numbers) {
-        return stop(b"error: a head holds what is no number\n");
+        return stop(rt, b"error: a head holds what is no number\n");
     }
-    serve_body(head[0], &numbers, body, lent)
+    serve_body(input, rt, head[0], &numbers, body, lent)
 }
