@@ -47,7 +47,7 @@ run_else spent image count (suc budget) x s got =
     after_answer (run_else spent image count budget) count x (got ++ named bytes r) r.listener r.answer
 
 -- The steps that a lookup's run may take. 10 stops every listener before they are spent: the law `NeverSpent` of Started.
-unfoldable pub run_budget : ℕ
+abbrev pub run_budget : ℕ
 run_budget = 200000
 
 abbrev pub run : List ℕ → ℕ → ℕ → ℕ → Listener → List Line → Finish
