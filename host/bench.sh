@@ -1,9 +1,9 @@
 #!/bin/sh
 # The library's calls against those of the reference, at 1,000, 10,000 and 40,000 lines, at 10,000 for a list full of zeros, for
-# sizing and for a bucket's line, and at 10,000 and 40,000 for changes of a list, the longer of the two lists having so many:
-# instructions a bucket, for sizing a call, counted by callgrind as the difference between one round and two, and nanoseconds,
-# the best of several rounds. The growth is that of a bucket's cost from the size before, for library and reference: 1.00 is
-# linear. Then the library's mean wait against its judging of the same list alone, a line, at 10,000 and 40,000 lines.
+# sizing and for a bucket's line, and at 10,000 and 40,000 for changes of a list, at 40,000 for a line that arrives as the last of
+# so many: instructions a bucket, for sizing a call, counted by callgrind as the difference between one round and two, and
+# nanoseconds, the best of several rounds. The growth is that of a bucket's cost from the size before, for library and reference:
+# 1.00 is linear. Then the library's mean wait against its judging of the same list alone, a line, at 10,000 and 40,000 lines.
 # Usage: bench.sh, six to seven minutes
 set -e
 cd "$(dirname "$0")"
@@ -117,7 +117,7 @@ rows zeros build - 8 8 1 1
 rows zeros build - 2 1 1 4
 
 sizes="10000 40000"
-sides_header "The yard's list: a line arrives at its front, and its first line is taken out; lines of the longer list"
+sides_header "The yard's list: a line arrives at its front, and its first line is taken out"
 rows yard arrive - 8 8 1 1
 rows yard take_out - 8 8 1 1
 rows yard arrive - 2 1 1 4

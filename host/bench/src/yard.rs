@@ -2,6 +2,7 @@
 
 use std::hint::black_box;
 
+use pansdaoh::MAX_LINES;
 use reference::generate::{full_of_zeros, line as printed_line, list, yard_list, Random};
 use reference::{blanked, line};
 
@@ -44,8 +45,8 @@ impl Yard {
         let buckets = Reference::build(&list, settings, &mut image);
         image.truncate(buckets as usize * BUCKET);
         // Other bytes than 0, so that each page of the buffers is there; and room for
-        // the buckets that one line less may bring.
-        let list_out = vec![1; list.len()];
+        // one more line, and for the buckets that it brings, or one line less.
+        let list_out = vec![1; list.len() + LINE];
         let image_out = vec![1; image.len() + 20 * BUCKET];
         let printed = blanked(&list);
         let hearings = (0..HEARINGS)
@@ -59,10 +60,9 @@ impl Yard {
     }
 
     /// One round of a call; returns the buckets it built, read or heard. `step`
-    /// goes through whole hearings; a line arrives in the place of the first, before all
-    /// others, and the first is taken out; `line` reads the first line of each bucket. For
-    /// `size` it returns how often the cycle was sized, for `judge` and `mean` the lines of
-    /// the list.
+    /// goes through whole hearings; a line arrives before all others, and the first
+    /// is taken out; `line` reads the first line of each bucket. For `size` it returns
+    /// how often the cycle was sized, for `judge` and `mean` the lines of the list.
     pub fn round<C: Calls>(&mut self, call: &str) -> u64 {
         let buckets = (self.image.len() / BUCKET) as u64;
         let lines = (self.list.len() / LINE) as u64;
@@ -72,7 +72,11 @@ impl Yard {
             "build" => {
                 C::build(black_box(&self.list), self.settings, black_box(&mut self.image_out))
             }
-            "arrive" => self.change(C::arrive, LINE, printed_line(0, 8_000, 100, 100_000).into()),
+            "arrive" => {
+                // In the longest list there is no place for one more.
+                let from = if lines == MAX_LINES as u64 { LINE } else { 0 };
+                self.change(C::arrive, from, printed_line(0, 8_000, 100, 100_000).into())
+            }
             "take_out" => self.change(C::take_out, 0, self.list[..LINE].into()),
             "size" => (0..SIZINGS)
                 .filter(|_| C::size(black_box(lines), self.settings) == buckets)

@@ -46,20 +46,17 @@ fn gate(staticlib: i32, cargo: i32, ci: i32) -> (i32, Vec<String>) {
 fn last_line_and_status() {
     let (status, lines) = gate(0, 0, 0);
     assert_eq!(status, 0);
-    let last = "7 passed, 0 failed";
-    assert_eq!(lines, ["rt ci", last, "rt staticlib pansdaoh", "cargo test in host", last]);
+    let all = ["rt staticlib pansdaoh", "cargo test in host", "rt ci", "7 passed, 0 failed"];
+    assert_eq!(lines, all);
 
-    for (staticlib, cargo) in [(0, 101), (1, 0)] {
-        let (status, lines) = gate(staticlib, cargo, 0);
+    let (status, lines) = gate(0, 0, 3);
+    assert_eq!((status, lines.last().unwrap().as_str()), (3, "6 passed, 1 failed"));
+
+    for (staticlib, cargo, ci) in [(0, 101, 0), (0, 101, 3), (1, 0, 0), (1, 0, 3)] {
+        let (status, lines) = gate(staticlib, cargo, ci);
         assert_eq!(status, 1);
+        assert!(lines.contains(&"rt ci".to_string()), "{lines:?}");
         assert_eq!(lines.contains(&"cargo test in host".to_string()), staticlib == 0, "{lines:?}");
         assert!(lines.last().unwrap().starts_with("The host's tests failed"), "{lines:?}");
-    }
-
-    // What rt ci found comes first.
-    for (staticlib, cargo) in [(0, 0), (0, 101), (1, 0)] {
-        let (status, lines) = gate(staticlib, cargo, 3);
-        assert_eq!((status, lines.last().unwrap().as_str()), (3, "6 passed, 1 failed"));
-        assert!(lines.contains(&"rt staticlib pansdaoh".to_string()), "{lines:?}");
     }
 }

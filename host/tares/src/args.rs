@@ -8,7 +8,7 @@ use pansdaoh::Settings;
 
 use crate::changes::Change;
 use crate::files::File;
-use crate::help::{Usage, COMMANDS, HELP, VERSION};
+use crate::help::{Usage, COMMANDS, HELP, SEVERAL, VERSION};
 use crate::lists::Line;
 use crate::search::Wanted;
 use crate::Failure;
@@ -77,7 +77,8 @@ fn wrong<T>(message: &str, command: &str) -> Result<T, Failure> {
 /// The words behind a command.
 struct Words {
     operands: VecDeque<OsString>,
-    values: Vec<(&'static str, OsString)>,
+    /// The options with their numbers, mostly one.
+    numbers: Vec<(&'static str, Vec<u64>)>,
     flags: Vec<&'static str>,
 }
 
@@ -87,7 +88,7 @@ impl Words {
         mut words: impl Iterator<Item = OsString>,
         usage: &Usage,
     ) -> Result<Option<Words>, String> {
-        let mut split = Words { operands: VecDeque::new(), values: Vec::new(), flags: Vec::new() };
+        let mut split = Words { operands: VecDeque::new(), numbers: Vec::new(), flags: Vec::new() };
         while let Some(word) = words.next() {
             let text = word.to_string_lossy();
             match &*text {
@@ -102,7 +103,7 @@ impl Words {
         Ok(Some(split))
     }
 
-    /// Takes an option with its value, which stands behind = or is the next word.
+    /// Takes an option with its number, which stands behind = or is the next word.
     fn option(
         &mut self,
         word: &str,
@@ -123,11 +124,15 @@ impl Words {
         let Some(&name) = usage.numbers.iter().find(|&&option| option == name) else {
             return Err(format!("no option {name}"));
         };
-        if self.value(name).is_some() {
+        if self.is_given(name) {
             return Err(format!("{name} is given twice"));
         }
         let value = value.or_else(|| words.next()).ok_or(format!("{name} needs a number"))?;
-        self.values.push((name, value));
+        let numbers = match SEVERAL.contains(&name) {
+            true => numbers(name, &value)?,
+            false => vec![number(name, &value)?],
+        };
+        self.numbers.push((name, numbers));
         Ok(())
     }
 
@@ -136,7 +141,7 @@ impl Words {
             "check" => Command::Check {
                 list: self.file("LIST")?,
                 image: self.file("IMAGE")?,
-                wanted: self.wanted()?,
+                wanted: self.wanted(),
                 all: self.flag("--all"),
             },
             "build" => Command::Build {
@@ -187,7 +192,7 @@ impl Words {
 
     fn size(&self) -> Result<Command, String> {
         let (lines, [n, p]) = (self.needed("--lines")?, self.shape()?);
-        let c = self.number("--in")?.unwrap_or(1);
+        let c = self.number("--in").unwrap_or(1);
         Ok(match self.given()? {
             Some(settings) => Command::Size { lines, settings, c },
             None => Command::Sizes { lines, n, p, c },
@@ -211,7 +216,8 @@ impl Words {
         }
         let tune_in = self.needed("--tune-in")?;
         if name == "follow" {
-            return Ok(Command::Follow { image, tag, tune_in, lost: self.numbers("--lost")? });
+            let lost = self.numbers("--lost").to_vec();
+            return Ok(Command::Follow { image, tag, tune_in, lost });
         }
         let out = self.operands.pop_front().map(File::new);
         Ok(Command::Lookup { image, tag, tune_in, out })
@@ -247,27 +253,22 @@ impl Words {
         self.flags.contains(&name)
     }
 
-    fn value(&self, name: &str) -> Option<&OsString> {
-        let given = self.values.iter().find(|option| option.0 == name);
-        given.map(|option| &option.1)
+    fn is_given(&self, name: &str) -> bool {
+        !self.numbers(name).is_empty()
     }
 
-    fn number(&self, name: &str) -> Result<Option<u64>, String> {
-        self.value(name).map(|value| number(name, value)).transpose()
+    /// None if the option is not given.
+    fn numbers(&self, name: &str) -> &[u64] {
+        let given = self.numbers.iter().find(|option| option.0 == name);
+        given.map_or(&[], |option| &option.1)
     }
 
-    /// Numbers with commas between them; none if the option is not given.
-    fn numbers(&self, name: &str) -> Result<Vec<u64>, String> {
-        let Some(value) = self.value(name) else {
-            return Ok(Vec::new());
-        };
-        let text = value.to_string_lossy();
-        let numbers: Result<_, String> = text.split(',').map(|word| number(name, word)).collect();
-        numbers.map_err(|_| format!("{name} takes numbers with commas between them alone: {text}"))
+    fn number(&self, name: &str) -> Option<u64> {
+        self.numbers(name).first().copied()
     }
 
     fn needed(&self, name: &str) -> Result<u64, String> {
-        self.number(name)?.ok_or(format!("{name} is missing"))
+        self.number(name).ok_or(format!("{name} is missing"))
     }
 
     /// n and p.
@@ -282,20 +283,27 @@ impl Words {
 
     /// The settings, unless both layout and copies are left out.
     fn given(&self) -> Result<Option<Settings>, String> {
-        match (self.value("--layout"), self.value("--copies")) {
-            (None, None) => Ok(None),
-            _ => self.settings().map(Some),
+        match self.is_given("--layout") || self.is_given("--copies") {
+            true => self.settings().map(Some),
+            false => Ok(None),
         }
     }
 
-    fn wanted(&self) -> Result<Wanted, String> {
-        Ok(Wanted {
-            n: self.number("--n")?,
-            p: self.number("--p")?,
-            layout: self.number("--layout")?,
-            copies: self.number("--copies")?,
-        })
+    fn wanted(&self) -> Wanted {
+        Wanted {
+            n: self.number("--n"),
+            p: self.number("--p"),
+            layout: self.number("--layout"),
+            copies: self.number("--copies"),
+        }
     }
+}
+
+/// Numbers with commas between them.
+fn numbers(name: &str, word: &OsStr) -> Result<Vec<u64>, String> {
+    let text = word.to_string_lossy();
+    let numbers: Result<_, String> = text.split(',').map(|word| number(name, word)).collect();
+    numbers.map_err(|_| format!("{name} takes numbers with commas between them alone: {text}"))
 }
 
 /// Digits alone. Which numbers a call takes is for the call to say.

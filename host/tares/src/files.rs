@@ -88,7 +88,7 @@ impl File {
     }
 
     /// Does this while whoever would do the same with a file of its folder waits, where the file system
-    /// has locks.
+    /// has locks. A pipe or a device has no lock: another command may be at its other end.
     pub fn alone<T>(&self, act: impl FnOnce() -> T) -> T {
         let _lock = self.lock();
         act()
@@ -98,6 +98,9 @@ impl File {
         let File::Named(path) = self else {
             return None;
         };
+        if !self.can_be_replaced() {
+            return None;
+        }
         let folder = fs::File::open(folder_of(&behind_links(path).ok()?)).ok()?;
         folder.lock().ok().map(|()| folder)
     }

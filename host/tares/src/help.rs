@@ -2,7 +2,7 @@
 
 pub struct Usage {
     pub name: &'static str,
-    /// The options that take a number, or several with commas between them.
+    /// The options that take a number.
     pub numbers: &'static [&'static str],
     /// The options that stand alone.
     pub flags: &'static [&'static str],
@@ -10,6 +10,9 @@ pub struct Usage {
 }
 
 const SETTINGS: [&str; 4] = ["--n", "--p", "--layout", "--copies"];
+
+/// Those of the options that take several numbers, with commas between them.
+pub const SEVERAL: [&str; 1] = ["--lost"];
 
 const SIZE_OPTIONS: [&str; 6] = ["--lines", "--n", "--p", "--layout", "--copies", "--in"];
 
@@ -229,13 +232,15 @@ const FOLLOW: &str = "\
 Follows a display that listens for a tag: each bucket that it hears, what the
 bucket tells it, and the lines it gets.
 
-Usage: tares follow IMAGE TAG --tune-in T [--lost X,Y,..]
+Usage: tares follow IMAGE TAG --tune-in T
+       tares follow IMAGE TAG --tune-in T --lost X,Y,..
 
-  IMAGE          the cycle, taken as repeated
-  TAG            the number on a skip or lorry
-  --tune-in T    the first bucket heard, from 0
-  --lost X,Y,..  these buckets are lost, each when the display first wakes for it, and
-                 once more for each time that it is named again
+  IMAGE        the cycle, taken as repeated
+  TAG          the number on a skip or lorry
+  --tune-in T  the first bucket heard, from 0
+  --lost X,Y,..
+               these buckets are lost, each when the display first wakes for it, and
+               once more for each time that it is named again
 ";
 
 const SHOW: &str = "\

@@ -12,7 +12,6 @@ use crate::search::{readable, Wanted};
 use crate::settings::{settings_text, settings_texts};
 use crate::shape::{image_faults, list_faults};
 use crate::sizes::Sizes;
-use crate::words::counted;
 
 /// How many lines are told.
 const TOLD: usize = 10;
@@ -101,10 +100,9 @@ pub fn copies(lines: u64, Settings { n, p, layout, copies }: Settings) -> Vec<St
     };
     let (least, most) = sizes.copies(layout);
     let Sizes { data, levels, .. } = sizes;
-    let lines = counted(lines as usize, "line");
     let why = match layout {
-        1 => format!("with {lines} k is {levels}; r is at most k - 1, and at most 4"),
-        _ => format!("with {lines} D is {data}; m is at most D, and at least 1"),
+        1 => format!("{lines} lines make k = {levels} index levels; r is at most k - 1, and at most 4"),
+        _ => format!("{lines} lines make D = {data} data buckets (k = {levels}); m is at most D, and at least 1"),
     };
     vec![format!("copies {copies} is outside {least} to {most} here: {why}")]
 }

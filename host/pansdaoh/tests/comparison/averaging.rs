@@ -43,8 +43,9 @@ fn refusals() {
     CALLS.refusals();
 }
 
+/// Numbers at and far beyond the bounds of each setting.
 #[test]
-fn any_settings() {
+fn any_numbers() {
     let random = &mut Random::new(1);
     for lines in [0, 1, 5, 17] {
         let list = list(random, lines, 1);

@@ -47,6 +47,7 @@ fn longer_lists() {
     }
 }
 
+/// Numbers at and far beyond the bounds of each setting.
 #[test]
 fn any_settings() {
     let random = &mut Random::new(3);
@@ -100,4 +101,21 @@ fn any_bytes() {
             build(&list, [2, 1, 1, 0], 240 * 8);
         }
     }
+}
+
+/// 3 comes before 4 wherever it stands, and each names its first line.
+#[test]
+fn order_of_refusals() {
+    let mut list = list_of(&[5, 3, 2, 8]);
+    let refused = |list: &[u8], n, room| {
+        let answer = build(list, [n, 1, 1, 9], room);
+        (answer.number, answer.place)
+    };
+    assert_eq!(refused(&list_of(&[1, 2]), 2, 0), (5, 0));
+    assert_eq!(refused(&list, 2, 0), (4, 1));
+    list[27 * 3 + 26] = b' ';
+    assert_eq!(refused(&list, 2, 0), (3, 3));
+    list.push(b'\n');
+    assert_eq!(refused(&list, 2, 0), (2, 0));
+    assert_eq!(refused(&list, 9, 0), (1, 0));
 }

@@ -294,7 +294,7 @@ fn lose_any(before: State) -> State {
 /// and leave the rest as it is, and no answer hangs on the counts.
 fn step_any(state: &mut State, bucket: &[u8]) -> Step {
     let before = *state;
-    let [_, counts_with] = counts_of(&before);
+    let [counts, counts_with] = counts_of(&before);
     let step = calls::step(state, bucket);
     assert!(step.first + step.count <= 8, "{before:?}");
     let mut small = before;
@@ -309,6 +309,7 @@ fn step_any(state: &mut State, bucket: &[u8]) -> Step {
         calls::STEP_REFUSED if is_ended => assert_eq!((step.value, *state), (14, before)),
         calls::STEP_REFUSED => {
             assert!((8..=10).contains(&step.value), "{before:?} {step:?}");
+            assert_eq!(counts_of(state)[0], counts, "{before:?}");
             assert_eq!(*state, ended(before), "{before:?}");
         }
         _ => panic!("{before:?} {step:?}"),

@@ -97,6 +97,16 @@ fn limits() {
     }
 }
 
+/// In the order of building.
+#[test]
+fn order_of_refusals() {
+    let refused = |lines, n, copies| compare(lines, [n, 1, 2, copies], 0).number;
+    assert_eq!(refused(u64::MAX, 9, 0), 1);
+    assert_eq!(refused(u64::MAX, 2, 0), 2);
+    assert_eq!(refused(40_000, 2, 40_001), 5);
+    assert_eq!(refused(40_000, 2, 40_000), 6);
+}
+
 /// The size and what building a list of so many lines gives: N in room for the
 /// image's bytes, 7 in one byte less, or the same refusal.
 fn agrees(list: &[u8], settings: Settings) -> u64 {

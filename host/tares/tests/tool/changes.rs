@@ -202,12 +202,13 @@ fn refused_lists() {
     let add = |settings: &str| refused(&folder, &format!("add list image 5 0 0 0 {settings}"));
     let (first, details) = add("--n 2 --p 1 --layout 2 --copies 7");
     assert_eq!(first, "5, place 0: copies outside its range");
-    let why = "with 6 lines D is 6; m is at most D, and at least 1";
+    let why = "6 lines make D = 6 data buckets (k = 3); m is at most D, and at least 1";
     assert_eq!(details, [format!("copies 7 is outside 1 to 6 here: {why}")]);
     let (_, details) =
         refused(&folder, "remove list image 9 0 0 0 --n 2 --p 1 --layout 1 --copies 2");
     assert!(
-        details[0].starts_with("copies 2 is outside 0 to 1 here: with 4 lines k is 2; "),
+        details[0]
+            .starts_with("copies 2 is outside 0 to 1 here: 4 lines make k = 2 index levels; "),
         "{details:?}"
     );
 

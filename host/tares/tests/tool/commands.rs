@@ -186,6 +186,9 @@ fn help() {
             assert!(text.contains(&format!("Usage: tares {command} {usage}\n")), "{text}");
         }
     }
+    let text = folder.tares("help follow").done();
+    let with_losses = "\n       tares follow IMAGE TAG --tune-in T --lost X,Y,..\n";
+    assert!(text.contains(with_losses), "{text}");
 }
 
 const USAGES: [(&str, &str); 12] = [
@@ -199,7 +202,7 @@ const USAGES: [(&str, &str); 12] = [
     ("mean", "LIST --n N --p P [--layout L --copies C] [--compare]"),
     ("lookup", "IMAGE TAG --tune-in T [OUT]"),
     ("table", "IMAGE TAG"),
-    ("follow", "IMAGE TAG --tune-in T [--lost X,Y,..]"),
+    ("follow", "IMAGE TAG --tune-in T"),
     ("show", "IMAGE [BUCKET | FROM-TO]"),
 ];
 
@@ -207,7 +210,7 @@ const USAGES: [(&str, &str); 12] = [
 fn version() {
     let folder = Folder::new("version");
     for words in ["--version", "-V"] {
-        assert_eq!(folder.tares(words).done(), "tares 0.2.0\n");
+        assert_eq!(folder.tares(words).done(), "tares 0.1.0\n");
     }
 }
 

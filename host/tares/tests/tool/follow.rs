@@ -72,9 +72,14 @@ fn refused() {
 }
 
 /// Damaged images in the folder, each with a tag and a tune-in.
-fn each_damaged(folder: &Folder, seed: u64, mut check: impl FnMut(&mut Random, &[u8], u64, u64)) {
+fn each_damaged(
+    folder: &Folder,
+    seed: u64,
+    times: usize,
+    mut check: impl FnMut(&mut Random, &[u8], u64, u64),
+) {
     let random = &mut Random::new(seed);
-    for _ in 0..300 {
+    for _ in 0..times {
         let image = damaged_cycle(random, 12, 3);
         if image.is_empty() {
             continue;
@@ -90,7 +95,7 @@ fn each_damaged(folder: &Folder, seed: u64, mut check: impl FnMut(&mut Random, &
 fn damaged_images() {
     let folder = Folder::new("follow_damaged_images");
     let mut ends = [0; 2];
-    each_damaged(&folder, 12, |_, _, tag, tune_in| {
+    each_damaged(&folder, 12, 200, |_, _, tag, tune_in| {
         let words = format!("image {tag} --tune-in {tune_in}");
         let (looked, followed) =
             (folder.tares(&format!("lookup {words}")), folder.tares(&format!("follow {words}")));
@@ -188,7 +193,7 @@ fn hearing(image: &[u8], tag: u64, tune_in: usize, mut lost: Vec<usize>) -> Stri
 fn lost_of_damaged_images() {
     let folder = Folder::new("follow_lost_of_damaged_images");
     let mut seen = [0; 3];
-    each_damaged(&folder, 13, |random, image, tag, tune_in| {
+    each_damaged(&folder, 13, 300, |random, image, tag, tune_in| {
         let buckets = (image.len() / 240) as u64;
         let lost: Vec<usize> =
             (0..1 + random.below(2 * buckets)).map(|_| random.below(buckets) as usize).collect();

@@ -114,7 +114,7 @@ fn refused_sizes() {
         (
             "--lines 5 --n 2 --p 1 --layout 1 --copies 3",
             "5, place 0: copies outside its range\n  copies 3 is outside 0 to 2 here: \
-             with 5 lines k is 3; r is at most k - 1, and at most 4",
+             5 lines make k = 3 index levels; r is at most k - 1, and at most 4",
         ),
         (
             "--lines 40000 --n 8 --p 1 --layout 2 --copies 40000",

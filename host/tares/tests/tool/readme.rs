@@ -44,7 +44,7 @@ fn examples() {
     assert_eq!(count, 5);
 }
 
-/// Each line of usage is that of the command's help.
+/// Each line of usage is one of the command's help.
 #[test]
 fn usage() {
     let folder = Folder::new("readme_usage");
@@ -52,7 +52,8 @@ fn usage() {
         blocks().find(|block| block.starts_with("tares check LIST")).unwrap().lines().collect();
     for line in &lines {
         let help = folder.tares(&format!("help {}", line.split(' ').nth(1).unwrap())).done();
-        assert!(help.contains(&format!("Usage: {line}\n")), "{line}");
+        let is_line = |own: &str| own.trim_start_matches("Usage:").trim_start() == *line;
+        assert!(help.lines().any(is_line), "{line}");
     }
-    assert_eq!(lines.len(), 12);
+    assert_eq!(lines.len(), 13);
 }

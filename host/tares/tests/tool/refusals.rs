@@ -36,13 +36,13 @@ fn settings() {
 
     let by_5 = "tares: refused by 5, place 0: copies outside its range";
     let (first, details) = refused(&folder, &s, "--n 2 --p 1 --layout 1 --copies 3");
-    let why = "with 5 lines k is 3; r is at most k - 1, and at most 4";
+    let why = "5 lines make k = 3 index levels; r is at most k - 1, and at most 4";
     assert_eq!(
         (&*first, &*details[0]),
         (by_5, &*format!("copies 3 is outside 0 to 2 here: {why}"))
     );
     let (_, details) = refused(&folder, &s, "--n 2 --p 1 --layout 2 --copies 6");
-    let why = "with 5 lines D is 5; m is at most D, and at least 1";
+    let why = "5 lines make D = 5 data buckets (k = 3); m is at most D, and at least 1";
     assert_eq!(details, [format!("copies 6 is outside 1 to 5 here: {why}")]);
 
     let by_6 = "tares: refused by 6, place 0: over 99,999 buckets";

@@ -39,6 +39,10 @@ fn options() {
         (&format!("build list out {without_copies} --copies -1"), "--copies is no number"),
         (&format!("build list out {without_copies} --copies +1"), "--copies is no number"),
         (&format!("build list out {without_copies} --copies="), "--copies is no number"),
+        // The first word that is wrong.
+        ("build --n two", "--n is no number"),
+        ("build list out --n two --n 2", "--n is no number"),
+        ("build list out --n two --m 2 --help", "--n is no number"),
         (
             &format!("build list out {without_copies} --copies 18446744073709551616"),
             "--copies is no number from 0 to 18446744073709551615: 18446744073709551616",

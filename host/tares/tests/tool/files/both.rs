@@ -244,6 +244,16 @@ fn waiting() {
     }
 }
 
+/// Nor do those at the two ends of a pipe wait for each other.
+#[test]
+fn ends_of_a_pipe() {
+    let yard = Yard::new("both_ends_of_a_pipe");
+    let commands = format!("tares read image fifo {R1} & tares build fifo copy {R1} && wait");
+    let run = yard.folder.shell(&format!("mkfifo fifo; timeout 10 sh -c '{commands}' && rm fifo"));
+    assert_eq!((run.status, &*run.err), (Some(0), ""));
+    assert!(yard.folder.read("copy") == yard.before[0]);
+}
+
 /// Changes made at the same time wait for each other, so that none is lost.
 #[test]
 fn at_the_same_time() {
