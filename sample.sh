@@ -8,7 +8,7 @@ trap 'rm -r "$folder"' EXIT
 
 cd "$root"
 echo "Proving the library, some minutes where nothing is proved yet."
-rt staticlib pansdaoh >"$folder/log" 2>&1 || {
+(cd crates/pansdaoh && rt lib --cpu x86-64) >"$folder/log" 2>&1 || {
     cat "$folder/log"
     exit 1
 }

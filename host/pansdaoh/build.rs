@@ -1,5 +1,5 @@
 //! Tells the linker where the static library lies: in the folder that
-//! PANSDAOH_LIB names, else in the repository's target/staticlib.
+//! PANSDAOH_LIB names, else in the repository's crates/pansdaoh/out.
 
 use std::env;
 use std::path::{Path, PathBuf};
@@ -8,7 +8,7 @@ fn main() {
     println!("cargo::rerun-if-env-changed=PANSDAOH_LIB");
     let folder = match env::var_os("PANSDAOH_LIB") {
         Some(folder) => PathBuf::from(folder),
-        None => Path::new(env!("CARGO_MANIFEST_DIR")).join("../../target/staticlib"),
+        None => Path::new(env!("CARGO_MANIFEST_DIR")).join("../../crates/pansdaoh/out"),
     };
     let library = folder.join("libpansdaoh.a");
     println!("cargo::rerun-if-changed={}", library.display());
@@ -18,8 +18,8 @@ fn main() {
             println!("cargo::rustc-env=PANSDAOH_FOLDER={}", folder.display());
         }
         _ => println!(
-            "cargo::error={} is missing: build it with `rt staticlib pansdaoh`, \
-             or name its folder in PANSDAOH_LIB",
+            "cargo::error={} is missing: build it with `rt lib --cpu x86-64` in \
+             crates/pansdaoh, or name its folder in PANSDAOH_LIB",
             library.display()
         ),
     }

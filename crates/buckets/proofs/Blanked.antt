@@ -1,8 +1,8 @@
 -- List lines with their leading zeros made blank.
---     blanked-columns-of            the columns of a line that reads, so, are the print of its numbers
---     blanked-line-of               and the line is its print
---     plain-reads, plain-columns    a line without leading zeros reads, and its columns stay
---     spelled-blanked, read-blanked, blanked-twice    any line so spells and reads the same, and stays so
+--     blanked_columns_of            the columns of a line that reads, so, are the print of its numbers
+--     blanked_line_of               and the line is its print
+--     plain_reads, plain_columns    a line without leading zeros reads, and its columns stay
+--     spelled_blanked, read_blanked, blanked_twice    any line so spells and reads the same, and stays so
 -- Assumes nothing.
 use Prim.Native.Nat.{ℕ, ◌+◌, ◌-◌, ◌≤◌}
 use mathlib.Core.Path.{◌≡◌, refl, sym, ap, ◌∙◌}

@@ -1,7 +1,7 @@
 -- An index bucket whose entries are put into it one by one.
---     started-blank               with none of them, their columns are blank
---     put-wide, next-blank, one_more    with the first of them: its length, the columns of the next, and that one put there
---     all-put                     with all of them: the printed bucket
+--     started_blank               with none of them, their columns are blank
+--     put_wide, next_blank, one_more    with the first of them: its length, the columns of the next, and that one put there
+--     all_put                     with all of them: the printed bucket
 -- Assumes nothing.
 use Prim.Native.Nat.{ℕ, ◌+◌, ◌-◌, ◌*◌, ◌≤◌, ◌<◌}
 use mathlib.Core.Path.{◌≡◌, sym, ap, ◌∙◌}

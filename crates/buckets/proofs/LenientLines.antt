@@ -1,7 +1,7 @@
 -- A list line read leniently: what it tells of the four fields, and what the code asks of the columns.
---     line_reads, reads-line        a line that reads, told field by field, and back
---     read-of-print-line            a line's print reads, as that line
---     no-line-length, no-newline, no-numbers, tare-over, tag-over, tag_read   the answers of `line_tag`, test by test
+--     line_reads, reads_line        a line that reads, told field by field, and back
+--     read_of_print_line            a line's print reads, as that line
+--     no_line_length, no_newline, no_numbers, tare_over, tag_over_lem, tag_read   the answers of `line_tag`, test by test
 -- Assumes nothing.
 use Prim.Native.Nat.{ℕ, suc, ◌+◌, ◌-◌, ◌*◌, ◌^◌, ◌≤◌, ◌<◌}
 use mathlib.Core.Path.{◌≡◌, refl, sym, ap, ap₂, ◌∙◌}

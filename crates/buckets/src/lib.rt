@@ -153,14 +153,15 @@ pub enum Kind {
 
 // What a strict reading of a bucket finds. Of a data bucket it has the number of lines and their tags; whatever the kind of
 // the bucket has no use for is 0.
+// The kind stands between the two halves, so that neither is so long that the compiler fills it by the C library's memset.
 #[derive(Clone, Copy)]
 pub struct Reading {
     pub head: Head,
     pub follow_on: u64,
     pub index: IndexItems,
+    pub kind: Kind,
     pub lines: usize,
     pub tags: [u64; Bucket::LINES_MOST],
-    pub kind: Kind,
 }
 
 // Line i of a bucket: its numbers, nothing where the bucket has no such line, or that the bucket is misprinted.

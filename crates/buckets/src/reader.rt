@@ -1,4 +1,5 @@
-// A bucket, read: field by field, each column once.
+// A bucket, read: field by field, each column once. The hints on inlining change no answer: with them the compiler sees that a
+// reading is written whole, and clears no memory before it is.
 ghost use Rattle.std.specs.Prelude.{◌≡◌, [], ◌+◌, ◌≤◌, length};
 ghost use Rattle.std.proofs.Math.Option.{none};
 ghost use Rattle.buckets.specs.Lengths.{entry_width, pairs_width, entries_width, lines_width, bucket_length};
@@ -365,6 +366,7 @@ fn index_reading(
 }
 
 // The index bucket that part is, behind its head.
+#[inline(always)]
 fn read_index(part: &[u8], head: Head) -> Reading
     requires { length part.now ≡ bucket_length }
     ensures { result ≡ as_reading (read_index head part.now) }
@@ -409,6 +411,7 @@ fn read_index(part: &[u8], head: Head) -> Reading
 }
 
 // The data bucket that part is, behind its head.
+#[inline(always)]
 fn read_data(part: &[u8], head: Head) -> Reading
     requires { (length part.now ≡ bucket_length) × (1 ≤ head.to_cycle) }
     ensures { result ≡ as_reading (read_data head part.now) }

@@ -96,7 +96,7 @@ fn is_mark(letter: u8) -> bool {
     letter == b'X'
 }
 
-// A listener started with tag, given the buckets of body in turn, each behind its letter. The stream goes on.
+// A listener started with tag, given the buckets of body in turn, each behind its letter. Whether the stream goes on.
 pub fn hear_marked(rt: &impl Print, tag: u64, size: usize, body: &[u8]) -> io::Result<bool> {
     let mut current = Listener::new(tag);
     let mut from = 0;

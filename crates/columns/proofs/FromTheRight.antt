@@ -1,7 +1,7 @@
 -- A number's columns as they are written: from the right, over blanks.
---     blanks-set     a column stored left of what is written, over a blank
---     print-digit    one more column of a number that reaches it
---     print-front    a number in more columns than it reaches: blanks first
+--     blanks_set     a column stored left of what is written, over a blank
+--     print_digit    one more column of a number that reaches it
+--     print_front    a number in more columns than it reaches: blanks first
 -- Assumes nothing.
 use Rattle.std.proofs.Common.{◌≡◌, ℕ, zero, suc, ◌+◌, ◌-◌, ◌/◌, ◌%◌, ◌^◌, ◌<◌, ◌≤◌, List, ◌∷◌, ◌++◌, length, set, sym, refl, ap, div-lt_iff_lt-mul, pow-suc, le-div_iff_mul-le, zero-add, div-one, arith, lt-ltb}
 use native.Mathlib.Nat.{pow-le-pow_right, div-div-eq-div-mul}

@@ -1,8 +1,8 @@
 -- The lenient reading of a number, and leading zeros made blank.
---     blanked-print               a number's columns so are its print
---     strict-lenient, print-lenient   what is read strictly is read leniently, and a print is
---     blank-print                 a print has no leading zeros
---     blanked-digits, value-digits   no column adds another digit to the value
+--     blanked_print               a number's columns so are its print
+--     strict_lenient, print_lenient   what is read strictly is read leniently, and a print is
+--     blank_print                 a print has no leading zeros
+--     blanked_digits, value_digits   no column adds another digit to the value
 -- Assumes nothing.
 use Rattle.std.proofs.Common.{◌≡◌, ℕ, zero, suc, ◌+◌, ◌-◌, ◌*◌, ◌%◌, ◌^◌, ◌<◌, ◌≤◌, Bool, true, false, ◌&&◌, ◌||◌, eqb, leb, List, [], ◌∷◌, map, length, get_or, sym, refl, ap, ◌∙◌, ap₂, arith, eqb-true, leb-true}
 use mathlib.Core.Option.{none, some}

@@ -1,11 +1,11 @@
 -- Columns filled from the front: the laws of `padded n s`, s and then blanks up to n columns.
---     padded-blanks                  s, and blanks for the rest
---     padded-nil, padded-full        nothing filled, all filled
---     padded-on                      blanks behind s may be counted as filled
---     padded-blank                   the columns behind s are blank
---     put-padded, set-padded         a write right behind s
---     padded-behind, padded-over     what is filled behind a front, and another front written there
---     lent-blank, back-padded        the part right behind s, lent, and what it comes back as
+--     padded_blanks                  s, and blanks for the rest
+--     padded_nil, padded_full        nothing filled, all filled
+--     padded_on                      blanks behind s may be counted as filled
+--     padded_blank                   the columns behind s are blank
+--     put_padded, set_padded         a write right behind s
+--     padded_behind, padded_over     what is filled behind a front, and another front written there
+--     lent_blank, back_padded        the part right behind s, lent, and what it comes back as
 --     ready, printed                 a number printed right behind s
 -- Assumes nothing.
 use Rattle.std.proofs.Common.{◌≡◌, ℕ, ◌+◌, ◌-◌, ◌<◌, ◌≤◌, List, [], ◌∷◌, ◌++◌, length, take, drop, set, sym, refl, ◌∙◌, append_assoc, append-nil, arith, length-append, take_at, drop_at}

@@ -1,12 +1,12 @@
 -- Writing over a part of a list: the laws of `put d k s`, s written over d from place k on.
---     put-nil, put_all                nothing written; the whole written
---     length-put                      the length stays
---     drop-place, drop-put            what lies from the place written on, and behind what is written
---     part-behind                     a part that the write does not touch
---     put-put                         two adjoining writes are one
---     put-set, set_last               a write of one byte, and of the last
---     put_front, put-behind           a write in the first or the second of two lists
---     put-part, length_part           what a lent part `&mut d[a..b]` comes back as, and how long it is
+--     put_nil, put_all                nothing written; the whole written
+--     length_put                      the length stays
+--     drop_place, drop_put            what lies from the place written on, and behind what is written
+--     part_behind                     a part that the write does not touch
+--     put_put                         two adjoining writes are one
+--     put_set, set_last               a write of one byte, and of the last
+--     put_front, put_behind           a write in the first or the second of two lists
+--     put_part, length_part           what a lent part `&mut d[a..b]` comes back as, and how long it is
 --     to_the_end                      a part without an end
 -- Assumes nothing.
 use Rattle.std.proofs.Common.{◌≡◌, ℕ, suc, ◌+◌, ◌-◌, ◌<◌, ◌≤◌, List, [], ◌∷◌, ◌++◌, length, take, drop, set, sym, ap, ◌∙◌, subst, append_assoc, append-nil, add-zero, zero-add, arith, length-append, length-drop, take-append-drop, length-take-le, take_all, drop-drop, take_at, drop_at}

@@ -7,7 +7,7 @@
 //   judge      a list and settings judged, and the figures of their cycle: Judging.judge
 //   conditions conditions 1 to 7, in order, and whether the list is known to have no leading zeros: Building.conditions. Laws:
 //              Building. For each condition its function, its row and its law, as 4, falling tags: first_fall, Building.tag_falls,
-//              refused-4
+//              refused_4
 //   measures   data buckets, levels, subtrees, paths and N by arithmetic: Tree.plan, Cycle.cycle_size. Laws: Trees, Sequences
 //   size       a cycle's dimensions from a number of lines, before there is a list: Size.size. Laws: Building
 //   segments   the segments of a cycle and where each stands: Layouts.slots. Laws: Segmenting

@@ -11,7 +11,8 @@ const GATE: &str = include_str!("../../../.ci/run");
 /// What each program writes, and the status with which it ends.
 const RT: &str = r#"#!/bin/sh
 echo "rt $*"
-[ "$1" = ci ] || exit $STATICLIB
+[ "$1" = ci ] || exit $LIB
+[ $CI = 0 ] && echo "rt: ok; must-fail edits: 5 refused$BAD"
 [ $CI = 0 ] && echo "7 passed, 0 failed" || echo "6 passed, 1 failed"
 exit $CI
 "#;
@@ -20,12 +21,22 @@ echo "cargo $1 in $(basename "$PWD")"
 exit $CARGO
 "#;
 
-/// Runs the gate with these statuses of `rt staticlib`, `cargo test` and
-/// `rt ci`: its own, and the lines written.
-fn gate(staticlib: i32, cargo: i32, ci: i32) -> (i32, Vec<String>) {
+/// Runs the gate with these statuses of `rt lib`, `cargo test` and `rt ci`: its
+/// own, and the lines written.
+fn gate(lib: i32, cargo: i32, ci: i32) -> (i32, Vec<String>) {
+    gate_with(lib, cargo, ci, "")
+}
+
+/// The same where `rt ci` says this behind the number of edits refused.
+fn gate_with(lib: i32, cargo: i32, ci: i32, bad: &str) -> (i32, Vec<String>) {
     let folder = Path::new(env!("CARGO_TARGET_TMPDIR")).join("gate");
-    for (name, script) in [(".ci/run", GATE), ("bin/rt", RT), ("bin/cargo", CARGO), ("host/x", "")]
-    {
+    for (name, script) in [
+        (".ci/run", GATE),
+        ("bin/rt", RT),
+        ("bin/cargo", CARGO),
+        ("crates/pansdaoh/x", ""),
+        ("host/x", ""),
+    ] {
         let path = folder.join(name);
         fs::create_dir_all(path.parent().unwrap()).unwrap();
         fs::write(&path, script).unwrap();
@@ -33,8 +44,8 @@ fn gate(staticlib: i32, cargo: i32, ci: i32) -> (i32, Vec<String>) {
     }
     let path = format!("{}:{}", folder.join("bin").display(), std::env::var("PATH").unwrap());
     let mut gate = Command::new("bash");
-    gate.arg(folder.join(".ci/run")).env("PATH", path);
-    for (name, status) in [("STATICLIB", staticlib), ("CARGO", cargo), ("CI", ci)] {
+    gate.arg(folder.join(".ci/run")).env("PATH", path).env("BAD", bad);
+    for (name, status) in [("LIB", lib), ("CARGO", cargo), ("CI", ci)] {
         gate.env(name, status.to_string());
     }
     let output = gate.output().unwrap();
@@ -46,17 +57,29 @@ fn gate(staticlib: i32, cargo: i32, ci: i32) -> (i32, Vec<String>) {
 fn last_line_and_status() {
     let (status, lines) = gate(0, 0, 0);
     assert_eq!(status, 0);
-    let all = ["rt staticlib pansdaoh", "cargo test in host", "rt ci", "7 passed, 0 failed"];
+    let ok = "rt: ok; must-fail edits: 5 refused";
+    let all = ["rt lib --cpu x86-64", "cargo test in host", "rt ci", ok, "7 passed, 0 failed"];
     assert_eq!(lines, all);
 
     let (status, lines) = gate(0, 0, 3);
     assert_eq!((status, lines.last().unwrap().as_str()), (3, "6 passed, 1 failed"));
 
-    for (staticlib, cargo, ci) in [(0, 101, 0), (0, 101, 3), (1, 0, 0), (1, 0, 3)] {
-        let (status, lines) = gate(staticlib, cargo, ci);
+    for (lib, cargo, ci) in [(0, 101, 0), (0, 101, 3), (1, 0, 0), (1, 0, 3)] {
+        let (status, lines) = gate(lib, cargo, ci);
         assert_eq!(status, 1);
         assert!(lines.contains(&"rt ci".to_string()), "{lines:?}");
-        assert_eq!(lines.contains(&"cargo test in host".to_string()), staticlib == 0, "{lines:?}");
+        assert_eq!(lines.contains(&"cargo test in host".to_string()), lib == 0, "{lines:?}");
         assert!(lines.last().unwrap().starts_with("The host's tests failed"), "{lines:?}");
     }
+}
+
+/// An edit that was not tried counts for nothing, so the gate fails.
+#[test]
+fn bad_edits() {
+    let (status, lines) = gate_with(0, 0, 0, ", 1 bad; done in this run: all");
+    assert_eq!(status, 1);
+    assert!(lines.last().unwrap().starts_with("A must-fail edit was bad"), "{lines:?}");
+
+    let (status, lines) = gate_with(0, 0, 0, "; done in this run: 5 of the 8 proofs");
+    assert_eq!((status, lines.last().unwrap().as_str()), (0, "7 passed, 0 failed"));
 }

@@ -1,7 +1,7 @@
 -- The entries of an index bucket of a segment, put one after the other.
 --     columns_to                   a bucket's columns, the entries of its first children put
---     place-asked, tag-within     what the place of a child's tag is asked for with, and that the text reaches so far
---     columns-wide, blank-there, one_entry    the columns behind the entries put, and one more entry
+--     place_asked, tag_within     what the place of a child's tag is asked for with, and that the text reaches so far
+--     columns_wide, blank_there, one_entry    the columns behind the entries put, and one more entry
 -- Assumes nothing.
 use mathlib.Core.Path.{◌≡◌, sym, ap, ap₂, ◌∙◌}
 use mathlib.Core.Logic.{⊎_elim}

@@ -1,6 +1,6 @@
 -- An index bucket of the cycle, from its control pairs and its entries as the code has them.
---     first-is                    the first pair
---     Prints, index-printed       entries put behind these pairs make the bucket, where pairs and distances are the bucket's
+--     first_is                    the first pair
+--     Prints, index_printed       entries put behind these pairs make the bucket, where pairs and distances are the bucket's
 -- Assumes nothing.
 use mathlib.Core.Path.{◌≡◌, refl, sym, ap, ap₂, subst, ◌∙◌}
 use Prim.Native.Nat.{ℕ, zero, suc, ◌+◌, ◌-◌, ◌*◌, ◌≤◌, ◌<◌}

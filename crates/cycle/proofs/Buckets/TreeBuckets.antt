@@ -1,7 +1,7 @@
 -- A bucket of a segment's tree, under the figures of a cycle: what the code prints of it.
---     tree-place                  it is an index bucket of the segment
+--     tree_place                  it is an index bucket of the segment
 --     one_at_most                 how many control pairs it has
---     tree-printed                the entries put behind them make the bucket
+--     tree_printed                the entries put behind them make the bucket
 -- Assumes nothing.
 use mathlib.Core.Path.{◌≡◌, refl, sym, ap, ap₂, subst, ◌∙◌}
 use Prim.Native.Nat.{ℕ, zero, suc, ◌+◌, ◌-◌, ◌*◌, ◌^◌, ◌≤◌, ◌<◌, min}

@@ -1,8 +1,8 @@
 -- A list with a line arrived or one taken out, as bytes: it cuts into the changed lines, is again a list that building does not
 -- refuse by 3 or 4, stays without leading zeros, and is what stands in front of the place and behind it.
---     cut-arrived, arrived-listed, arrived-plain, arrived-bytes   a line arrived
---     place-within, equal-found, equal-nowhere                    where an equal line stands, if there is one
---     cut-taken, taken-listed, taken-plain, taken-bytes           a line taken out
+--     cut_arrived, arrived_listed, arrived_plain, arrived_bytes   a line arrived
+--     place_within, equal_found, equal_nowhere                    where an equal line stands, if there is one
+--     cut_taken, taken_listed, taken_plain, taken_bytes           a line taken out
 -- Assumes nothing.
 use mathlib.Core.Path.{◌≡◌, refl, sym, ap, ap₂, ◌∙◌, subst}
 use Prim.Native.Nat.{ℕ, suc, ◌+◌, ◌-◌, ◌*◌, ◌/◌, ◌%◌, ◌≤◌, ◌<◌}

@@ -1,10 +1,10 @@
 -- Bytes that move in a list's buffer when a line is put in or taken out, and what the buffer holds then.
---     take-place, at_before, at-behind        what a write does not touch
---     put-before, put-onto                    a write that ends where another begins; a write by the buffer's front
---     opened-none, opened-more, opened-all    bytes moved on: none yet, one more, all
---     closed_none, closed-more, closed_all    bytes moved back: none yet, one more, all
---     line-in, line-out                       a place opened and filled, a place closed and blanked
---     line-put, line-removed                  the same by the list that the buffer holds
+--     take_place, at_before, at_behind        what a write does not touch
+--     put_before, put_onto                    a write that ends where another begins; a write by the buffer's front
+--     opened_none, opened_more, opened_all    bytes moved on: none yet, one more, all
+--     closed_none, closed_more, closed_all    bytes moved back: none yet, one more, all
+--     line_in, line_out                       a place opened and filled, a place closed and blanked
+--     line_put, line_removed                  the same by the list that the buffer holds
 --     onto-..                                 a buffer with bytes written at its front
 -- Assumes nothing.
 use Prim.Native.Nat.{ℕ, suc, ◌+◌, ◌-◌, ◌≤◌, ◌<◌}

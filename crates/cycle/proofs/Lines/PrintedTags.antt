@@ -1,7 +1,7 @@
 -- Tags that stand in a list: the ten columns of a line's tag, with leading zeros made blank, are its tag, printed.
---     tag-printed                     the tag of a line of a list that can be sent
---     same-columns, other-columns     two lines' tags, compared by their columns
---     list-tags                       the largest tag under each bucket
+--     tag_printed                     the tag of a line of a list that can be sent
+--     same_columns, other_columns     two lines' tags, compared by their columns
+--     list_tags                       the largest tag under each bucket
 -- Assumes nothing.
 use mathlib.Core.Path.{◌≡◌, refl, sym, ap, ◌∙◌}
 use Prim.Native.Nat.{ℕ, ◌+◌, ◌-◌, ◌*◌, ◌^◌, ◌<◌, min}

@@ -76,7 +76,6 @@ enough_started image count spent (suc budget) more tag given x got h =
 
 -- a run may take more steps than two cycles have buckets
 budget_enough : 2 * buckets_most < run_budget
-unfolding run_budget
 budget_enough = omega arith
 
 pub never_spent : NeverSpent
