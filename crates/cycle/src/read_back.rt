@@ -311,7 +311,8 @@ fn line_count(image: &[u8], p: u64) -> u64
     let mut last: u8 = b'0';
     while x < count {
         let at = Bucket::LENGTH * x;
-        if image[at + Bucket::LETTER] == Bucket::DATA {
+        let data = image[at + Bucket::LETTER] == Bucket::DATA;
+        if data {
             d += 1;
             last = image[at + Bucket::ITEM_DIGIT];
         }

@@ -4,7 +4,7 @@ use mathlib.Core.Path.{◌≡◌, sym, ap, subst, ◌∙◌}
 use mathlib.Core.Bool.{true, false, true≢false}
 use mathlib.Core.Option.{some}
 use mathlib.Core.List.{List}
-use Prim.Native.Nat.{ℕ}
+use Prim.Native.Nat.{ℕ, ◌/◌, ◌<◌}
 use native.Mathlib.Omega.{arith}
 use lib.ListN.{length}
 use borrow.Author.Rules.{rules}
@@ -12,6 +12,7 @@ use borrow.Author.Tests.{not-true, not-false}
 use Rattle.buckets.specs.ListLine.{list_lines, whole_lines}
 use Rattle.buckets.specs.Inner.Columns.{PlainList}
 use Rattle.buckets.proofs.Lists.{length_list_lines}
+use Rattle.buckets.specs.Lengths.{lines_most, line_length}
 use Rattle.cycle.specs.Tree.{Settings, settings}
 use Rattle.cycle.specs.Refusals.{refusal, first_refusal}
 use Rattle.cycle.specs.Building.{settings_fit, conditions}
@@ -36,8 +37,8 @@ bytes s = s.args.list.now
 abbrev start1 : tie.Else-not-settings_fit → tie.Start
 start1 c = c.before.before.before
 
-abbrev start3 : tie.Else-lines-gt-LINES_MOST → tie.Start
-start3 c = start1 c.before.before
+abbrev start3 : tie.After-judge_lines-told → tie.Start
+start3 c = start1 c.before.before.before
 
 -- what does not hold, at each place
 tested : (c : tie.After-settings_fit) → settings_fit (set c.before.before) ≡ c.settings_fit.result
@@ -48,15 +49,15 @@ tested c =
 fit1 : (c : tie.Else-not-settings_fit) → settings_fit (set (start1 c)) ≡ true
 fit1 c = tested c.before ∙ not-false _ c.if-not-settings_fit.false-raw
 
-fit3 : (c : tie.Else-lines-gt-LINES_MOST) → settings_fit (set (start3 c)) ≡ true
-fit3 c = fit1 c.before.before
+fit3 : (c : tie.After-judge_lines-told) → settings_fit (set (start3 c)) ≡ true
+fit3 c = fit1 c.before.before.before
 
-whole3 : (c : tie.Else-lines-gt-LINES_MOST) → whole_lines (length (bytes (start3 c))) ≡ true
-whole3 c = lines_fit (length (bytes (start3 c))) c.if-length-ne0.false (omega (arith, c.if-lines-gt-LINES_MOST.false))
+whole3 : (c : tie.After-judge_lines-told) → whole_lines (length (bytes (start3 c))) ≡ true
+whole3 c = lines_fit (length (bytes (start3 c))) c.if-length-ne0.false (omega arith)
 
 -- what was found of the lines
-lines_told : (c : tie.After-judge_lines-told) {r : LinesJudged} → c.judge_lines-told.result ≡ r → LinesTold (bytes (start3 c.before)) r
-lines_told c e = subst (LinesTold (bytes (start3 c.before))) e c.judge_lines-told.ensures
+lines_told : (c : tie.After-judge_lines-told) {r : LinesJudged} → c.judge_lines-told.result ≡ r → LinesTold (bytes (start3 c)) r
+lines_told c e = subst (LinesTold (bytes (start3 c))) e c.judge_lines-told.ensures
 
 -- what a refusal answers
 refuses :
@@ -83,37 +84,38 @@ returns_2 c =
     refuses s c.refused-then-length-ne0.ensures
     (refused_2 (set s) (bytes s) s.args.room (fit1 met) (no_multiple (length (bytes s)) c.if-length-ne0.true))
 
-returns_3 : tie.Need-returns-then-lines-gt-LINES_MOST
-returns_3 c =
-    let met = c.before.before in
+too_many :
+    (met : tie.Else-length-ne0) {r : ListJudged} →
     let s = start1 met.before in
-    refuses s c.refused-then-lines-gt-LINES_MOST.ensures
-    (refused_2 (set s) (bytes s) s.args.room (fit1 met.before)
-    (too_long (length (bytes s)) met.if-length-ne0.false (omega (arith, c.if-lines-gt-LINES_MOST.true))))
+    (r.judged ≡ Refused 2 0) × (r.plain ≡ false) → lines_most < length (bytes s) / line_length →
+    (Judging.numbers r.judged ≡ Judging.numbers (Judging.judge (set s) (bytes s) s.args.room)) ×
+    (r.plain ≡ true → PlainList (bytes s))
+too_many met told many =
+    let s = start1 met.before in
+    refuses s told
+    (refused_2 (set s) (bytes s) s.args.room (fit1 met.before) (too_long (length (bytes s)) met.if-length-ne0.false many))
 
 figures_of_requires : tie.Need-figures_of-requires
 figures_of_requires c κs =
-    let e3 = c.before.before in
-    (Accepted.settings_fit_lem (set (start3 e3)) (fit3 e3), omega (arith, e3.if-not-settings_fit.false))
+    let call = c.before in
+    (Accepted.settings_fit_lem (set (start3 call)) (fit3 call), omega arith)
 
 returns_4 : tie.Need-returns-in-Misprinted
 returns_4 c =
     let found = c.before in
     let call = found.before in
-    let e3 = call.before in
-    let s = start3 e3 in
+    let s = start3 call in
     refuses s c.refused-in-Misprinted.ensures
-    (refused_3 (set s) (bytes s) s.args.room (fit3 e3) (whole3 e3) _ (lines_told call found.in-Misprinted.is))
+    (refused_3 (set s) (bytes s) s.args.room (fit3 call) (whole3 call) _ (lines_told call found.in-Misprinted.is))
 
 returns_5 : tie.Need-returns-in-Falls
 returns_5 c =
     let found = c.before in
     let call = found.before in
-    let e3 = call.before in
-    let s = start3 e3 in
+    let s = start3 call in
     let lines = lines_told call found.in-Falls.is in
     refuses s c.refused-in-Falls.ensures
-    (refused_4 (set s) (bytes s) s.args.room (fit3 e3) (whole3 e3) _ lines.0 lines.1)
+    (refused_4 (set s) (bytes s) s.args.room (fit3 call) (whole3 call) _ lines.0 lines.1)
 
 -- figures that the settings and the list's length give are judged as the list is
 returns_6 : tie.Need-returns-in-Passed
@@ -121,8 +123,7 @@ returns_6 c =
     let made = c.before in
     let found = made.before in
     let call = found.before in
-    let e3 = call.before in
-    let s = start3 e3 in
+    let s = start3 call in
     let list = bytes s in
     let risen = lines_told call found.in-Passed.is in
     let told = made.figures_of.ensures in
@@ -130,7 +131,7 @@ returns_6 c =
       ap Judging.numbers
           (c.judge_room-judged.ensures
           ∙ room_judged made.figures_of.result (set s) list s.args.room
-          (passed (set s) list s.args.room (fit3 e3) (whole3 e3) risen.0 risen.1)
+          (passed (set s) list s.args.room (fit3 call) (whole3 call) risen.0 risen.1)
           (plan_same (set s) made.figures_of.result (list_lines list) told.0 (sym lines))
           lines),
       risen.2,
@@ -145,7 +146,7 @@ judge_list_spec =
     (λ c κs. search rules)
     returns_2
     (λ c κs. search rules)
-    returns_3
+    (λ c. too_many c.before.before (assumption c) (omega arith))
     (λ c κs. search rules) (λ c. search rules) (λ c κs. search rules) (λ c. search rules) (λ c κs. search rules) (λ c. search rules)
     figures_of_requires
     (λ c κs. search rules)

@@ -76,9 +76,9 @@ loop_again c =
     ⊎_elim
     (λ w.
     rw (w.d-is, w.last-is)
-    (turn at.invariant h (omega arith) (omega (arith, w.shared_slice_known-then-image-at-eq-DATA-1.given (bucket_length * at.x + item_digit_column))) (next ∙ rw (eq-eqb _ letter_data w.if-image-at-eq-DATA.true))))
-    (λ w. rw (w.d-is, w.last-is) (turn at.invariant h (omega arith) at.invariant.small (next ∙ rw (ne_eqb _ letter_data w.if-image-at-eq-DATA.false))))
-    c.if-image-at-eq-DATA.branch-raw
+    (turn at.invariant h (omega arith) (omega (arith, w.shared_slice_known-then-data-1.given (bucket_length * at.x + item_digit_column))) (next ∙ rw (eq-eqb _ letter_data w.if-data.true))))
+    (λ w. rw (w.d-is, w.last-is) (turn at.invariant h (omega arith) at.invariant.small (next ∙ rw (ne_eqb _ letter_data w.if-data.false))))
+    c.if-data.branch-raw
 
 returns : tie.Need-returns-then-d-eq0 invariant-loop-x decreases-loop-x
 returns c =

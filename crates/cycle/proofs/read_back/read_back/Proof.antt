@@ -3,7 +3,7 @@
 use mathlib.Core.Path.{◌≡◌, sym, ap, ◌∙◌}
 use mathlib.Core.Bool.{true, false}
 use mathlib.Core.List.{List}
-use Prim.Native.Nat.{ℕ, ◌≤◌}
+use Prim.Native.Nat.{ℕ, ◌≤◌, ◌<◌}
 use native.Mathlib.Omega.{arith}
 use lib.ListN.{length}
 use borrow.Author.Rules.{rules}
@@ -14,6 +14,7 @@ use Rattle.cycle.specs.Building.{settings_fit}
 use Rattle.cycle.specs.ReadingBack.{whole_buckets, numbers, Outcome, read_back}
 use Rattle.cycle.specs.declared.ReadBack.{ReadBack}
 use Rattle.cycle.specs.declared.ReadBack.TheVariants.{Refused}
+use Rattle.buckets.specs.Lengths.{lines_most}
 use Rattle.cycle.specs.Inner.Comparing.{counted}
 use Rattle.cycle.proofs.Building.Accepted.{settings_fit_lem}
 use Rattle.cycle.proofs.Building.Answering.{any_copies}
@@ -73,20 +74,24 @@ line_count_requires c κs =
     let told = settings_fit_lem (set s) (fit c.before.before.before) in
     (omega (arith, c.if-length-gt-BUCKETS_MOST.false, c.before.if-length-ne0.false), told.p_high)
 
-returns_5 : tie.Need-returns-then-lines-gt-LINES_MOST
-returns_5 c =
-    let whole = c.before.before in
+too_many :
+    (whole : tie.Else-length-gt-BUCKETS_MOST) →
+    let s = start4 whole in
+    lines_most < counted s.args.p (bytes s) →
+    let o : Outcome = read_back (set s) (bytes s) (length s.args.out.now) in
+    (numbers (Refused 13 0) ≡ numbers o.answer) × (s.args.out.now ≡ onto o.output s.args.out.now)
+too_many whole many =
     let s = start4 whole in
     numbered
     (refuses 13 0 _ s.args.out.now
     ((every_read_back (set s) (bytes s) (length s.args.out.now)).refuses_13 (fit whole.before.before.before)
     (buckets_whole _ (some_bytes whole) whole.before.if-length-ne0.false whole.if-length-gt-BUCKETS_MOST.false)
-    (many_refused (set s) (bytes s) (omega (arith, c.if-lines-gt-LINES_MOST.true, c.before.line_count-lines.ensures)))))
+    (many_refused (set s) (bytes s) many)))
 
 figures_of_requires : tie.Need-figures_of-requires
 figures_of_requires c κs =
     let whole = c.before.before in
-    (settings_fit_lem (set (start4 whole)) (fit whole.before.before.before), omega (arith, c.if-lines-gt-LINES_MOST.false))
+    (settings_fit_lem (set (start4 whole)) (fit whole.before.before.before), omega arith)
 
 hand_out_requires : tie.Need-hand_out-requires
 hand_out_requires c κs =
@@ -124,7 +129,7 @@ read_back_spec =
     (λ c. image_refused c.before.before (image_torn _ c.if-length-ne0.true))
     (λ c. image_refused c.before.before.before (image_long _ (omega (arith, c.if-length-gt-BUCKETS_MOST.true))))
     line_count_requires
-    returns_5
+    (λ c. too_many c.before.before (omega (arith, c.line_count-lines.ensures)))
     figures_of_requires
     hand_out_requires
     (λ c. search rules)

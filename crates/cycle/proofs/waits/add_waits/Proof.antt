@@ -77,12 +77,12 @@ loop_again c =
     (λ w.
     rw (w.tag-is, w.first-is, w.tags-is, w.sum-is)
     (list_next f list start.requires.0 l.tag l.first l.tags l.sum l.i l.invariant turn.loop-i-test.true read.tag_of-next.result read.tag_of-next.ensures
-    w.if-next-tag.true w.waits_between-sum.result w.waits_between-sum.ensures))
+    w.if-other.true w.waits_between-sum.result w.waits_between-sum.ensures))
     (λ w.
     rw (w.tag-is, w.first-is, w.tags-is, w.sum-is)
     (list_same f list start.requires.0 l.tag l.first l.tags l.sum l.i l.invariant turn.loop-i-test.true read.tag_of-next.result read.tag_of-next.ensures
-    w.if-next-tag.false))
-    c.if-next-tag.branch-raw
+    w.if-other.false))
+    c.if-other.branch-raw
 
 -- ---- the last tag
 
