@@ -3,7 +3,7 @@
 
 usage: python3 tools/snake_names.py [--list]
 
-Run once, at the top of the repository, behind /opt/rattle/port/port.py. It goes by text over the .antt files of crates/, the ghost
+Run once, at the top of the repository, behind the kit's port.py. It goes by text over the .antt files of crates/, the ghost
 parts of the .rt files, the must-fail edits, and the pages of docs/ and README.md. A word in camel case gets underscores
 (`bucketLength` becomes `bucket_length`), and so does each dash in a name that the repository declares. A lemma that would have a
 definition's name gets `_lem`. Types, facts and modules keep their capitals; names that Rattle makes of

@@ -1,9 +1,9 @@
 -- What the writer's loops have written after i turns: the front of what they are to write, and one item more.
---     entries_next, length_entries    entries from two arrays, one more, and how many
---     joined_next                     one more item behind those that stand
---     entry_written                   one more entry, printed as two numbers
---     pairs_printed, pairs_blanked    pairs printed as entries, and the first one's tag blanked
---     line_written, line_columns_at        one more line, and where its columns stand in a list
+--     entries_next, length_entries     entries from two arrays, one more, and how many
+--     joined_next                      one more item behind those that stand
+--     entry_written                    one more entry, printed as two numbers
+--     pairs_printed, pairs_blanked     pairs printed as entries, and the first one's tag blanked
+--     line_written, line_columns_at    one more line, and where its columns stand in a list
 -- Assumes nothing.
 use Prim.Native.Nat.{ℕ, zero, suc, ◌+◌, ◌*◌, ◌≤◌, ◌<◌}
 use mathlib.Core.Path.{◌≡◌, refl, sym, ap, ◌∙◌}

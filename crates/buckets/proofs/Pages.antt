@@ -1,10 +1,10 @@
 -- A bucket as its parts: the head's columns, the body's, and the newline.
---     bucket_parts                    a printed bucket
---     length_pairs_of, few_from       as many pairs as entries, and no more than are taken
---     index_front_lem                     the columns before an index bucket's entries
---     data_parts                      a printed data bucket
---     newline_filled                  a bucket's last column
---     front_started                   an index bucket with blank entries
+--     bucket_parts                 a printed bucket
+--     length_pairs_of, few_from    as many pairs as entries, and no more than are taken
+--     index_front_lem              the columns before an index bucket's entries
+--     data_parts                   a printed data bucket
+--     newline_filled               a bucket's last column
+--     front_started                an index bucket with blank entries
 -- Assumes nothing.
 use Prim.Native.Nat.{ℕ, suc, ◌+◌, ◌-◌, ◌≤◌}
 use mathlib.Core.Path.{◌≡◌, refl, sym, ap, ◌∙◌}

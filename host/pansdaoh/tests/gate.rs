@@ -11,7 +11,7 @@ const GATE: &str = include_str!("../../../.ci/run");
 /// What each program writes, and the status with which it ends.
 const RT: &str = r#"#!/bin/sh
 echo "rt $*"
-[ "$1" = ci ] || exit $LIB
+[ "$1" = ci ] || { basename "$PWD"; exit $LIB; }
 [ $CI = 0 ] && echo "rt: ok; must-fail edits: 5 refused$BAD"
 [ $CI = 0 ] && echo "7 passed, 0 failed" || echo "6 passed, 1 failed"
 exit $CI
@@ -58,8 +58,9 @@ fn last_line_and_status() {
     let (status, lines) = gate(0, 0, 0);
     assert_eq!(status, 0);
     let ok = "rt: ok; must-fail edits: 5 refused";
-    let all = ["rt lib --cpu x86-64", "cargo test in host", "rt ci", ok, "7 passed, 0 failed"];
-    assert_eq!(lines, all);
+    let lib = ["rt lib --cpu x86-64", "pansdaoh"];
+    let rest = ["cargo test in host", "rt ci", ok, "7 passed, 0 failed"];
+    assert_eq!(lines, [&lib[..], &rest[..]].concat());
 
     let (status, lines) = gate(0, 0, 3);
     assert_eq!((status, lines.last().unwrap().as_str()), (3, "6 passed, 1 failed"));
@@ -73,7 +74,8 @@ fn last_line_and_status() {
     }
 }
 
-/// An edit that was not tried counts for nothing, so the gate fails.
+/// A bad edit, one that cannot be applied, compiled or read, counts for nothing:
+/// the gate fails.
 #[test]
 fn bad_edits() {
     let (status, lines) = gate_with(0, 0, 0, ", 1 bad; done in this run: all");

@@ -1,7 +1,7 @@
 -- A bucket of a segment's path in layout 1, under the figures of a cycle: what the code prints of it.
 --     path_one, path_low, path_some, path_on, path_block    what is known of it
---     path_place_lem                  it is an index bucket of the segment
---     path_printed                the entries put behind its control pairs make the bucket
+--     path_place_lem                                        it is an index bucket of the segment
+--     path_printed                                          the entries put behind its control pairs make the bucket
 -- Assumes nothing.
 use mathlib.Core.Path.{◌≡◌, refl, sym, ap, ap₂, subst, ◌∙◌}
 use mathlib.Core.Logic.{⊎_elim}

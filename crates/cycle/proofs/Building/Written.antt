@@ -1,5 +1,5 @@
 -- Writing the cycle part by part: the laws of `written t d x y`, buckets x up to y of the image written over d.
---     written_none, written_on, written-next    nothing; two adjoining parts; one bucket more
+--     written_none, written_on, written_next    nothing; two adjoining parts; one bucket more
 --     written_one, written_all                  one bucket as printed; the whole image
 --     length_written                            the length stays
 -- Assumes nothing.

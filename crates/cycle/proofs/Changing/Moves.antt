@@ -5,7 +5,7 @@
 --     closed_none, closed_more, closed_all    bytes moved back: none yet, one more, all
 --     line_in, line_out                       a place opened and filled, a place closed and blanked
 --     line_put, line_removed                  the same by the list that the buffer holds
---     onto-..                                 a buffer with bytes written at its front
+--     onto_..                                 a buffer with bytes written at its front
 -- Assumes nothing.
 use Prim.Native.Nat.{ℕ, suc, ◌+◌, ◌-◌, ◌≤◌, ◌<◌}
 use mathlib.Core.Path.{◌≡◌, refl, sym, ap, ap₂, ◌∙◌}

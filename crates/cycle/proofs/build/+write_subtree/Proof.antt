@@ -50,33 +50,33 @@ pub +write_subtree_spec : {M : Type 1} → statement M
     write_subtree_reads.Post
     write_subtree_Inv_loop
     write_subtree_μ_loop
-    -- write-tree-bucket-requires
+    -- write_tree_bucket-count-requires
     (λ c κs. c.requires.1)
-    -- add-next
+    -- overflow_add-next
     (λ c. let given = c.requires.1 in
     omega (arith, own_there given.0.sending.ready given.0.placed given.1))
-    -- same-length
+    -- shape_of-image-then-e-eq1
     (λ c. c.write_tree_bucket-count.auto.image)
-    -- returns
+    -- returns-then-e-eq1
     (λ c. let st = c.before.before.before.before.before.before.before in
     let a = st.args in
     let end = alone st.requires.1.0.sending.ready st.requires.1.0.placed st.requires.1.1 c.if-e-eq1.true in
     (end, c.write_tree_bucket-count.ensures.1 ∙ ap (written (plan_in a.f InList a.list.now) a.image.now a.x) end))
-    -- sub-below
+    -- overflow_sub-below
     (λ c. c.requires.1.1.low)
-    -- mul-first
+    -- overflow_mul-first
     (λ c. let given = c.requires.1 in
     first_fits given.0.sending.ready given.0.placed given.1)
-    -- loop-holds
+    -- loop-i-init
     (λ c. let given = c.requires.1 in
     let call = c.write_tree_bucket-count in
     (none_behind given.0.sending.ready given.0.placed given.1 call.ensures.0, begins given.0 given.1 call.new.image call.auto.image))
-    -- add-write-subtree
+    -- overflow_add-first
     (λ c. let loop = c.before.before in
     let given = loop.requires.1 in
     let call = loop.write_tree_bucket-count in
     child_fits given.0.sending.ready given.0.placed given.1 call.ensures.0 loop.loop-i.invariant.0 loop.if-e-eq1.false c.loop-i-test.true)
-    -- write-subtree-requires
+    -- write_subtree-next-requires
     (λ c κs. let loop = c.before.before in
     let st = loop in
     let w = st.requires.1.0 in
@@ -90,11 +90,11 @@ pub +write_subtree_spec : {M : Type 1} → statement M
         child_place w.sending.ready w.placed p call.ensures.0 loop.loop-i.invariant.0 more c.loop-i-test.true,
       ),
     ))
-    -- add-i
+    -- overflow_add-i
     (λ c. omega (arith, c.loop-i-test.true))
-    -- loop-less
+    -- loop-i-smaller
     (λ c. omega (arith, c.loop-i-test.true))
-    -- loop-again
+    -- loop-i-preserved
     (λ c. let loop = c.before.before.before.before.before in
     let given = loop.requires.1 in
     let call = loop.write_tree_bucket-count in
@@ -103,12 +103,12 @@ pub +write_subtree_spec : {M : Type 1} → statement M
       next_behind given.0.sending.ready given.0.placed given.1 call.ensures.0 loop.loop-i.invariant.0 h next.ensures.0,
       next_written given.0 given.1 loop.if-e-eq1.false call.ensures.0 loop.loop-i.invariant.0 call.new.image call.auto.image loop.loop-i.invariant.1 h next.result next.ensures.0 next.ensures.1,
     ))
-    -- same-length-2
+    -- shape_of-image
     (λ c. let loop = c.before in
     let given = loop.requires.1 in
     let call = loop.write_tree_bucket-count in
     room_kept given.0 given.1 loop.if-e-eq1.false call.ensures.0 loop.loop-i.invariant.0 call.new.image call.auto.image loop.loop-i.invariant.1)
-    -- returns-2
+    -- returns
     (λ c. let loop = c.before in
     let st = loop in
     let w = st.requires.1.0 in

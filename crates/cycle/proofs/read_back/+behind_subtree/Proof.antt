@@ -51,53 +51,53 @@ pub +behind_subtree_spec : {M : Type 1} → statement M
     behind_subtree_reads.Post
     behind_subtree_Inv_loop
     behind_subtree_μ_loop
-    -- child-count-requires
+    -- child_count-count-requires
     (λ c κs. let st = c.before in
     (st.requires.1.0.comparing.holding.ready, st.requires.1.1.low, st.requires.1.1.inside))
-    -- is-tree-bucket-requires
+    -- is_tree_bucket-requires
     (λ c κs. let st = c.before.before in
     (st.requires.1.0, st.requires.1.1, c.child_count-count.ensures))
-    -- returns
+    -- returns-then-not-is_tree_bucket
     (λ c. let st = c.before.before.before.before in
     let w = st.requires.1.0.comparing in
     let there = own_there w.holding.ready w.placed st.requires.1.1 in
     finds_none
     ((decides_not c.if-not-is_tree_bucket.true-raw (matches_at st.args.x (omega arith) there.0) c.is_tree_bucket.ensures).no refl))
-    -- add-next
+    -- overflow_add-next
     (λ c. let given = c.requires.1 in
     let w = given.0.comparing in
     omega (arith, own_there w.holding.ready w.placed given.1))
-    -- returns-2
+    -- returns-then-e-eq1
     (λ c. let told = c.before in
     let st = told.before.before.before.before in
     let w = st.requires.1.0.comparing in
     let end = alone w.holding.ready w.placed st.requires.1.1 c.if-e-eq1.true in
     finds_some (matches_to end (matches_one (decides_told told.if-not-is_tree_bucket.false-raw told.is_tree_bucket.ensures))) (st.args.x + 1) end (omega arith))
-    -- sub-below
+    -- overflow_sub-below
     (λ c. c.requires.1.1.low)
-    -- mul-first
+    -- overflow_mul-first
     (λ c. let given = c.requires.1 in
     let w = given.0.comparing in
     first_fits w.holding.ready w.placed given.1)
-    -- loop-holds
+    -- loop-i-init
     (λ c. let told = c.before.before in
     let given = told.requires.1 in
     let w = given.0.comparing in
     (none_behind w.holding.ready w.placed given.1 told.child_count-count.ensures, matches_one (decides_told told.if-not-is_tree_bucket.false-raw told.is_tree_bucket.ensures)))
-    -- add-behind-subtree
+    -- overflow_add-first
     (λ c. let loop = c in
     let given = loop.requires.1 in
     let w = given.0.comparing in
     let count = loop.child_count-count.ensures in
     child_fits w.holding.ready w.placed given.1 count loop.loop-i.invariant.0 loop.if-e-eq1.false c.loop-i-test.true)
-    -- behind-subtree-requires
+    -- behind_subtree-next-requires
     (λ c κs. let loop = c in
     let st = loop in
     let w = st.requires.1.0.comparing in
     let count = loop.child_count-count.ensures in
     let place = child_place w.holding.ready w.placed st.requires.1.1 count loop.loop-i.invariant.0 loop.if-e-eq1.false c.loop-i-test.true in
     (omega (arith, st.requires.0, st.requires.1.1.low), (st.requires.1.0, place)))
-    -- returns-3
+    -- returns-then-next-eq0
     (λ c. let turn = c in
     let loop = turn.before in
     let given = loop.requires.1 in
@@ -105,11 +105,11 @@ pub +behind_subtree_spec : {M : Type 1} → statement M
     let count = loop.child_count-count.ensures in
     let fits = child_inside w.holding.ready w.placed given.1 count loop.loop-i.invariant.0 loop.if-e-eq1.false turn.loop-i-test.true in
     finds_none (λ whole. c.behind_subtree-next.ensures.none c.if-next-eq0.true (matches_part _ _ (omega (arith, loop.loop-i.invariant.0)) fits whole)))
-    -- add-i
+    -- overflow_add-i
     (λ c. omega (arith, c.loop-i-test.true))
-    -- loop-less
+    -- loop-i-smaller
     (λ c. omega (arith, c.loop-i-test.true))
-    -- loop-again
+    -- loop-i-preserved
     (λ c. let turn = c in
     let loop = turn.before in
     let given = loop.requires.1 in
@@ -117,7 +117,7 @@ pub +behind_subtree_spec : {M : Type 1} → statement M
     let count = loop.child_count-count.ensures in
     let told = c.behind_subtree-next.ensures.found c.if-next-eq0.false in
     (next_behind w.holding.ready w.placed given.1 count loop.loop-i.invariant.0 turn.loop-i-test.true told.1, matches_to (sym told.1) (matches_on loop.loop-i.invariant.1 told.0)))
-    -- returns-4
+    -- returns
     (λ c. let loop = c in
     let given = loop.requires.1 in
     let w = given.0.comparing in
