@@ -20,9 +20,15 @@ pub fn within(time: Duration, mut run: impl FnMut()) -> bool {
     })
 }
 
-/// A folder for one test.
+/// A folder for one test, gone when the test ends: rt ci takes no link in the repository, and a test may make one.
 pub struct Folder {
     path: PathBuf,
+}
+
+impl Drop for Folder {
+    fn drop(&mut self) {
+        let _ = fs::remove_dir_all(&self.path);
+    }
 }
 
 /// What a run left: status, standard output, standard error.
