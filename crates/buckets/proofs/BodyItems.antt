@@ -3,7 +3,7 @@
 use Prim.Native.Nat.{ℕ, suc, ◌≤◌}
 use mathlib.Core.Path.{◌≡◌, sym, ◌∙◌}
 use mathlib.Core.Bool.{true, ◌&&◌}
-use mathlib.Core.Option.{some}
+use Rattle.std.specs.Prelude.{Some}
 use mathlib.Core.List.{List, map}
 use native.Mathlib.Omega.{arith}
 use lib.ListN.{length}
@@ -21,28 +21,28 @@ use Rattle.buckets.proofs.LineColumns.{fits_from, line_columns_alone_back, line_
 use Rattle.buckets.proofs.Entries.{entry_from, entry_back, entry_only, pair_at, pair_back, pair_only, keeps_pairs}
 
 pub pairs_back : (n : ℕ) (ps : List Pair) → n ≤ buckets_most → every (pair_fits n) ps ≡ true → later_printed ps ≡ true
-    → read_pairs n (length ps) (padded pairs_width (joined print_pair ps)) ≡ some ps
+    → read_pairs n (length ps) (padded pairs_width (joined print_pair ps)) ≡ Some ps
 unfolding read_pairs
 pairs_back n ps small fit later =
     items_back (read_pair n) (λ i p. suc i) (pair_at n) print_pair entry_width length_print_pair
     (λ i p h. pair_back n i p small h) pairs_width ps (keeps_pairs n ps ∙ rw (fit, later))
 
 pub entries_back : (n : ℕ) (es : List Entry) → n ≤ buckets_most → every (entry_fits n) es ≡ true
-    → rising 0 (map (λ e. e.tag) es) ≡ true → read_entries n (length es) (padded entries_width (joined print_entry es)) ≡ some es
+    → rising 0 (map (λ e. e.tag) es) ≡ true → read_entries n (length es) (padded entries_width (joined print_entry es)) ≡ Some es
 unfolding read_entries
 entries_back n es small fit order =
     items_back (read_entry n) (λ m e. e.tag) (entry_from n) print_entry entry_width length_print_entry
     (λ m e h. entry_back n m e small h) entries_width es (keeps_rising (entry_fits n) (λ e. e.tag) 0 es ∙ rw (fit, order))
 
 pub lines_back : (ls : List Line) → every fits ls ≡ true → rising 0 (map (λ l. l.tag) ls) ≡ true
-    → read_lines (length ls) (padded lines_width (joined line_columns ls)) ≡ some ls
+    → read_lines (length ls) (padded lines_width (joined line_columns ls)) ≡ Some ls
 unfolding read_lines
 lines_back ls fit order =
     items_back read_line_columns (λ m l. l.tag) fits_from line_columns line_columns_width length_line_columns
     line_columns_alone_back lines_width ls (keeps_rising fits (λ l. l.tag) 0 ls ∙ rw (fit, order))
 
 -- what was read of a run of items, with the rules that it keeps
-pub pairs_only : (n c : ℕ) (s : List ℕ) {ps : List Pair} → length s ≡ pairs_width → c ≤ pairs_most → read_pairs n c s ≡ some ps
+pub pairs_only : (n c : ℕ) (s : List ℕ) {ps : List Pair} → length s ≡ pairs_width → c ≤ pairs_most → read_pairs n c s ≡ Some ps
     → (length ps ≡ c) × (every (pair_fits n) ps && later_printed ps ≡ true) × (s ≡ padded pairs_width (joined print_pair ps))
 unfolding read_pairs
 pairs_only n c s {ps} long few h =
@@ -50,7 +50,7 @@ pairs_only n c s {ps} long few h =
     (λ i r p. pair_only n i r) pairs_width c s ps long (omega arith) h in
     (told.0, sym (keeps_pairs n ps) ∙ told.1, told.2)
 
-pub entries_only : (n c : ℕ) (s : List ℕ) {es : List Entry} → length s ≡ entries_width → c ≤ entries_most → read_entries n c s ≡ some es
+pub entries_only : (n c : ℕ) (s : List ℕ) {es : List Entry} → length s ≡ entries_width → c ≤ entries_most → read_entries n c s ≡ Some es
     → (length es ≡ c) × (every (entry_fits n) es && rising 0 (map (λ e. e.tag) es) ≡ true)
     × (s ≡ padded entries_width (joined print_entry es))
 unfolding read_entries
@@ -59,7 +59,7 @@ entries_only n c s {es} long few h =
     (λ m r e. entry_only n m r) entries_width c s es long (omega arith) h in
     (told.0, sym (keeps_rising (entry_fits n) (λ e. e.tag) 0 es) ∙ told.1, told.2)
 
-pub lines_only : (c : ℕ) (s : List ℕ) {ls : List Line} → length s ≡ lines_width → c ≤ bucket_lines_most → read_lines c s ≡ some ls
+pub lines_only : (c : ℕ) (s : List ℕ) {ls : List Line} → length s ≡ lines_width → c ≤ bucket_lines_most → read_lines c s ≡ Some ls
     → (length ls ≡ c) × (every fits ls && rising 0 (map (λ l. l.tag) ls) ≡ true) × (s ≡ padded lines_width (joined line_columns ls))
 unfolding read_lines
 lines_only c s {ls} long few h =

@@ -4,7 +4,7 @@ use mathlib.Core.Path.{◌≡◌, refl, ap, ◌∙◌}
 use Prim.Native.Nat.{ℕ, zero, suc, ◌+◌, ◌-◌, ◌*◌, ◌≤◌, ◌<◌}
 use native.Mathlib.Omega.{arith}
 use mathlib.Core.Bool.{Bool, true, false, true≢false}
-use mathlib.Core.Option.{Option, none, some}
+use Rattle.std.specs.Prelude.{Option, None, Some}
 use mathlib.Core.List.{List, [], ◌∷◌, ◌++◌, append_assoc}
 use lib.ListN
 use lib.ListN.{length, get_or}
@@ -41,12 +41,12 @@ printed_line b f ls z m e h =
     (joined_at line_columns line_columns_width length_line_columns z ls (blank ++ newline ∷ []) m h)
 
 -- line i of a list
-pub nth_at : (z : Line) (i : ℕ) (ls : List Line) → i < length ls → nth i ls ≡ some (get_or ls i z)
+pub nth_at : (z : Line) (i : ℕ) (ls : List Line) → i < length ls → nth i ls ≡ Some (get_or ls i z)
 nth_at z i [] h = absurd (omega arith)
 nth_at z zero (l ∷ ls) h = refl
 nth_at z (suc i) (l ∷ ls) h = nth_at z i ls (omega arith)
 
-pub nth_past : (i : ℕ) (ls : List Line) → length ls ≤ i → nth i ls ≡ none
+pub nth_past : (i : ℕ) (ls : List Line) → length ls ≤ i → nth i ls ≡ None
 nth_past i [] h = refl
 nth_past zero (l ∷ ls) h = absurd (omega arith)
 nth_past (suc i) (l ∷ ls) h = nth_past i ls (omega arith)
@@ -81,13 +81,13 @@ line_alone : (l : Line) → fits l ≡ true → spelled_line (line_columns l) �
 unfolding spelled
 line_alone l h = spelled_alone l h
 
-data_told : (bytes : List ℕ) (b : Bucket) (f : ℕ) (ls : List Line) → read_bucket bytes ≡ some b → b.body ≡ data_body f ls → DataRead bytes (length ls)
+data_told : (bytes : List ℕ) (b : Bucket) (f : ℕ) (ls : List Line) → read_bucket bytes ≡ Some b → b.body ≡ data_body f ls → DataRead bytes (length ls)
 data_told bytes b f ls e body =
     let told = print_of_read_bucket bytes e in
     let rules : GoodData b.to_cycle f ls = rw body at (bucket_good b told.1).good_rest in
     let zeros : Line = record { tag = 0; tare = 0; code = 0; weighing = 0 } in
-    let lines : (i : ℕ) → bucket_line i (read_bucket bytes) ≡ bucket_line i (some (record { position = b.position; to_cycle = b.to_cycle; to_segment = b.to_segment; body = data_body f ls })) =
-    λ i. ap (bucket_line i) e ∙ ap (λ x. bucket_line i (some (record { position = b.position; to_cycle = b.to_cycle; to_segment = b.to_segment; body = x }))) body in
+    let lines : (i : ℕ) → bucket_line i (read_bucket bytes) ≡ bucket_line i (Some (record { position = b.position; to_cycle = b.to_cycle; to_segment = b.to_segment; body = data_body f ls })) =
+    λ i. ap (bucket_line i) e ∙ ap (λ x. bucket_line i (Some (record { position = b.position; to_cycle = b.to_cycle; to_segment = b.to_segment; body = x }))) body in
     record {
       long = told.2;
       few = rules.few_lines_lem;
@@ -105,16 +105,16 @@ data_told bytes b f ls e body =
 -- ---- what a reading of each kind tells
 
 pub of_misprinted : (i : ℕ) (o : Option Bucket) → (as_reading o).kind ≡ KindMisprinted → bucket_line i o ≡ Misprinted
-of_misprinted i none e = refl
-of_misprinted i (some b) e = by_body b.body e
+of_misprinted i None e = refl
+of_misprinted i (Some b) e = by_body b.body e
   where
     by_body : (x : Body) → (held_body (head_of b) x).kind ≡ KindMisprinted → or_nothing (nth i (body_lines x)) ≡ Misprinted
     by_body (index_body ps es) e = cc
     by_body (data_body f ls) e = cc
 
 pub of_index : (i : ℕ) (o : Option Bucket) → (as_reading o).kind ≡ KindIndex → bucket_line i o ≡ Nothing
-of_index i none e = cc
-of_index i (some b) e = by_body b.body e
+of_index i None e = cc
+of_index i (Some b) e = by_body b.body e
   where
     by_body : (x : Body) → (held_body (head_of b) x).kind ≡ KindIndex → or_nothing (nth i (body_lines x)) ≡ Nothing
     by_body (index_body ps es) e = refl
@@ -122,11 +122,11 @@ of_index i (some b) e = by_body b.body e
 
 pub of_data :
     (bytes : List ℕ) (o : Option Bucket) → read_bucket bytes ≡ o → (as_reading o).kind ≡ KindData → DataRead bytes (as_reading o).lines
-of_data bytes none is e = absurd (no_data e)
+of_data bytes None is e = absurd (no_data e)
   where
     no_data : KindMisprinted ≡ KindData → ⊥
     no_data k = true≢false (ap misprinted k)
-of_data bytes (some b) is e = by_body b.body refl e
+of_data bytes (Some b) is e = by_body b.body refl e
   where
     by_body : (x : Body) → b.body ≡ x → (held_body (head_of b) x).kind ≡ KindData → DataRead bytes (held_body (head_of b) x).lines
     by_body (index_body ps es) body e = absurd (true≢false (ap index e))

@@ -3,7 +3,7 @@
 use Prim.Native.Nat.{ℕ, ◌<◌, ◌≤◌, ◌-◌, ◌^◌}
 use mathlib.Core.Path.{◌≡◌, refl, sym, ap, ap₂, ◌∙◌}
 use mathlib.Core.Bool.{Bool, true}
-use mathlib.Core.Option.{Option, none, some}
+use Rattle.std.specs.Prelude.{Option, None, Some}
 use mathlib.Core.List.{List, [], ◌∷◌, ◌++◌, map, append_assoc, append-nil}
 use native.Mathlib.Omega.{arith}
 use lib.ListN.{length, take, drop, replicate, length-append}
@@ -26,8 +26,8 @@ use Rattle.buckets.proofs.Good.{GoodIndex, GoodData, GoodBody, entry_fits_lem, p
 
 pub length_print_tag : (t : Option ℕ) → length (print_tag t) ≡ tag_width
 unfolding blanks
-length_print_tag none = refl
-length_print_tag (some t) = refl
+length_print_tag None = refl
+length_print_tag (Some t) = refl
 
 pub length_print_pair : (p : Pair) → length (print_pair p) ≡ entry_width
 unfolding print_pair
@@ -84,13 +84,13 @@ spelled_print_entry n small e h =
     }
 
 spelled_tag : (t : Option ℕ) → pair_tag_fits t ≡ true → (rest : List ℕ)
-    → pick (same (take tag_width (print_tag t ++ rest)) (blanks tag_width)) none (some (value 0 (take tag_width (print_tag t ++ rest)))) ≡ t
+    → pick (same (take tag_width (print_tag t ++ rest)) (blanks tag_width)) None (Some (value 0 (take tag_width (print_tag t ++ rest)))) ≡ t
 unfolding blanks
-spelled_tag none h rest = refl
-spelled_tag (some t) h rest =
+spelled_tag None h rest = refl
+spelled_tag (Some t) h rest =
     let small : t ≤ tag_most = tag_small t h in
-    ap (λ (x : Bool). pick x none (some (value 0 (print tag_width t)))) (print_not_blank (tag_width - 1) t)
-    ∙ ap {B = Option ℕ} some (value_print tag_width t (omega arith))
+    ap (λ (x : Bool). pick x None (Some (value 0 (print tag_width t)))) (print_not_blank (tag_width - 1) t)
+    ∙ ap {B = Option ℕ} Some (value_print tag_width t (omega arith))
 
 spelled_distance : (t : Option ℕ) (d : ℕ) → d < 10 ^ place_width → value 0 (take place_width (drop distance_start (print_tag t ++ print place_width d))) ≡ d
 spelled_distance t d h =
@@ -173,11 +173,11 @@ spelled_print_bucket b h =
           spelled_print_body b.position b.to_cycle b.to_segment b.body (omega arith) g.good_rest i;
     }
 
-pub read_of_print_bucket : (b : Bucket) → good b ≡ true → read_bucket (print_bucket b) ≡ some b
+pub read_of_print_bucket : (b : Bucket) → good b ≡ true → read_bucket (print_bucket b) ≡ Some b
 unfolding read_bucket
 read_of_print_bucket b h = strict_back spelled_bucket good print_bucket b h (spelled_print_bucket b h)
 
-pub print_of_read_bucket : (s : List ℕ) {b : Bucket} → read_bucket s ≡ some b
+pub print_of_read_bucket : (s : List ℕ) {b : Bucket} → read_bucket s ≡ Some b
     → (s ≡ print_bucket b) × (good b ≡ true) × (length s ≡ bucket_length)
 unfolding read_bucket
 print_of_read_bucket s {b} h =

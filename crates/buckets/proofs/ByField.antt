@@ -3,7 +3,7 @@
 use Prim.Native.Nat.{ℕ, ◌+◌, ◌-◌, ◌<◌, ◌≤◌}
 use mathlib.Core.Path.{◌≡◌, refl, sym, ap, ap₂, ◌∙◌}
 use mathlib.Core.Bool.{Bool, true, false, ◌&&◌}
-use mathlib.Core.Option.{Option, none, some}
+use Rattle.std.specs.Prelude.{Option, None, Some}
 use mathlib.Core.List.{List, [], ◌∷◌, ◌++◌, map, append_assoc}
 use native.Mathlib.Omega.{arith}
 use lib.Dec.{eqb}
@@ -31,7 +31,7 @@ use Rattle.buckets.proofs.BodyItems.{pairs_back, entries_back, lines_back, pairs
 
 -- ---- a printed bucket reads
 
-head_back : (b : Bucket) → Good b → read_head (print_bucket b) ≡ some (head_of b)
+head_back : (b : Bucket) → Good b → read_head (print_bucket b) ≡ Some (head_of b)
 unfolding read_head head_of print_bucket print_head columns
 head_back b g =
     rw (
@@ -41,7 +41,7 @@ head_back b g =
     )
 
 index_back : (h : Head) (ps : List Pair) (es : List Entry) → h.to_cycle ≤ buckets_most → GoodIndex h.to_cycle ps es
-    → read_index h (print_bucket (bucket_with h (index_body ps es))) ≡ some (bucket_with h (index_body ps es))
+    → read_index h (print_bucket (bucket_with h (index_body ps es))) ≡ Some (bucket_with h (index_body ps es))
 unfolding read_index bucket_with print_bucket print_head columns
 index_back h ps es small g =
     let n = h.to_cycle in
@@ -59,7 +59,7 @@ index_back h ps es small g =
     )
 
 data_back : (h : Head) (f : ℕ) (ls : List Line) → h.to_cycle ≤ buckets_most → GoodData h.to_cycle f ls
-    → read_data h (print_bucket (bucket_with h (data_body f ls))) ≡ some (bucket_with h (data_body f ls))
+    → read_data h (print_bucket (bucket_with h (data_body f ls))) ≡ Some (bucket_with h (data_body f ls))
 unfolding read_data bucket_with print_bucket print_head columns
 data_back h f ls small g =
     rw (
@@ -83,7 +83,7 @@ unfolding read_by_letter bucket_with print_bucket print_head
 data_letter h f ls e = e
 
 body_back : (h : Head) (x : Body) → h.to_cycle ≤ buckets_most → GoodBody h.to_cycle x
-    → read_by_letter (get_or (print_bucket (bucket_with h x)) letter_column 0) h (print_bucket (bucket_with h x)) ≡ some (bucket_with h x)
+    → read_by_letter (get_or (print_bucket (bucket_with h x)) letter_column 0) h (print_bucket (bucket_with h x)) ≡ Some (bucket_with h x)
 body_back h (index_body ps es) small g = index_letter h ps es (index_back h ps es small g)
 body_back h (data_body f ls) small g = data_letter h f ls (data_back h f ls small g)
 
@@ -95,11 +95,11 @@ newline_back b g =
     rw (← append_assoc (print_head b) (print_body b.body) (newline ∷ []))
     (get_or_at (print_head b ++ print_body b.body) newline [] 0 bucket_end wide)
 
-own_body_back : (b : Bucket) → Good b → read_by_letter (get_or (print_bucket b) letter_column 0) (head_of b) (print_bucket b) ≡ some b
+own_body_back : (b : Bucket) → Good b → read_by_letter (get_or (print_bucket b) letter_column 0) (head_of b) (print_bucket b) ≡ Some b
 unfolding head_of bucket_with
 own_body_back b g = body_back (head_of b) b.body (omega (arith, g.short_cycle)) g.good_rest
 
-fields_back : (b : Bucket) → good b ≡ true → read_fields (print_bucket b) ≡ some b
+fields_back : (b : Bucket) → good b ≡ true → read_fields (print_bucket b) ≡ Some b
 unfolding read_fields
 fields_back b h =
     let g = bucket_good b h in
@@ -116,7 +116,7 @@ record HeadRead (s : List ℕ) (h : Head) : Type 0 where
   onward : 1 ≤ h.to_cycle
   segment_near_lem : Reaches h.to_cycle h.to_segment
 
-head_only : (s : List ℕ) {h : Head} → length s ≡ bucket_length → read_head s ≡ some h → HeadRead s h
+head_only : (s : List ℕ) {h : Head} → length s ≡ bucket_length → read_head s ≡ Some h → HeadRead s h
 unfolding read_head
 head_only s {h} long e =
     let first = then_found (number_within 0 buckets_most (columns position_start place_width s)) _ e in
@@ -140,7 +140,7 @@ head_only s {h} long e =
     })
 
 -- a head that was read is before the next cycle's start
-pub head_onward : (s : List ℕ) {h : Head} → length s ≡ bucket_length → read_head s ≡ some h → 1 ≤ h.to_cycle
+pub head_onward : (s : List ℕ) {h : Head} → length s ≡ bucket_length → read_head s ≡ Some h → 1 ≤ h.to_cycle
 head_onward s long e = (head_only s long e).onward
 
 -- the columns of a bucket, by its fields
@@ -177,7 +177,7 @@ good_with s h x r g =
     (record { short_cycle = r.short; cycle_onward = r.onward; segment_reached = r.segment_near_lem; good_rest = g })
 
 index_only : (h : Head) (s : List ℕ) {b : Bucket} → length s ≡ bucket_length → HeadRead s h → get_or s letter_column 0 ≡ letter_index → get_or s bucket_end 0 ≡ newline
-    → read_index h s ≡ some b → (s ≡ print_bucket b) × (good b ≡ true)
+    → read_index h s ≡ Some b → (s ≡ print_bucket b) × (good b ≡ true)
 unfolding read_index
 index_only h s {b} long r kind ended e =
     let n = h.to_cycle in
@@ -217,7 +217,7 @@ index_only h s {b} long r kind ended e =
     )
 
 data_only : (h : Head) (s : List ℕ) {b : Bucket} → length s ≡ bucket_length → HeadRead s h → get_or s letter_column 0 ≡ letter_data → get_or s bucket_end 0 ≡ newline
-    → read_data h s ≡ some b → (s ≡ print_bucket b) × (good b ≡ true)
+    → read_data h s ≡ Some b → (s ≡ print_bucket b) × (good b ≡ true)
 unfolding read_data
 data_only h s {b} long r kind ended e =
     let first = then_found (number_within 0 (h.to_cycle - 1) (columns follow_on_start place_width s)) _ e in
@@ -251,19 +251,19 @@ data_only h s {b} long r kind ended e =
     )
 
 letter_only : (h : Head) (s : List ℕ) {b : Bucket} → length s ≡ bucket_length → HeadRead s h → get_or s bucket_end 0 ≡ newline
-    → read_by_letter (get_or s letter_column 0) h s ≡ some b → (s ≡ print_bucket b) × (good b ≡ true)
+    → read_by_letter (get_or s letter_column 0) h s ≡ Some b → (s ≡ print_bucket b) × (good b ≡ true)
 unfolding read_by_letter
 letter_only h s {b} long r ended e = by_test (eqb (get_or s letter_column 0) letter_index) refl e
   where
     by_test : (t : Bool) → eqb (get_or s letter_column 0) letter_index ≡ t
-        → pick t (read_index h s) (pick (eqb (get_or s letter_column 0) letter_data) (read_data h s) none) ≡ some b
+        → pick t (read_index h s) (pick (eqb (get_or s letter_column 0) letter_data) (read_data h s) None) ≡ Some b
         → (s ≡ print_bucket b) × (good b ≡ true)
     by_test true q k = index_only h s long r (eqb-true (get_or s letter_column 0) letter_index q) ended k
     by_test false q k =
         let test = pick_found (eqb (get_or s letter_column 0) letter_data) (read_data h s) k in
         data_only h s long r (eqb-true (get_or s letter_column 0) letter_data test.0) ended test.1
 
-fields_only : (s : List ℕ) {b : Bucket} → read_fields s ≡ some b → (s ≡ print_bucket b) × (good b ≡ true)
+fields_only : (s : List ℕ) {b : Bucket} → read_fields s ≡ Some b → (s ≡ print_bucket b) × (good b ≡ true)
 unfolding read_fields
 fields_only s {b} e =
     let test = pick_found (eqb (length s) bucket_length && eqb (get_or s bucket_end 0) newline) _ e in

@@ -3,36 +3,36 @@
 use Prim.Native.Nat.{ℕ}
 use mathlib.Core.Path.{◌≡◌, refl, sym}
 use mathlib.Core.Bool.{Bool, true, false}
-use mathlib.Core.Option.{Option, none, some}
+use Rattle.std.specs.Prelude.{Option, None, Some}
 use mathlib.Core.List.{List}
 use native.Mathlib.Omega.{arith}
 use Rattle.columns.specs.Lists.{pick}
 use Rattle.buckets.specs.Inner.Columns.{and_then}
 
-pub none_not_some : {A : Type 0} {a : A} → ◌≡◌ {A = Option A} none (some a) → ⊥
+pub none_not_some : {A : Type 0} {a : A} → ◌≡◌ {A = Option A} None (Some a) → ⊥
 none_not_some h = let z : ◌≡◌ {A = ℕ} 0 1 = cc in omega arith
 
 -- both readings of a chain found something
-pub then_found : {A B : Type 0} (o : Option A) (k : A → Option B) {b : B} → and_then o k ≡ some b
-    → (a : A) × (o ≡ some a) × (k a ≡ some b)
-then_found none k h = absurd (none_not_some h)
-then_found (some a) k h = (a, refl, h)
+pub then_found : {A B : Type 0} (o : Option A) (k : A → Option B) {b : B} → and_then o k ≡ Some b
+    → (a : A) × (o ≡ Some a) × (k a ≡ Some b)
+then_found None k h = absurd (none_not_some h)
+then_found (Some a) k h = (a, refl, h)
 
 -- a reading under a test found something
-pub pick_found : {B : Type 0} (t : Bool) (o : Option B) {b : B} → pick t o none ≡ some b → (t ≡ true) × (o ≡ some b)
+pub pick_found : {B : Type 0} (t : Bool) (o : Option B) {b : B} → pick t o None ≡ Some b → (t ≡ true) × (o ≡ Some b)
 pick_found true o h = (refl, h)
 pick_found false o h = absurd (none_not_some h)
 
 -- two readings that find the same are one
-pub same_found : {A : Type 0} (o p : Option A) → ((a : A) → o ≡ some a → p ≡ some a) → ((a : A) → p ≡ some a → o ≡ some a) → o ≡ p
-same_found none none f g = refl
-same_found none (some a) f g = g a refl
-same_found (some a) p f g = sym (f a refl)
+pub same_found : {A : Type 0} (o p : Option A) → ((a : A) → o ≡ Some a → p ≡ Some a) → ((a : A) → p ≡ Some a → o ≡ Some a) → o ≡ p
+same_found None None f g = refl
+same_found None (Some a) f g = g a refl
+same_found (Some a) p f g = sym (f a refl)
 
 -- two readings are one that undo the same printing of what keeps the same rule, and find only what is printed so
 pub same_reading : {A : Type 0} (show : A → List ℕ) (ok : A → Bool) (o p : List ℕ → Option A)
-    → ((a : A) → ok a ≡ true → o (show a) ≡ some a) → ((s : List ℕ) (a : A) → o s ≡ some a → (s ≡ show a) × (ok a ≡ true))
-    → ((a : A) → ok a ≡ true → p (show a) ≡ some a) → ((s : List ℕ) (a : A) → p s ≡ some a → (s ≡ show a) × (ok a ≡ true))
+    → ((a : A) → ok a ≡ true → o (show a) ≡ Some a) → ((s : List ℕ) (a : A) → o s ≡ Some a → (s ≡ show a) × (ok a ≡ true))
+    → ((a : A) → ok a ≡ true → p (show a) ≡ Some a) → ((s : List ℕ) (a : A) → p s ≡ Some a → (s ≡ show a) × (ok a ≡ true))
     → (s : List ℕ) → o s ≡ p s
 same_reading show ok o p o_back o_only p_back p_only s =
     same_found (o s) (p s) (λ a e. let told = o_only s a e in rw told.0 (p_back a told.1))

@@ -3,7 +3,7 @@
 use Prim.Native.Nat.{ℕ, suc, ◌≤◌, ◌-◌}
 use mathlib.Core.Path.{◌≡◌, refl, ap, ap₂, ◌∙◌}
 use mathlib.Core.Bool.{Bool, true, false, ◌&&◌, ◌||◌}
-use mathlib.Core.Option.{Option, none, some}
+use Rattle.std.specs.Prelude.{Option, None, Some}
 use mathlib.Core.List.{List, [], ◌∷◌, ◌++◌}
 use native.Mathlib.Omega.{arith}
 use lib.Dec.{leb, eqb}
@@ -27,7 +27,7 @@ use Rattle.buckets.proofs.Items.{keeps, and_regroup}
 abbrev pub entry_from : ℕ → ℕ → Entry → Bool
 entry_from n m e = entry_fits n e && leb m e.tag
 
-pub entry_back : (n m : ℕ) (e : Entry) → n ≤ buckets_most → entry_from n m e ≡ true → read_entry n m (print_entry e) ≡ some e
+pub entry_back : (n m : ℕ) (e : Entry) → n ≤ buckets_most → entry_from n m e ≡ true → read_entry n m (print_entry e) ≡ Some e
 unfolding read_entry print_entry columns
 entry_back n m e small h =
     let told = both (entry_fits n e) (leb m e.tag) h in
@@ -44,7 +44,7 @@ entry_shown : (s : List ℕ) (e : Entry) → length s ≡ entry_width → column
 unfolding print_entry
 entry_shown s e long tag far = columns_all entry_width s long ∙ columns_split tag_start tag_width place_width s ∙ ap₂ {C = List ℕ} ◌++◌ tag far
 
-pub entry_only : (n m : ℕ) (s : List ℕ) {e : Entry} → length s ≡ entry_width → read_entry n m s ≡ some e
+pub entry_only : (n m : ℕ) (s : List ℕ) {e : Entry} → length s ≡ entry_width → read_entry n m s ≡ Some e
     → (s ≡ print_entry e) × (entry_from n m e ≡ true)
 unfolding read_entry
 entry_only n m s {e} long h =
@@ -69,12 +69,12 @@ abbrev pub pair_at : ℕ → ℕ → Pair → Bool
 pair_at n i p = pair_fits n p && (eqb i 0 || printed_tag p.tag)
 
 blank_pair_back : (n i d : ℕ) → n ≤ buckets_most → eqb i 0 ≡ true → Reaches n d
-    → read_pair n i (print_tag none ++ print place_width d) ≡ some (record { tag = none; distance = d })
+    → read_pair n i (print_tag None ++ print place_width d) ≡ Some (record { tag = None; distance = d })
 unfolding read_pair read_blank_pair blanks columns all_blank
 blank_pair_back n i d small h r = rw (h, within_back 1 n place_width d (omega arith) (omega arith) (omega arith))
 
 printed_pair_back : (n i t d : ℕ) → n ≤ buckets_most → tag_fits t ≡ true → Reaches n d
-    → read_pair n i (print tag_width t ++ print place_width d) ≡ some (record { tag = some t; distance = d })
+    → read_pair n i (print tag_width t ++ print place_width d) ≡ Some (record { tag = Some t; distance = d })
 unfolding read_pair read_printed_pair print_entry columns
 printed_pair_back n i t d small h r =
     let e : Entry = record { tag = t; distance = d } in
@@ -90,7 +90,7 @@ or_true : (t : Bool) → t || true ≡ true
 or_true true = refl
 or_true false = refl
 
-pub pair_back : (n i : ℕ) (p : Pair) → n ≤ buckets_most → pair_at n i p ≡ true → read_pair n i (print_pair p) ≡ some p
+pub pair_back : (n i : ℕ) (p : Pair) → n ≤ buckets_most → pair_at n i p ≡ true → read_pair n i (print_pair p) ≡ Some p
 unfolding print_pair
 pair_back n i p small h =
     let told = both (pair_fits n p) (eqb i 0 || printed_tag p.tag) h in
@@ -98,21 +98,21 @@ pair_back n i p small h =
     by_tag p.tag p.distance facts.0 facts.1 told.1
   where
     by_tag : (t : Option ℕ) (d : ℕ) → pair_tag_fits t ≡ true → Reaches n d → eqb i 0 || printed_tag t ≡ true
-        → read_pair n i (print_tag t ++ print place_width d) ≡ some (record { tag = t; distance = d })
-    by_tag none d f r first = blank_pair_back n i d small (or_false (eqb i 0) first) r
-    by_tag (some t) d f r first = printed_pair_back n i t d small f r
+        → read_pair n i (print_tag t ++ print place_width d) ≡ Some (record { tag = t; distance = d })
+    by_tag None d f r first = blank_pair_back n i d small (or_false (eqb i 0) first) r
+    by_tag (Some t) d f r first = printed_pair_back n i t d small f r
 
 blank_shown : (s : List ℕ) (d : ℕ) → length s ≡ entry_width → columns tag_start tag_width s ≡ replicate tag_width 32 → columns distance_start place_width s ≡ print place_width d
-    → s ≡ print_pair (record { tag = none; distance = d })
+    → s ≡ print_pair (record { tag = None; distance = d })
 unfolding print_pair blanks
 blank_shown s d long tag far = columns_all entry_width s long ∙ columns_split tag_start tag_width place_width s ∙ ap₂ {C = List ℕ} ◌++◌ tag far
 
 blank_pair_only : (n i : ℕ) (s : List ℕ) {p : Pair} → length s ≡ entry_width → eqb i 0 ≡ true → all_blank (columns tag_start tag_width s) ≡ true
-    → read_blank_pair n s ≡ some p → (s ≡ print_pair p) × (pair_at n i p ≡ true)
+    → read_blank_pair n s ≡ Some p → (s ≡ print_pair p) × (pair_at n i p ≡ true)
 unfolding read_blank_pair
 blank_pair_only n i s {p} long first blank h =
     let found = then_found (number_within 1 n (columns distance_start place_width s)) _ h in
-    let pair : Pair = record { tag = none; distance = found.0 } in
+    let pair : Pair = record { tag = None; distance = found.0 } in
     let is : pair ≡ p = cc in
     let far = field_only 1 n distance_start place_width s (omega arith) found.1 in
     let tag : columns tag_start tag_width s ≡ replicate tag_width 32 =
@@ -128,7 +128,7 @@ unfolding print_entry print_pair
 printed_shown e = refl
 
 printed_pair_only : (n i : ℕ) (s : List ℕ) {p : Pair} → length s ≡ entry_width
-    → read_printed_pair n s ≡ some p → (s ≡ print_pair p) × (pair_at n i p ≡ true)
+    → read_printed_pair n s ≡ Some p → (s ≡ print_pair p) × (pair_at n i p ≡ true)
 unfolding read_printed_pair
 printed_pair_only n i s {p} long h =
     let found = then_found (read_entry n 0 s) _ h in
@@ -139,13 +139,13 @@ printed_pair_only n i s {p} long h =
     rw (← is)
     (told.0 ∙ printed_shown e, rw (fits_pair n (printed_pair e) facts.0 facts.1) (or_true (eqb i 0)))
 
-pub pair_only : (n i : ℕ) (s : List ℕ) {p : Pair} → length s ≡ entry_width → read_pair n i s ≡ some p
+pub pair_only : (n i : ℕ) (s : List ℕ) {p : Pair} → length s ≡ entry_width → read_pair n i s ≡ Some p
     → (s ≡ print_pair p) × (pair_at n i p ≡ true)
 unfolding read_pair
 pair_only n i s {p} long h = by_test (eqb i 0 && all_blank (columns tag_start tag_width s)) refl h
   where
     by_test : (t : Bool) → eqb i 0 && all_blank (columns tag_start tag_width s) ≡ t
-        → pick t (read_blank_pair n s) (read_printed_pair n s) ≡ some p
+        → pick t (read_blank_pair n s) (read_printed_pair n s) ≡ Some p
         → (s ≡ print_pair p) × (pair_at n i p ≡ true)
     by_test true e k =
         let two = both (eqb i 0) (all_blank (columns tag_start tag_width s)) e in

@@ -3,7 +3,7 @@
 use Prim.Native.Nat.{ℕ, ◌+◌, ◌≤◌}
 use mathlib.Core.Path.{◌≡◌, refl, ap, ap₂, ◌∙◌}
 use mathlib.Core.Bool.{Bool, true}
-use mathlib.Core.Option.{Option, none, some}
+use Rattle.std.specs.Prelude.{Option, None, Some}
 use mathlib.Core.List.{List, [], ◌∷◌, ◌++◌, map, map-id}
 use native.Mathlib.Numerals.{add-one}
 use native.Mathlib.Omega.{arith}
@@ -35,16 +35,16 @@ entries_of_lem f g (x ∷ xs) a b =
 -- pairs from two arrays, the first by itself
 pub pairs_filled : (blank : Bool) (w n y d : ℕ) (f g : ℕ → ℕ) (xs : List ℕ) → n ≡ length xs + 1 →
     pairs_of blank (take n (entries_of (filled w (y ∷ map f xs)) (filled w (d ∷ map g xs))))
-    ≡ record { tag = pick blank none (some y); distance = d } ∷ map (λ x. record { tag = some (f x); distance = g x }) xs
+    ≡ record { tag = pick blank None (Some y); distance = d } ∷ map (λ x. record { tag = Some (f x); distance = g x }) xs
 unfolding filled
 pairs_filled blank w n y d f g xs is =
     rw (is, add-one (length xs))
-    (ap (λ es. record { tag = pick blank none (some y); distance = d } ∷ map printed_pair es) (entries_of_lem f g xs _ _)
-    ∙ ap (λ ps. record { tag = pick blank none (some y); distance = d } ∷ ps) (printed_row xs))
+    (ap (λ es. record { tag = pick blank None (Some y); distance = d } ∷ map printed_pair es) (entries_of_lem f g xs _ _)
+    ∙ ap (λ ps. record { tag = pick blank None (Some y); distance = d } ∷ ps) (printed_row xs))
   where
-    printed_row : (zs : List ℕ) → map printed_pair (map (λ x. record { tag = f x; distance = g x }) zs) ≡ map (λ x. record { tag = some (f x); distance = g x }) zs
+    printed_row : (zs : List ℕ) → map printed_pair (map (λ x. record { tag = f x; distance = g x }) zs) ≡ map (λ x. record { tag = Some (f x); distance = g x }) zs
     printed_row [] = refl
-    printed_row (z ∷ zs) = ap (λ (ps : List Pair). record { tag = some (f z); distance = g z } ∷ ps) (printed_row zs)
+    printed_row (z ∷ zs) = ap (λ (ps : List Pair). record { tag = Some (f z); distance = g z } ∷ ps) (printed_row zs)
 
 -- a pair's numbers, 0 for a blank tag
 abbrev pub in_numbers : Pair → Entry
@@ -52,8 +52,8 @@ in_numbers p = record { tag = tag_or0 p.tag; distance = p.distance }
 
 printed_again : (t : Option ℕ) (d : ℕ) → printed_tag t ≡ true
     → printed_pair (in_numbers (record { tag = t; distance = d })) ≡ record { tag = t; distance = d }
-printed_again none d h = absurd (let z : ◌≡◌ {A = ℕ} 0 1 = cc in omega arith)
-printed_again (some t) d h = refl
+printed_again None d h = absurd (let z : ◌≡◌ {A = ℕ} 0 1 = cc in omega arith)
+printed_again (Some t) d h = refl
 
 all_printed_again : (ps : List Pair) → every (λ q. printed_tag q.tag) ps ≡ true → map printed_pair (map in_numbers ps) ≡ ps
 all_printed_again [] h = refl
@@ -62,9 +62,9 @@ all_printed_again (p ∷ ps) h =
     ap₂ {C = List Pair} ◌∷◌ (printed_again p.tag p.distance told.0) (all_printed_again ps told.1)
 
 first_again : (t : Option ℕ) (d : ℕ) (ps : List Pair)
-    → pick (first_blank (record { tag = t; distance = d } ∷ ps)) none (some (tag_or0 t)) ≡ t
-first_again none d ps = refl
-first_again (some t) d ps = refl
+    → pick (first_blank (record { tag = t; distance = d } ∷ ps)) None (Some (tag_or0 t)) ≡ t
+first_again None d ps = refl
+first_again (Some t) d ps = refl
 
 pairs_again : (ps : List Pair) → later_printed ps ≡ true → pairs_of (first_blank ps) (map in_numbers ps) ≡ ps
 pairs_again [] h = refl

@@ -3,7 +3,7 @@
 use Prim.Native.Nat.{ℕ, zero, suc, ◌+◌, ◌-◌, ◌*◌, ◌≤◌}
 use mathlib.Core.Path.{◌≡◌, refl, sym, ap, ap₂, ◌∙◌}
 use mathlib.Core.Bool.{Bool, true, false, ◌&&◌}
-use mathlib.Core.Option.{Option, some}
+use Rattle.std.specs.Prelude.{Option, Some}
 use mathlib.Core.List.{List, [], ◌∷◌, ◌++◌, map, append_assoc}
 use native.Mathlib.Omega.{arith}
 use native.Mathlib.Nat.{zero-mul, suc-mul}
@@ -38,16 +38,16 @@ keeps_rising p key m (x ∷ xs) =
 
 -- as many items are read as are asked for
 module _ {A : Type 0} (read : ℕ → List ℕ → Option A) (next : ℕ → A → ℕ) (w : ℕ) where
-  run_count : (m c : ℕ) (s : List ℕ) (xs : List A) → read_run read next w m c s ≡ some xs → length xs ≡ c
+  run_count : (m c : ℕ) (s : List ℕ) (xs : List A) → read_run read next w m c s ≡ Some xs → length xs ≡ c
   run_count m zero s xs h = let is : xs ≡ [] = cc in rw is
   run_count m (suc c) s xs h =
-      let first = then_found (read m (take w s)) (λ a. and_then (read_run read next w (next m a) c (drop w s)) (λ ys. some (a ∷ ys))) h in
+      let first = then_found (read m (take w s)) (λ a. and_then (read_run read next w (next m a) c (drop w s)) (λ ys. Some (a ∷ ys))) h in
       let a = first.0 in
-      let rest = then_found (read_run read next w (next m a) c (drop w s)) (λ ys. some (a ∷ ys)) first.2 in
+      let rest = then_found (read_run read next w (next m a) c (drop w s)) (λ ys. Some (a ∷ ys)) first.2 in
       let is : xs ≡ a ∷ rest.0 = cc in
       rw is (ap suc (run_count (next m a) c (drop w s) rest.0 rest.1))
 
-  pub items_count : (c : ℕ) (s : List ℕ) (xs : List A) → read_items read next w c s ≡ some xs → length xs ≡ c
+  pub items_count : (c : ℕ) (s : List ℕ) (xs : List A) → read_items read next w c s ≡ Some xs → length xs ≡ c
   unfolding read_items
   items_count c s xs h = run_count 0 c s xs (pick_found (all_blank (drop (c * w) s)) (read_run read next w 0 c s) h).1
 
@@ -59,9 +59,9 @@ record Run {A : Type 0} (ok : ℕ → A → Bool) (next : ℕ → A → ℕ) (sh
 
 module _ {A : Type 0} (read : ℕ → List ℕ → Option A) (next : ℕ → A → ℕ) (ok : ℕ → A → Bool) (show : A → List ℕ) (w : ℕ)
     (wide : (a : A) → length (show a) ≡ w) where
-  run_back : ((m : ℕ) (a : A) → ok m a ≡ true → read m (show a) ≡ some a)
+  run_back : ((m : ℕ) (a : A) → ok m a ≡ true → read m (show a) ≡ Some a)
       → (m : ℕ) (xs : List A) (rest : List ℕ) → keeps ok next m xs ≡ true
-      → read_run read next w m (length xs) (joined show xs ++ rest) ≡ some xs
+      → read_run read next w m (length xs) (joined show xs ++ rest) ≡ Some xs
   run_back back m [] rest h = refl
   run_back back m (x ∷ xs) rest h =
       let told = both (ok m x) (keeps ok next (next m x) xs) h in
@@ -75,17 +75,17 @@ module _ {A : Type 0} (read : ℕ → List ℕ → Option A) (next : ℕ → A �
         run_back back (next m x) xs rest told.1,
       )
 
-  run_only : ((m : ℕ) (s : List ℕ) (a : A) → length s ≡ w → read m s ≡ some a → (s ≡ show a) × (ok m a ≡ true))
-      → (m c : ℕ) (s : List ℕ) (xs : List A) → c * w ≤ length s → read_run read next w m c s ≡ some xs
+  run_only : ((m : ℕ) (s : List ℕ) (a : A) → length s ≡ w → read m s ≡ Some a → (s ≡ show a) × (ok m a ≡ true))
+      → (m c : ℕ) (s : List ℕ) (xs : List A) → c * w ≤ length s → read_run read next w m c s ≡ Some xs
       → Run ok next show m c (take (c * w) s) xs
   run_only only m zero s xs room h =
       let is : xs ≡ [] = cc in
       rw (is, zero-mul) (record { count = refl; kept = refl; shown = refl })
   run_only only m (suc c) s xs room h =
       let on : suc c * w ≡ w + c * w = rw suc-mul (omega arith) in
-      let first = then_found (read m (take w s)) (λ a. and_then (read_run read next w (next m a) c (drop w s)) (λ ys. some (a ∷ ys))) h in
+      let first = then_found (read m (take w s)) (λ a. and_then (read_run read next w (next m a) c (drop w s)) (λ ys. Some (a ∷ ys))) h in
       let a = first.0 in
-      let rest = then_found (read_run read next w (next m a) c (drop w s)) (λ ys. some (a ∷ ys)) first.2 in
+      let rest = then_found (read_run read next w (next m a) c (drop w s)) (λ ys. Some (a ∷ ys)) first.2 in
       let ys = rest.0 in
       let is : xs ≡ a ∷ ys = cc in
       let front : length (take w s) ≡ w = rw length-take (omega arith) in
@@ -100,9 +100,9 @@ module _ {A : Type 0} (read : ℕ → List ℕ → Option A) (next : ℕ → A �
       })
 
   -- items printed at the front of k columns, the others blank
-  pub items_back : ((m : ℕ) (a : A) → ok m a ≡ true → read m (show a) ≡ some a)
+  pub items_back : ((m : ℕ) (a : A) → ok m a ≡ true → read m (show a) ≡ Some a)
       → (k : ℕ) (xs : List A) → keeps ok next 0 xs ≡ true
-      → read_items read next w (length xs) (padded k (joined show xs)) ≡ some xs
+      → read_items read next w (length xs) (padded k (joined show xs)) ≡ Some xs
   unfolding read_items padded
   items_back back k xs h =
       let pad : List ℕ = replicate (k - length (joined show xs)) 32 in
@@ -112,8 +112,8 @@ module _ {A : Type 0} (read : ℕ → List ℕ → Option A) (next : ℕ → A �
       )
       (run_back back 0 xs pad h)
 
-  pub items_only : ((m : ℕ) (s : List ℕ) (a : A) → length s ≡ w → read m s ≡ some a → (s ≡ show a) × (ok m a ≡ true))
-      → (k c : ℕ) (s : List ℕ) (xs : List A) → length s ≡ k → c * w ≤ k → read_items read next w c s ≡ some xs
+  pub items_only : ((m : ℕ) (s : List ℕ) (a : A) → length s ≡ w → read m s ≡ Some a → (s ≡ show a) × (ok m a ≡ true))
+      → (k c : ℕ) (s : List ℕ) (xs : List A) → length s ≡ k → c * w ≤ k → read_items read next w c s ≡ Some xs
       → (length xs ≡ c) × (keeps ok next 0 xs ≡ true) × (s ≡ padded k (joined show xs))
   unfolding read_items padded
   items_only only k c s xs long room h =

@@ -6,7 +6,7 @@
 use Prim.Native.Nat.{ℕ, suc, ◌+◌, ◌-◌, ◌*◌, ◌^◌, ◌≤◌, ◌<◌}
 use mathlib.Core.Path.{◌≡◌, refl, sym, ap, ap₂, ◌∙◌}
 use mathlib.Core.Bool.{Bool, true, false, ◌&&◌, not, true≢false}
-use mathlib.Core.Option.{Option, none, some}
+use Rattle.std.specs.Prelude.{Option, None, Some}
 use mathlib.Core.List.{List, [], ◌∷◌, ◌++◌}
 use native.Mathlib.Omega.{arith}
 use lib.ListN.{length, take, drop, get_or, length-drop, drop_of_length-le}
@@ -37,7 +37,7 @@ pub taken_lenient : (s : List ℕ) → taken (read_lenient s) ≡ blanks_digits 
 unfolding read_lenient
 taken_lenient s = go (blanks_digits s)
   where
-    go : (t : Bool) → taken (pick t (some (value 0 s)) none) ≡ t
+    go : (t : Bool) → taken (pick t (Some (value 0 s)) None) ≡ t
     go true = refl
     go false = refl
 
@@ -85,17 +85,17 @@ line_reads s h =
       in_range = told.1;
     }
   where
-    go : (t : Bool) → taken (pick t (some (spelled s)) none) ≡ true → t ≡ true
+    go : (t : Bool) → taken (pick t (Some (spelled s)) None) ≡ true → t ≡ true
     go true k = refl
     go false k = k
 
-pub reads_line : (s : List ℕ) → LineReads s → read_line s ≡ some (spelled s)
+pub reads_line : (s : List ℕ) → LineReads s → read_line s ≡ Some (spelled s)
 unfolding read_line
 reads_line s r =
     rw (has_four s, r.tag_number, r.tare_number, r.code_number, r.weighing_number, r.ends, r.in_range)
 
 -- a line's print reads, as that line
-pub read_of_print_line : (l : Line) → fits l ≡ true → read_line (print_line l) ≡ some l
+pub read_of_print_line : (l : Line) → fits l ≡ true → read_line (print_line l) ≡ Some l
 unfolding print_line line_columns
 read_of_print_line l h =
     let f = line_fits l h in
@@ -108,12 +108,12 @@ read_of_print_line l h =
       ends = refl;
       in_range = ap fits (spelled_print_line l h) ∙ h;
     })
-    ∙ ap some (spelled_print_line l h)
+    ∙ ap Some (spelled_print_line l h)
 
-pub line_tag_small : (s : List ℕ) (l : Line) → read_line s ≡ some l → l.tag ≤ tag_most
+pub line_tag_small : (s : List ℕ) (l : Line) → read_line s ≡ Some l → l.tag ≤ tag_most
 line_tag_small s l h =
     let r = line_reads s (ap taken h) in
-    let is : some (spelled s) ≡ some l = sym (reads_line s r) ∙ h in
+    let is : Some (spelled s) ≡ Some l = sym (reads_line s r) ∙ h in
     let same_line : spelled s ≡ l = cc in
     rw same_line at (line_fits (spelled s) r.in_range).small_tag
 
@@ -145,8 +145,8 @@ module _ (s : List ℕ) where
   not_read n = go (read_line s) refl
     where
       go : (o : Option Line) → read_line s ≡ o → 18446744073709551615 ≡ tag_or_misprint o
-      go none e = refl
-      go (some l) e = absurd (n (line_reads s (ap taken e)))
+      go None e = refl
+      go (Some l) e = absurd (n (line_reads s (ap taken e)))
 
   pub reads_length : LineReads s → length s ≡ line_length
   reads_length r = let e : length s - line_columns_width ≡ 1 = sym (length-drop line_columns_width s) ∙ ap length r.ends in omega (arith, e)

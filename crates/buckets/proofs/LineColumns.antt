@@ -3,7 +3,7 @@
 use Prim.Native.Nat.{ℕ, ◌≤◌, ◌+◌}
 use mathlib.Core.Path.{◌≡◌, refl, sym, ap, ap₂, ◌∙◌}
 use mathlib.Core.Bool.{Bool, true, ◌&&◌}
-use mathlib.Core.Option.{Option, none, some}
+use Rattle.std.specs.Prelude.{Option, None, Some}
 use mathlib.Core.List.{List, [], ◌∷◌, ◌++◌, append-nil}
 use native.Mathlib.Omega.{arith}
 use lib.Dec.{leb, eqb}
@@ -29,7 +29,7 @@ use Rattle.buckets.proofs.Within.{within_back, columns_split, columns_all, colum
 abbrev pub fits_from : ℕ → Line → Bool
 fits_from m l = fits l && leb m l.tag
 
-pub line_columns_back : (m : ℕ) (l : Line) (rest : List ℕ) → fits_from m l ≡ true → read_line_columns m (line_columns l ++ rest) ≡ some l
+pub line_columns_back : (m : ℕ) (l : Line) (rest : List ℕ) → fits_from m l ≡ true → read_line_columns m (line_columns l ++ rest) ≡ Some l
 unfolding read_line_columns line_columns columns
 line_columns_back m l rest h =
     let told = both (fits l) (leb m l.tag) h in
@@ -65,7 +65,7 @@ fields_shown s l tag tare code weighing =
     (columns_split tare_start tare_width (code_width + weighing_width) s
     ∙ ap₂ {C = List ℕ} ◌++◌ tare (columns_split code_start code_width weighing_width s ∙ ap₂ {C = List ℕ} ◌++◌ code weighing))
 
-pub line_columns_only : (m : ℕ) (s : List ℕ) {l : Line} → line_columns_width ≤ length s → read_line_columns m s ≡ some l
+pub line_columns_only : (m : ℕ) (s : List ℕ) {l : Line} → line_columns_width ≤ length s → read_line_columns m s ≡ Some l
     → (columns tag_start line_columns_width s ≡ line_columns l) × (fits_from m l ≡ true)
 unfolding read_line_columns
 line_columns_only m s {l} long h =
@@ -87,10 +87,10 @@ line_columns_only m s {l} long h =
     )
 
 -- the same of a line's columns alone
-pub line_columns_alone_back : (m : ℕ) (l : Line) → fits_from m l ≡ true → read_line_columns m (line_columns l) ≡ some l
+pub line_columns_alone_back : (m : ℕ) (l : Line) → fits_from m l ≡ true → read_line_columns m (line_columns l) ≡ Some l
 line_columns_alone_back m l h = rw append-nil at (line_columns_back m l [] h)
 
-pub line_columns_alone_only : (m : ℕ) (s : List ℕ) {l : Line} → length s ≡ line_columns_width → read_line_columns m s ≡ some l
+pub line_columns_alone_only : (m : ℕ) (s : List ℕ) {l : Line} → length s ≡ line_columns_width → read_line_columns m s ≡ Some l
     → (s ≡ line_columns l) × (fits_from m l ≡ true)
 line_columns_alone_only m s long h =
     let told = line_columns_only m s (omega arith) h in
@@ -98,9 +98,9 @@ line_columns_alone_only m s long h =
 
 -- a line with its newline, read field by field
 unfoldable pub read_line_fields : List ℕ → Option Line
-read_line_fields s = pick (eqb (length s) line_length && eqb (get_or s line_columns_width 0) newline) (read_line_columns 0 s) none
+read_line_fields s = pick (eqb (length s) line_length && eqb (get_or s line_columns_width 0) newline) (read_line_columns 0 s) None
 
-line_back : (l : Line) → fits l ≡ true → read_line_fields (print_line l) ≡ some l
+line_back : (l : Line) → fits l ≡ true → read_line_fields (print_line l) ≡ Some l
 unfolding read_line_fields print_line
 line_back l h =
     let any : fits_from 0 l ≡ true = rw (h, le-leb 0 l.tag (omega arith)) in
@@ -108,7 +108,7 @@ line_back l h =
     let last : get_or (line_columns l ++ newline ∷ []) line_columns_width 0 ≡ newline = get_or_at (line_columns l) newline [] 0 line_columns_width (length_line_columns l) in
     rw (long, last) (line_columns_back 0 l (newline ∷ []) any)
 
-line_only : (s : List ℕ) {l : Line} → read_line_fields s ≡ some l → (s ≡ print_line l) × (fits l ≡ true)
+line_only : (s : List ℕ) {l : Line} → read_line_fields s ≡ Some l → (s ≡ print_line l) × (fits l ≡ true)
 unfolding read_line_fields print_line
 line_only s {l} h =
     let test = pick_found (eqb (length s) line_length && eqb (get_or s line_columns_width 0) newline) (read_line_columns 0 s) h in
@@ -133,7 +133,7 @@ by_fields answer s is = is ∙ ap answer (sym (read_line_fields_lem s))
 
 -- ---- the tag of a line that was read
 
-pub line_columns_tag_small : (m : ℕ) (s : List ℕ) (l : Line) → read_line_columns m s ≡ some l → l.tag ≤ tag_most
+pub line_columns_tag_small : (m : ℕ) (s : List ℕ) (l : Line) → read_line_columns m s ≡ Some l → l.tag ≤ tag_most
 unfolding read_line_columns
 line_columns_tag_small m s l h =
     let first = then_found (number_within m tag_most (columns tag_start tag_width s)) _ h in

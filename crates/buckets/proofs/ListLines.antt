@@ -4,7 +4,7 @@
 use Prim.Native.Nat.{ℕ, ◌≤◌}
 use mathlib.Core.Path.{◌≡◌, refl, ap, ◌∙◌}
 use mathlib.Core.Bool.{true, ◌&&◌}
-use mathlib.Core.Option.{Option, none, some}
+use Rattle.std.specs.Prelude.{Option, None, Some}
 use mathlib.Core.List.{List, [], ◌∷◌, ◌++◌, append-nil}
 use native.Mathlib.Omega.{arith}
 use lib.Dec.{leb}
@@ -83,11 +83,11 @@ spelled_print_line l h = spelled_line_columns l (newline ∷ []) h
 
 -- ---- without leading zeros
 
-pub read_of_print_plain : (l : Line) → fits l ≡ true → read_plain (print_line l) ≡ some l
+pub read_of_print_plain : (l : Line) → fits l ≡ true → read_plain (print_line l) ≡ Some l
 unfolding read_plain
 read_of_print_plain l h = strict_back spelled fits print_line l h (spelled_print_line l h)
 
-pub print_of_read_plain : (s : List ℕ) {l : Line} → read_plain s ≡ some l → (s ≡ print_line l) × (fits l ≡ true) × (l ≡ spelled s)
+pub print_of_read_plain : (s : List ℕ) {l : Line} → read_plain s ≡ Some l → (s ≡ print_line l) × (fits l ≡ true) × (l ≡ spelled s)
 unfolding read_plain
 print_of_read_plain s h = strict_only spelled fits print_line s h
 
@@ -96,7 +96,7 @@ pub plain_spelled : (s : List ℕ) → taken (read_plain s) ≡ true → (s ≡ 
 plain_spelled s h = go (read_plain s) refl h
   where
     go : (o : Option Line) → read_plain s ≡ o → taken o ≡ true → (s ≡ print_line (spelled s)) × (fits (spelled s) ≡ true)
-    go none e k = absurd (let z : ◌≡◌ {A = ℕ} 0 1 = cc in omega arith)
-    go (some l) e k =
+    go None e k = absurd (let z : ◌≡◌ {A = ℕ} 0 1 = cc in omega arith)
+    go (Some l) e k =
         let told = print_of_read_plain s e in
         (told.0 ∙ ap print_line told.2, rw told.2 at told.1)

@@ -3,7 +3,7 @@
 use Prim.Native.Nat.{ℕ, zero, suc, ◌+◌, ◌*◌, ◌/◌, ◌%◌, ◌≤◌, ◌<◌}
 use mathlib.Core.Path.{◌≡◌, refl, sym, ap, ap₂, ◌∙◌}
 use mathlib.Core.Bool.{Bool, true, false, ◌&&◌}
-use mathlib.Core.Option.{none, some}
+use Rattle.std.specs.Prelude.{None, Some}
 use mathlib.Core.List.{List, [], ◌∷◌, ◌++◌, map, append-nil}
 use native.Mathlib.Omega.{arith}
 use native.Mathlib.Nat.{zero-add, suc-add, zero-mul, suc-mul, mul-div_cancel, mul-mod_left}
@@ -64,16 +64,16 @@ lines_of_printed ls h =
 -- ---- lines that read
 
 -- 3 of "Refused inputs" does not hold exactly if every line reads
-pub none_misprinted : (i : ℕ) (ss : List (List ℕ)) → misprint_from i ss ≡ none → every (λ s. taken (read_line s)) ss ≡ true
+pub none_misprinted : (i : ℕ) (ss : List (List ℕ)) → misprint_from i ss ≡ None → every (λ s. taken (read_line s)) ss ≡ true
 none_misprinted i [] h = refl
 none_misprinted i (s ∷ ss) h = go (taken (read_line s)) (none_misprinted (suc i) ss) h
   where
-    go : (t : Bool) → (misprint_from (suc i) ss ≡ none → every (λ r. taken (read_line r)) ss ≡ true)
-        → pick t (misprint_from (suc i) ss) (some i) ≡ none → t && every (λ r. taken (read_line r)) ss ≡ true
+    go : (t : Bool) → (misprint_from (suc i) ss ≡ None → every (λ r. taken (read_line r)) ss ≡ true)
+        → pick t (misprint_from (suc i) ss) (Some i) ≡ None → t && every (λ r. taken (read_line r)) ss ≡ true
     go true rest k = rest k
     go false rest k = cc
 
-pub all_read : (i : ℕ) (ss : List (List ℕ)) → every (λ s. taken (read_line s)) ss ≡ true → misprint_from i ss ≡ none
+pub all_read : (i : ℕ) (ss : List (List ℕ)) → every (λ s. taken (read_line s)) ss ≡ true → misprint_from i ss ≡ None
 all_read i [] h = refl
 all_read i (s ∷ ss) h =
     let told = both (taken (read_line s)) (every (λ r. taken (read_line r)) ss) h in
@@ -86,7 +86,7 @@ printed_read (l ∷ ls) h =
     let told = both (fits l) (every fits ls) h in
     rw (read_of_print_line l told.0) (printed_read ls told.1)
 
-pub none_misprinted_of_printed : (ls : List Line) → every fits ls ≡ true → misprint_from 0 (cut_lines (joined print_line ls)) ≡ none
+pub none_misprinted_of_printed : (ls : List Line) → every fits ls ≡ true → misprint_from 0 (cut_lines (joined print_line ls)) ≡ None
 none_misprinted_of_printed ls h = rw (cut_of_printed ls) (all_read 0 (map print_line ls) (printed_read ls h))
 
 -- parts that read, with their leading zeros made blank, are the prints of the lines that they spell, and these fit
@@ -100,7 +100,7 @@ print_of_parts (s ∷ ss) h =
     (ap₂ {C = List ℕ} ◌++◌ (blanked_line_of s r) rest.0, rw r.in_range rest.1)
 
 -- a list of whole lines that all read, with its leading zeros made blank, is the print of its lines, and these fit
-pub print_of_list : (s : List ℕ) → length s % line_length ≡ 0 → misprint_from 0 (cut_lines s) ≡ none
+pub print_of_list : (s : List ℕ) → length s % line_length ≡ 0 → misprint_from 0 (cut_lines s) ≡ None
     → (blanked_list s ≡ joined print_line (list_lines s)) × (every fits (list_lines s) ≡ true)
 unfolding list_lines blanked_list
 print_of_list s whole h =
@@ -136,7 +136,7 @@ module _ (s : List ℕ) (d : Line) (i : ℕ) (h : i < length s / line_length) wh
   front = sym (take-take line_columns_width line_length (drop (i * line_length) s) (lit≤ tt)) ∙ ap (take line_columns_width) (sym (cut_at s [] i h))
 
   -- with leading zeros made blank they are its print, if it reads
-  pub columns_of_line : misprint_from 0 (cut_lines s) ≡ none → blanked_columns (take line_columns_width (drop (i * line_length) s)) ≡ line_columns (get_or (list_lines s) i d)
+  pub columns_of_line : misprint_from 0 (cut_lines s) ≡ None → blanked_columns (take line_columns_width (drop (i * line_length) s)) ≡ line_columns (get_or (list_lines s) i d)
   columns_of_line reads =
       let line : List ℕ = get_or (cut_lines s) i [] in
       let there : i < length (cut_lines s) = rw (length_cut_lines s) h in
@@ -187,7 +187,7 @@ module _ (s : List ℕ) (a c : ℕ) (h : a + c ≤ length s / line_length) where
       ∙ map_take spelled c (drop a (cut_lines s))
       ∙ ap (take c) (map_drop spelled a (cut_lines s))
 
-  pub part_reads : misprint_from 0 (cut_lines s) ≡ none → misprint_from 0 (cut_lines part) ≡ none
+  pub part_reads : misprint_from 0 (cut_lines s) ≡ None → misprint_from 0 (cut_lines part) ≡ None
   part_reads e =
       rw cut_part
       (all_read 0 (take c (drop a (cut_lines s)))
@@ -196,16 +196,16 @@ module _ (s : List ℕ) (a c : ℕ) (h : a + c ≤ length s / line_length) where
 -- ---- order
 
 -- 4 of "Refused inputs" does not hold exactly if the tags never fall
-pub none_falls : (i m : ℕ) (ls : List Line) → fall_from i m ls ≡ none → rising m (map (λ l. l.tag) ls) ≡ true
+pub none_falls : (i m : ℕ) (ls : List Line) → fall_from i m ls ≡ None → rising m (map (λ l. l.tag) ls) ≡ true
 none_falls i m [] h = refl
 none_falls i m (l ∷ ls) h = go (leb m l.tag) (none_falls (suc i) l.tag ls) h
   where
-    go : (t : Bool) → (fall_from (suc i) l.tag ls ≡ none → rising l.tag (map (λ r. r.tag) ls) ≡ true)
-        → pick t (fall_from (suc i) l.tag ls) (some i) ≡ none → t && rising l.tag (map (λ r. r.tag) ls) ≡ true
+    go : (t : Bool) → (fall_from (suc i) l.tag ls ≡ None → rising l.tag (map (λ r. r.tag) ls) ≡ true)
+        → pick t (fall_from (suc i) l.tag ls) (Some i) ≡ None → t && rising l.tag (map (λ r. r.tag) ls) ≡ true
     go true rest k = rest k
     go false rest k = cc
 
-pub rising_none_falls : (i m : ℕ) (ls : List Line) → rising m (map (λ l. l.tag) ls) ≡ true → fall_from i m ls ≡ none
+pub rising_none_falls : (i m : ℕ) (ls : List Line) → rising m (map (λ l. l.tag) ls) ≡ true → fall_from i m ls ≡ None
 rising_none_falls i m [] h = refl
 rising_none_falls i m (l ∷ ls) h =
     let told = both (leb m l.tag) (rising l.tag (map (λ r. r.tag) ls)) h in

@@ -4,7 +4,7 @@
 use Prim.Native.Nat.{ℕ, suc, ◌^◌, ◌≤◌, ◌<◌, ◌+◌, ◌-◌}
 use mathlib.Core.Path.{◌≡◌, refl, sym, ap, ◌∙◌}
 use mathlib.Core.Bool.{Bool, true, false, ◌&&◌, true≢false}
-use mathlib.Core.Option.{Option, none, some}
+use Rattle.std.specs.Prelude.{Option, None, Some}
 use mathlib.Core.List.{List, ◌++◌}
 use native.Mathlib.Omega.{arith}
 use lib.Dec.{leb}
@@ -38,18 +38,18 @@ module _ (s : List ℕ) (long : line_columns_width ≤ length s) where
       (length_columns tare_start tare_width s (omega arith)) (length_columns code_start code_width s (omega arith)) (length_columns weighing_start weighing_width s (omega arith))
 
 -- a number read within bounds was read
-read_found : (low high : ℕ) (f : List ℕ) {x : ℕ} → number_within low high f ≡ some x → found (read_number f) ≡ true
+read_found : (low high : ℕ) (f : List ℕ) {x : ℕ} → number_within low high f ≡ Some x → found (read_number f) ≡ true
 unfolding number_within
 read_found low high f h =
-    ap found (then_found (read_number f) (λ y. pick (leb low y && leb y high) (some y) none) h).1
+    ap found (then_found (read_number f) (λ y. pick (leb low y && leb y high) (Some y) None) h).1
 
-found_some : (o : Option ℕ) → found o ≡ true → (x : ℕ) × (o ≡ some x)
-found_some none h = absurd (true≢false (sym h))
-found_some (some x) h = (x, refl)
+found_some : (o : Option ℕ) → found o ≡ true → (x : ℕ) × (o ≡ Some x)
+found_some None h = absurd (true≢false (sym h))
+found_some (Some x) h = (x, refl)
 
 -- a number in w columns, where the bound lets all of them through
 all_within : (high w : ℕ) (f : List ℕ) → length f ≡ w → 10 ^ w ≤ suc high → found (read_number f) ≡ true
-    → (x : ℕ) × (number_within 0 high f ≡ some x)
+    → (x : ℕ) × (number_within 0 high f ≡ Some x)
 all_within high w f wide room h =
     let read = found_some (read_number f) h in
     let small : read.0 < 10 ^ w = rw wide at (print_of_read f read.1).1 in
@@ -57,7 +57,7 @@ all_within high w f wide room h =
 
 -- the tare, its first column blank
 tare_within : (f : List ℕ) → length f ≡ tare_width → get_or f 0 0 ≡ 32 → found (read_number f) ≡ true
-    → (x : ℕ) × (number_within 0 tare_most f ≡ some x)
+    → (x : ℕ) × (number_within 0 tare_most f ≡ Some x)
 tare_within f wide blank h =
     let read = found_some (read_number f) h in
     let behind : length (drop 1 f) ≡ tare_width - 1 = rw (length-drop 1 f) (omega arith) in
@@ -66,7 +66,7 @@ tare_within f wide blank h =
 
 module _ (m : ℕ) (s : List ℕ) (long : line_columns_width ≤ length s) where
   -- a line that was read tells of its columns
-  line_columns_printed : {l : Line} → read_line_columns m s ≡ some l → columns_by column_printed rest_places 32 (columns tare_start rest_width s) ≡ true
+  line_columns_printed : {l : Line} → read_line_columns m s ≡ Some l → columns_by column_printed rest_places 32 (columns tare_start rest_width s) ≡ true
   unfolding read_line_columns
   line_columns_printed h =
       let first = then_found (number_within m tag_most (columns tag_start tag_width s)) _ h in
@@ -82,15 +82,15 @@ module _ (m : ℕ) (s : List ℕ) (long : line_columns_width ≤ length s) where
   rest_misprinted test h = go (read_line_columns m s) refl
     where
       go : (o : Option Line) → read_line_columns m s ≡ o → 18446744073709551615 ≡ tag_or_misprint (read_line_columns m s)
-      go none e = rw e
-      go (some l) e = absurd (true≢false (sym (line_columns_printed e) ∙ sym test ∙ h))
+      go None e = rw e
+      go (Some l) e = absurd (true≢false (sym (line_columns_printed e) ∙ sym test ∙ h))
 
   -- the first column of the tare
   tare_first : get_or (columns tare_start tare_width s) 0 0 ≡ get_or s tare_start 0
   tare_first = columns_first tare_start (tare_width - 1) s (omega arith)
 
   module _ (t : ℕ) (read : t ≡ or_misprint (read_number (columns tag_start tag_width s))) (low : m ≤ t) (high : t ≤ tag_most) where
-    tag : number_within m tag_most (columns tag_start tag_width s) ≡ some t
+    tag : number_within m tag_most (columns tag_start tag_width s) ≡ Some t
     tag = answer_within m tag_most (columns tag_start tag_width s) t read (omega arith) low high
 
     pub tare_too_long : (get_or s tare_start 0 ≡ 32 → ⊥) → 18446744073709551615 ≡ tag_or_misprint (read_line_columns m s)

@@ -3,7 +3,7 @@
 use Prim.Native.Nat.{ℕ, suc, ◌+◌, ◌-◌, ◌*◌, ◌<◌, ◌≤◌}
 use mathlib.Core.Path.{◌≡◌, refl, sym, ap, ◌∙◌}
 use mathlib.Core.Bool.{Bool, true, false, not}
-use mathlib.Core.Option.{Option, none, some}
+use Rattle.std.specs.Prelude.{Option, None, Some}
 use mathlib.Core.List.{List, [], ◌∷◌, ◌++◌, map, map-append, append_assoc, append-nil}
 use native.Mathlib.Omega.{arith}
 use native.Mathlib.Nat.{zero-mul, suc-mul}
@@ -28,16 +28,16 @@ part_rest k s = take_all (length s - k) (drop k s) (simp length-drop (omega arit
 
 -- the items xs, and behind them what a reading finds
 abbrev pub behind : {A : Type 0} → List A → Option (List A) → Option (List A)
-behind xs o = and_then o (λ ys. some (xs ++ ys))
+behind xs o = and_then o (λ ys. Some (xs ++ ys))
 
 behind_nil : {A : Type 0} (o : Option (List A)) → behind [] o ≡ o
-behind_nil none = refl
-behind_nil (some ys) = refl
+behind_nil None = refl
+behind_nil (Some ys) = refl
 
 behind_more : {A : Type 0} (xs : List A) (a : A) (o : Option (List A))
-    → behind xs (and_then o (λ ys. some (a ∷ ys))) ≡ behind (xs ++ a ∷ []) o
-behind_more xs a none = refl
-behind_more xs a (some ys) = ap {B = Option (List _)} some (sym (append_assoc xs (a ∷ []) ys))
+    → behind xs (and_then o (λ ys. Some (a ∷ ys))) ≡ behind (xs ++ a ∷ []) o
+behind_more xs a None = refl
+behind_more xs a (Some ys) = ap {B = Option (List _)} Some (sym (append_assoc xs (a ∷ []) ys))
 
 -- i items of c are read and leave m; h holds them
 pub record ReadSoFar {A H : Type 0} (hold : Option (List A) → H) (read : ℕ → List ℕ → Option A) (next : ℕ → A → ℕ)
@@ -46,11 +46,11 @@ pub record ReadSoFar {A H : Type 0} (hold : Option (List A) → H) (read : ℕ �
   pub few : i ≤ c
   pub count : length items ≡ i
   pub left : read_run read next w 0 c s ≡ behind items (read_run read next w m (c - i) (drop (i * w) s))
-  pub held : h ≡ hold (some items)
+  pub held : h ≡ hold (Some items)
 
 module _ {A H : Type 0} (hold : Option (List A) → H) (read : ℕ → List ℕ → Option A) (next : ℕ → A → ℕ)
     (w c : ℕ) (s : List ℕ) where
-  pub nothing_yet : {h : H} → h ≡ hold (some []) → ReadSoFar hold read next w c s h 0 0
+  pub nothing_yet : {h : H} → h ≡ hold (Some []) → ReadSoFar hold read next w c s h 0 0
   nothing_yet e =
       let all : c - 0 ≡ c = omega arith in
       record {
@@ -62,8 +62,8 @@ module _ {A H : Type 0} (hold : Option (List A) → H) (read : ℕ → List ℕ 
       }
 
   module _ {h : H} {m i : ℕ} (so : ReadSoFar hold read next w c s h m i) where
-    pub one_more : i < c → {a : A} → read m (take (i * w + w - i * w) (drop (i * w) s)) ≡ some a
-        → {h' : H} → ((xs : List A) → length xs ≡ i → h ≡ hold (some xs) → h' ≡ hold (some (xs ++ a ∷ [])))
+    pub one_more : i < c → {a : A} → read m (take (i * w + w - i * w) (drop (i * w) s)) ≡ Some a
+        → {h' : H} → ((xs : List A) → length xs ≡ i → h ≡ hold (Some xs) → h' ≡ hold (Some (xs ++ a ∷ [])))
         → ReadSoFar hold read next w c s h' (next m a) (i + 1)
     one_more l {a} e more =
         let rest : c - i ≡ suc (c - (i + 1)) = omega arith in
@@ -81,7 +81,7 @@ module _ {A H : Type 0} (hold : Option (List A) → H) (read : ℕ → List ℕ 
 
   -- the columns behind the items were tested: r tells whether they are blank
   module _ {r : Bool} (test : r ≡ all_blank (take (length s - c * w) (drop (c * w) s))) where
-    pub not_blank_behind : not r ≡ true → {z : H} → z ≡ hold none → z ≡ hold (read_items read next w c s)
+    pub not_blank_behind : not r ≡ true → {z : H} → z ≡ hold None → z ≡ hold (read_items read next w c s)
     unfolding read_items
     not_blank_behind n is = is ∙ ap hold (sym (rw (← part_rest (c * w) s, sym test ∙ not-true r n)))
 
@@ -90,7 +90,7 @@ module _ {A H : Type 0} (hold : Option (List A) → H) (read : ℕ → List ℕ 
       unfolding read_items
       whole = rw (← part_rest (c * w) s, sym test ∙ not-false r n) so.left
 
-      pub item_misprinted : i < c → read m (take (i * w + w - i * w) (drop (i * w) s)) ≡ none → {z : H} → z ≡ hold none
+      pub item_misprinted : i < c → read m (take (i * w + w - i * w) (drop (i * w) s)) ≡ None → {z : H} → z ≡ hold None
           → z ≡ hold (read_items read next w c s)
       item_misprinted l e is =
           let rest : c - i ≡ suc (c - (i + 1)) = omega arith in
@@ -99,7 +99,7 @@ module _ {A H : Type 0} (hold : Option (List A) → H) (read : ℕ → List ℕ 
       pub all_held : c ≤ i → h ≡ hold (read_items read next w c s)
       all_held l =
           let none_left : c - i ≡ 0 = omega arith in
-          so.held ∙ ap hold (sym (whole ∙ rw none_left (ap {B = Option (List A)} some (append-nil so.items))))
+          so.held ∙ ap hold (sym (whole ∙ rw none_left (ap {B = Option (List A)} Some (append-nil so.items))))
 
 -- ---- the array
 

@@ -3,7 +3,7 @@
 use Prim.Native.Nat.{ℕ, zero, suc, ◌+◌, ◌^◌, ◌<◌, ◌≤◌}
 use mathlib.Core.Path.{◌≡◌, refl, sym, ap, ap₂, ◌∙◌}
 use mathlib.Core.Bool.{true, false, ◌&&◌}
-use mathlib.Core.Option.{Option, none, some}
+use Rattle.std.specs.Prelude.{Option, None, Some}
 use mathlib.Core.List.{List, [], ◌∷◌, ◌++◌}
 use native.Mathlib.Omega.{arith}
 use lib.Dec.{leb, eqb}
@@ -18,7 +18,7 @@ use Rattle.buckets.specs.Bucket.{columns}
 use Rattle.buckets.specs.Inner.Columns.{number_within}
 use Rattle.buckets.proofs.Chained.{then_found, pick_found}
 
-pub within_back : (low high w x : ℕ) → low ≤ x → x ≤ high → x < 10 ^ w → number_within low high (print w x) ≡ some x
+pub within_back : (low high w x : ℕ) → low ≤ x → x ≤ high → x < 10 ^ w → number_within low high (print w x) ≡ Some x
 unfolding number_within
 within_back low high w x h k small = rw (read_of_print w x small, le-leb low x h, le-leb x high k)
 
@@ -28,12 +28,12 @@ pub record Within (low high w : ℕ) (s : List ℕ) (x : ℕ) : Type 0 where
   pub least : low ≤ x
   pub most : x ≤ high
 
-pub within_only : (low high w : ℕ) (s : List ℕ) {x : ℕ} → length s ≡ w → number_within low high s ≡ some x → Within low high w s x
+pub within_only : (low high w : ℕ) (s : List ℕ) {x : ℕ} → length s ≡ w → number_within low high s ≡ Some x → Within low high w s x
 unfolding number_within
 within_only low high w s {x} long h =
-    let found = then_found (read_number s) (λ y. pick (leb low y && leb y high) (some y) none) h in
+    let found = then_found (read_number s) (λ y. pick (leb low y && leb y high) (Some y) None) h in
     let y = found.0 in
-    let kept = pick_found (leb low y && leb y high) (some y) found.2 in
+    let kept = pick_found (leb low y && leb y high) (Some y) found.2 in
     let is : y ≡ x = cc in
     let tests = both (leb low y) (leb y high) kept.0 in
     record {
@@ -44,15 +44,15 @@ within_only low high w s {x} long h =
 
 -- a number that needs fewer columns leaves the first one blank
 pub first_used : (low high w : ℕ) (s : List ℕ) → length s ≡ suc (suc w) → high < 10 ^ suc w → (get_or s 0 0 ≡ 32 → ⊥)
-    → number_within low high s ≡ none
+    → number_within low high s ≡ None
 first_used low high w s long small used = go (number_within low high s) refl
   where
     first_column : (x : ℕ) → x < 10 ^ suc w → get_or (print (suc (suc w)) x) 0 0 ≡ 32
     first_column x h = rw (lt-ltb x (10 ^ suc w) h)
 
-    go : (o : Option ℕ) → number_within low high s ≡ o → number_within low high s ≡ none
-    go none e = e
-    go (some x) e =
+    go : (o : Option ℕ) → number_within low high s ≡ o → number_within low high s ≡ None
+    go None e = e
+    go (Some x) e =
         let found = within_only low high (suc (suc w)) s long e in
         let few : x < 10 ^ suc w = omega (arith, found.most) in
         absurd (used (ap (λ (r : List ℕ). get_or r 0 0) found.printed ∙ first_column x few))
@@ -81,7 +81,7 @@ unfolding columns
 columns_first k w s h = rw (drop-cons s k 0 h)
 
 -- a number read within bounds from columns of s
-pub field_only : (low high k w : ℕ) (s : List ℕ) {x : ℕ} → k + w ≤ length s → number_within low high (columns k w s) ≡ some x
+pub field_only : (low high k w : ℕ) (s : List ℕ) {x : ℕ} → k + w ≤ length s → number_within low high (columns k w s) ≡ Some x
     → Within low high w (columns k w s) x
 field_only low high k w s h e = within_only low high w (columns k w s) (length_columns k w s h) e
 

@@ -1,7 +1,7 @@
 -- Document 02, C-13, by example: the four columns of a material code as bridges print them, and a whole line full of zeros.
 -- Assumes nothing.
 use Rattle.std.specs.Prelude.{◌≡◌, ℕ, List, [], ◌∷◌, ◌++◌, map}
-use Rattle.std.proofs.Math.Option.{Option, none, some}
+use Rattle.std.specs.Prelude.{Option, None, Some}
 use Rattle.columns.specs.PrintedNumbers.{read_number, read_lenient}
 use Rattle.buckets.specs.declared.Line.{Line}
 use Rattle.buckets.specs.Lengths.{newline}
@@ -39,15 +39,15 @@ row bucket list columns = record { in_bucket = bucket; in_list = list; blanked =
 -- "accepts leading zeros, blanks before them or none. Buckets stay strict.", "(zero stays one 0)"; what is no number stays
 abbrev pub wanted : List Told
 wanted =
-    row none (some 42) (32 ∷ 32 ∷ 52 ∷ 50 ∷ []) ∷
-    row none (some 42) (32 ∷ 32 ∷ 52 ∷ 50 ∷ []) ∷
-    row (some 42) (some 42) (32 ∷ 32 ∷ 52 ∷ 50 ∷ []) ∷
-    row none (some 0) (32 ∷ 32 ∷ 32 ∷ 48 ∷ []) ∷
-    row (some 0) (some 0) (32 ∷ 32 ∷ 32 ∷ 48 ∷ []) ∷
-    row none none (32 ∷ 32 ∷ 32 ∷ 32 ∷ []) ∷
-    row none none (48 ∷ 52 ∷ 50 ∷ 32 ∷ []) ∷
-    row none none (48 ∷ 32 ∷ 52 ∷ 50 ∷ []) ∷
-    row none none (43 ∷ 48 ∷ 52 ∷ 50 ∷ []) ∷ []
+    row None (Some 42) (32 ∷ 32 ∷ 52 ∷ 50 ∷ []) ∷
+    row None (Some 42) (32 ∷ 32 ∷ 52 ∷ 50 ∷ []) ∷
+    row (Some 42) (Some 42) (32 ∷ 32 ∷ 52 ∷ 50 ∷ []) ∷
+    row None (Some 0) (32 ∷ 32 ∷ 32 ∷ 48 ∷ []) ∷
+    row (Some 0) (Some 0) (32 ∷ 32 ∷ 32 ∷ 48 ∷ []) ∷
+    row None None (32 ∷ 32 ∷ 32 ∷ 32 ∷ []) ∷
+    row None None (48 ∷ 52 ∷ 50 ∷ 32 ∷ []) ∷
+    row None None (48 ∷ 32 ∷ 52 ∷ 50 ∷ []) ∷
+    row None None (43 ∷ 48 ∷ 52 ∷ 50 ∷ []) ∷ []
 
 -- ---- a line
 
@@ -63,5 +63,5 @@ full_numbers = record { tag = 7; tare = 85; code = 0; weighing = 10 }
 
 -- it reads, and with its leading zeros made blank it is the line as it is printed
 pub record FullLine : Type 0 where
-  pub reads : read_line full_line ≡ some full_numbers
+  pub reads : read_line full_line ≡ Some full_numbers
   pub blanked : blanked_line full_line ≡ print_line full_numbers

@@ -1,7 +1,7 @@
 -- Document 01, "A bucket".
 -- Assumes nothing.
 use Rattle.std.specs.Prelude.{ℕ, ◌+◌, Bool, true, false, ◌&&◌, List, [], ◌∷◌, ◌++◌, map, leb, ltb, eqb, length, take, drop, get_or}
-use Rattle.std.proofs.Math.Option.{Option, none, some}
+use Rattle.std.specs.Prelude.{Option, None, Some}
 use Rattle.columns.specs.Lists.{pick, joined, every, parts, same, strict, padded}
 use Rattle.columns.specs.PrintedNumbers.{print, blanks, value}
 use Rattle.buckets.specs.declared.Line.{Line}
@@ -78,8 +78,8 @@ print_head b =
 
 -- the tag columns of a pair, which may be blank
 abbrev pub print_tag : Option ℕ → List ℕ
-print_tag none = blanks tag_width
-print_tag (some t) = print tag_width t
+print_tag None = blanks tag_width
+print_tag (Some t) = print tag_width t
 
 -- "each a tag (10 ..) and a distance (6)"
 unfoldable pub print_pair : Pair → List ℕ
@@ -107,12 +107,12 @@ reaches c d = leb 1 d && leb d c
 
 -- a printed tag is in range; a blank one has none
 abbrev pub pair_tag_fits : Option ℕ → Bool
-pair_tag_fits none = true
-pair_tag_fits (some t) = tag_fits t
+pair_tag_fits None = true
+pair_tag_fits (Some t) = tag_fits t
 
 abbrev pub printed_tag : Option ℕ → Bool
-printed_tag none = false
-printed_tag (some t) = true
+printed_tag None = false
+printed_tag (Some t) = true
 
 unfoldable pub pair_fits : ℕ → Pair → Bool
 pair_fits c p = pair_tag_fits p.tag && reaches c p.distance
@@ -165,7 +165,7 @@ field k w s = value 0 (columns k w s)
 unfoldable pub spelled_pair : List ℕ → Pair
 spelled_pair s =
     record {
-      tag = pick (same (take tag_width s) (blanks tag_width)) none (some (field tag_start tag_width s));
+      tag = pick (same (take tag_width s) (blanks tag_width)) None (Some (field tag_start tag_width s));
       distance = field distance_start place_width s;
     }
 

@@ -1,7 +1,7 @@
 -- The lines of a bucket one by one, for a display that was told which of them are its own.
 -- Assumes nothing.
 use Rattle.std.specs.Prelude.{ℕ, zero, suc, ◌+◌, ◌*◌, List, [], ◌∷◌, take, drop}
-use Rattle.std.proofs.Math.Option.{Option, none, some}
+use Rattle.std.specs.Prelude.{Option, None, Some}
 use Rattle.buckets.specs.Lengths.{line_columns_width, lines_start}
 use Rattle.buckets.specs.Bucket.{Body, index_body, data_body, Bucket}
 use Rattle.buckets.specs.declared.Line.{Line}
@@ -15,23 +15,23 @@ body_lines (data_body f ls) = ls
 
 -- those of a bucket that was read strictly: none of a misprinted one
 abbrev pub lines_read : Option Bucket → List Line
-lines_read none = []
-lines_read (some b) = body_lines b.body
+lines_read None = []
+lines_read (Some b) = body_lines b.body
 
 -- line i of these, from 0
 abbrev pub nth : ℕ → List Line → Option Line
-nth i [] = none
-nth zero (l ∷ ls) = some l
+nth i [] = None
+nth zero (l ∷ ls) = Some l
 nth (suc i) (l ∷ ls) = nth i ls
 
 abbrev pub or_nothing : Option Line → BucketLine
-or_nothing none = Nothing
-or_nothing (some l) = IsLine l
+or_nothing None = Nothing
+or_nothing (Some l) = IsLine l
 
 -- line i of a bucket that was read: nothing past its lines, and in an index bucket
 abbrev pub bucket_line : ℕ → Option Bucket → BucketLine
-bucket_line i none = Misprinted
-bucket_line i (some b) = or_nothing (nth i (body_lines b.body))
+bucket_line i None = Misprinted
+bucket_line i (Some b) = or_nothing (nth i (body_lines b.body))
 
 -- the numbers that an answer stands for: refusal number (8 "bucket not 240 bytes, or misprinted", 0: none), place, whether there
 -- is such a line (1, else 0), its tag, tare, material code and weighing number

@@ -1,7 +1,7 @@
 -- Document 01, "A list line", with document 02, C-13, and the conditions 2, 3 and 4 of "Refused inputs".
 -- Assumes nothing.
 use Rattle.std.specs.Prelude.{ℕ, suc, ◌/◌, ◌%◌, Bool, true, false, ◌&&◌, List, [], ◌∷◌, ◌++◌, map, leb, eqb, length, take, drop}
-use Rattle.std.proofs.Math.Option.{Option, none, some}
+use Rattle.std.specs.Prelude.{Option, None, Some}
 use Rattle.columns.specs.Lists.{pick, joined, every, parts, same}
 use Rattle.columns.specs.PrintedNumbers.{print, value, read_lenient, blank_zeros}
 use Rattle.buckets.specs.declared.Line.{Line}
@@ -50,9 +50,9 @@ unfoldable pub spelled : List ℕ → Line
 spelled s = spelled_columns s
 
 -- whether a reading took what it was given
-abbrev pub taken {ℓ} : {A : Type ℓ} → Option A → Bool
-taken none = false
-taken (some x) = true
+abbrev pub taken : {A : Type 0} → Option A → Bool
+taken None = false
+taken (Some x) = true
 
 -- the columns of a line's four numbers
 abbrev pub line_fields : List ℕ → List (List ℕ)
@@ -69,7 +69,7 @@ has_numbers s = every (λ field. taken (read_lenient field)) (line_fields s) && 
 
 -- a list line read: its four numbers, each in its range
 unfoldable pub read_line : List ℕ → Option Line
-read_line s = pick (has_numbers s && fits (spelled s)) (some (spelled s)) none
+read_line s = pick (has_numbers s && fits (spelled s)) (Some (spelled s)) None
 
 -- a list's lines as bytes, 27 each
 unfoldable pub cut_lines : List ℕ → List (List ℕ)
@@ -89,13 +89,13 @@ whole_lines c = eqb (c % line_length) 0 && few_lines (c / line_length)
 
 -- 3: "line misprinted; place: first such line", counted from i
 abbrev pub misprint_from : ℕ → List (List ℕ) → Option ℕ
-misprint_from i [] = none
-misprint_from i (s ∷ ss) = pick (taken (read_line s)) (misprint_from (suc i) ss) (some i)
+misprint_from i [] = None
+misprint_from i (s ∷ ss) = pick (taken (read_line s)) (misprint_from (suc i) ss) (Some i)
 
 -- 4: "tag falls; place: first such line", counted from i, m being the tag before ("tags never fall")
 abbrev pub fall_from : ℕ → ℕ → List Line → Option ℕ
-fall_from i m [] = none
-fall_from i m (l ∷ ls) = pick (leb m l.tag) (fall_from (suc i) l.tag ls) (some i)
+fall_from i m [] = None
+fall_from i m (l ∷ ls) = pick (leb m l.tag) (fall_from (suc i) l.tag ls) (Some i)
 
 -- ---- document 02, C-13: "the list with its leading zeros made blank (zero stays one 0)"
 

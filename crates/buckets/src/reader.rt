@@ -1,7 +1,7 @@
 // A bucket, read: field by field, each column once. The hints on inlining change no answer: with them the compiler sees that a
 // reading is written whole, and clears no memory before it is.
 ghost use Rattle.std.specs.Prelude.{◌≡◌, [], ◌+◌, ◌≤◌, length};
-ghost use Rattle.std.proofs.Math.Option.{none};
+ghost use Rattle.std.specs.Prelude.{None};
 ghost use Rattle.buckets.specs.Lengths.{entry_width, pairs_width, entries_width, lines_width, bucket_length};
 ghost use Rattle.buckets.specs.Lengths.{pairs_most, entries_most, bucket_lines_most};
 ghost use Rattle.buckets.specs.Bucket.{read_bucket};
@@ -82,7 +82,7 @@ fn read_entry(part: &[u8], low: u64, n: u64) -> EntryRead
 
 // What is answered of a misprinted pair.
 fn no_pair() -> PairRead
-    ensures { result ≡ as_pair_read none }
+    ensures { result ≡ as_pair_read None }
 {
     PairRead {
         good: false,
@@ -141,7 +141,7 @@ fn read_pair(part: &[u8], i: usize, n: u64) -> PairRead
 
 // What is answered of misprinted pairs.
 fn no_pairs() -> Pairs
-    ensures { result ≡ held_pairs none }
+    ensures { result ≡ held_pairs None }
 {
     Pairs {
         good: false,
@@ -187,7 +187,7 @@ fn read_pairs(part: &[u8], count: usize, n: u64) -> Pairs
 
 // What is answered of misprinted entries.
 fn no_entries() -> Entries
-    ensures { result ≡ held_entries none }
+    ensures { result ≡ held_entries None }
 {
     Entries {
         good: false,
@@ -229,7 +229,7 @@ fn read_entries(part: &[u8], count: usize, n: u64) -> Entries
 
 // What is answered of lines of which one is misprinted.
 fn no_tags() -> Tags
-    ensures { result ≡ held_tags none }
+    ensures { result ≡ held_tags None }
 {
     Tags {
         good: false,
@@ -314,7 +314,7 @@ pub fn no_index() -> IndexItems
 
 // What is answered of a misprinted bucket.
 fn misprinted() -> Reading
-    ensures { result ≡ as_reading none }
+    ensures { result ≡ as_reading None }
 {
     let head = Head {
         position: 0,

@@ -1,6 +1,6 @@
 // A bucket, written: its bytes are blanked once, and its fields are written over blanks.
 ghost use Rattle.std.specs.Prelude.{◌≡◌, true, [], ◌∷◌, ◌++◌, ◌+◌, ◌*◌, ◌%◌, ◌≤◌, ◌<◌, length, take, drop};
-ghost use Rattle.std.proofs.Math.Option.{none};
+ghost use Rattle.std.specs.Prelude.{None};
 ghost use Rattle.columns.specs.Lists.{joined, padded, put};
 ghost use Rattle.columns.specs.PrintedNumbers.{print, blanks, blank_zeros};
 ghost use Rattle.buckets.specs.Lengths.{newline, tag_width, place_width, line_length, head_width, entry_width, lines_width, bucket_end, bucket_length};
@@ -137,7 +137,7 @@ pub fn put_entry(part: &mut [u8], i: usize, text: &[u8], from: usize, plain: boo
 // List lines without their newlines and leading zeros; where `plain` says so, they have none.
 fn write_lines(part: &mut [u8], lines: &[u8], plain: bool)
     requires { (part.old ≡ blanks lines_width) × ((length lines.now % line_length ≡ 0)
-        × ((length lines.now ≤ bucket_lines_most * line_length) × ((misprint_from 0 (cut_lines lines.now) ≡ none)
+        × ((length lines.now ≤ bucket_lines_most * line_length) × ((misprint_from 0 (cut_lines lines.now) ≡ None)
         × (plain ≡ true → PlainList lines.now)))) }
     ensures { part.new ≡ padded lines_width (joined line_columns (list_lines lines.now)) }
 {
@@ -157,7 +157,7 @@ fn write_lines(part: &mut [u8], lines: &[u8], plain: bool)
 // A data bucket with the lines of a part of a list; where `plain` says so, no number of them has a leading zero.
 pub fn write_data(part: &mut [u8], head: Head, follow_on: u64, lines: &[u8], plain: bool)
     requires { (length part.old ≡ bucket_length) × ((length lines.now % line_length ≡ 0)
-        × ((length lines.now ≤ bucket_lines_most * line_length) × ((misprint_from 0 (cut_lines lines.now) ≡ none)
+        × ((length lines.now ≤ bucket_lines_most * line_length) × ((misprint_from 0 (cut_lines lines.now) ≡ None)
         × (plain ≡ true → PlainList lines.now)))) }
     ensures { part.new ≡ print_bucket (bucket_with head (data_body follow_on (list_lines lines.now))) }
 {

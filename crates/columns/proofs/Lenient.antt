@@ -5,7 +5,7 @@
 --     blanked_digits, value_digits   no column adds another digit to the value
 -- Assumes nothing.
 use Rattle.std.proofs.Common.{◌≡◌, ℕ, zero, suc, ◌+◌, ◌-◌, ◌*◌, ◌%◌, ◌^◌, ◌<◌, ◌≤◌, Bool, true, false, ◌&&◌, ◌||◌, eqb, leb, List, [], ◌∷◌, map, length, get_or, sym, refl, ap, ◌∙◌, ap₂, arith, eqb-true, leb-true}
-use mathlib.Core.Option.{none, some}
+use Rattle.std.specs.Prelude.{None, Some}
 use borrow.Author.Tests.{eqb-false}
 use Rattle.columns.specs.Lists.{pick, every}
 use Rattle.columns.specs.PrintedNumbers.{print, value, digit, read_number, blanks_digits, blank_zeros}
@@ -93,14 +93,14 @@ digits_lenient d s h = go (eqb d 32) refl
     go false e = h
 
 -- a number's columns with leading zeros made blank are read strictly, for the same number
-pub blanked_strict : (s : List ℕ) → blanks_digits s ≡ true → read_number (blank_zeros s) ≡ some (value 0 s)
+pub blanked_strict : (s : List ℕ) → blanks_digits s ≡ true → read_number (blank_zeros s) ≡ Some (value 0 s)
 blanked_strict [] h = absurd (let z : ◌≡◌ {A = ℕ} 0 1 = cc in omega arith)
 blanked_strict (c ∷ []) h = go (eqb c 32) refl h
   where
     nothing_behind : 0 < length {A = ℕ} [] → ⊥
     nothing_behind p = omega arith
 
-    go : (p : Bool) → eqb c 32 ≡ p → pick p false (digit c && true) ≡ true → read_number (c ∷ []) ≡ some (value 0 (c ∷ []))
+    go : (p : Bool) → eqb c 32 ≡ p → pick p false (digit c && true) ≡ true → read_number (c ∷ []) ≡ Some (value 0 (c ∷ []))
     go true e k = absurd (let z : ◌≡◌ {A = ℕ} 0 1 = cc in omega arith)
     go false e k = rw (read_digits_lem c [] (λ p. absurd (nothing_behind p)) (λ p. absurd (nothing_behind p)), k)
 blanked_strict (c ∷ d ∷ s) h = go (eqb c 32) (eqb c 48) refl refl h (blanked_strict (d ∷ s))
@@ -109,8 +109,8 @@ blanked_strict (c ∷ d ∷ s) h = go (eqb c 32) (eqb c 48) refl refl h (blanked
     some_behind = rw (length_blanked (d ∷ s)) (omega arith)
 
     go : (p q : Bool) → eqb c 32 ≡ p → eqb c 48 ≡ q → pick p (blanks_digits (d ∷ s)) (digit c && every digit (d ∷ s)) ≡ true
-        → (blanks_digits (d ∷ s) ≡ true → read_number (blank_zeros (d ∷ s)) ≡ some (value 0 (d ∷ s)))
-        → read_number (pick (p || q) (32 ∷ blank_zeros (d ∷ s)) (c ∷ d ∷ s)) ≡ some (value 0 (c ∷ d ∷ s))
+        → (blanks_digits (d ∷ s) ≡ true → read_number (blank_zeros (d ∷ s)) ≡ Some (value 0 (d ∷ s)))
+        → read_number (pick (p || q) (32 ∷ blank_zeros (d ∷ s)) (c ∷ d ∷ s)) ≡ Some (value 0 (c ∷ d ∷ s))
     go true q e f k rest = rw (eqb-true c 32 e) (read_blank (blank_zeros (d ∷ s)) some_behind ∙ rest k)
     go false true e f k rest =
         rw (eqb-true c 48 f)
@@ -157,11 +157,11 @@ column_worth (c ∷ s) i h l = go (eqb c 32) refl h i l (column_worth s)
 
 -- ---- what is read strictly is read leniently
 
-taken_test : (b : Bool) (y : ℕ) {x : ℕ} → pick b (some y) none ≡ some x → b ≡ true
+taken_test : (b : Bool) (y : ℕ) {x : ℕ} → pick b (Some y) None ≡ Some x → b ≡ true
 taken_test true y k = refl
 taken_test false y k = cc
 
-pub strict_lenient : (s : List ℕ) {x : ℕ} → 1 ≤ length s → read_number s ≡ some x → blanks_digits s ≡ true
+pub strict_lenient : (s : List ℕ) {x : ℕ} → 1 ≤ length s → read_number s ≡ Some x → blanks_digits s ≡ true
 strict_lenient [] n h = absurd (omega arith)
 strict_lenient (c ∷ []) n h =
     go (eqb c 32) refl (taken_test (digit c && true) _ (sym (read_digits_lem c [] (λ l. absurd (omega arith)) (λ l. absurd (omega arith))) ∙ h))
@@ -171,11 +171,11 @@ strict_lenient (c ∷ []) n h =
     go false e k = k
 strict_lenient (c ∷ d ∷ s) {x} n h = go (eqb c 32) (eqb c 48) refl refl h (λ k. strict_lenient (d ∷ s) (omega arith) k)
   where
-    go : (p q : Bool) → eqb c 32 ≡ p → eqb c 48 ≡ q → read_number (c ∷ d ∷ s) ≡ some x
-        → (read_number (d ∷ s) ≡ some x → blanks_digits (d ∷ s) ≡ true) → pick p (blanks_digits (d ∷ s)) (every digit (c ∷ d ∷ s)) ≡ true
+    go : (p q : Bool) → eqb c 32 ≡ p → eqb c 48 ≡ q → read_number (c ∷ d ∷ s) ≡ Some x
+        → (read_number (d ∷ s) ≡ Some x → blanks_digits (d ∷ s) ≡ true) → pick p (blanks_digits (d ∷ s)) (every digit (c ∷ d ∷ s)) ≡ true
     go true q e f k rest = rest (sym (read_blank (d ∷ s) (omega arith)) ∙ (rw (eqb-true c 32 e) at k))
     go false true e f k rest =
-        absurd (let z : none ≡ some x = sym (read_zero (d ∷ s) (omega arith)) ∙ (rw (eqb-true c 48 f) at k) in let y : ◌≡◌ {A = ℕ} 0 1 = cc in omega arith)
+        absurd (let z : None ≡ Some x = sym (read_zero (d ∷ s) (omega arith)) ∙ (rw (eqb-true c 48 f) at k) in let y : ◌≡◌ {A = ℕ} 0 1 = cc in omega arith)
     go false false e f k rest =
         taken_test (every digit (c ∷ d ∷ s)) _ (sym (read_digits_lem c (d ∷ s) (λ l. eqb-false c 32 e) (λ l. eqb-false c 48 f)) ∙ k)
 

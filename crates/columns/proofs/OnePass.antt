@@ -2,7 +2,7 @@
 -- digits, of which the first is no 0 unless it is the last column.
 -- Assumes nothing.
 use Rattle.std.proofs.Common.{◌≡◌, ℕ, zero, suc, ◌+◌, ◌-◌, ◌*◌, ◌/◌, ◌%◌, ◌^◌, ◌<◌, ◌≤◌, Bool, true, false, ◌&&◌, eqb, ltb, leb, List, [], ◌∷◌, length, refl, ap, ◌∙◌, mul-le-mul_right, mod-lt, mul_assoc, add-mul, div-one, arith, lit<, ltb-false, ltb-true, le-ltb, lt-ltb, eq-eqb, ne_eqb, leb-false, leb-true}
-use mathlib.Core.Option.{none, some}
+use Rattle.std.specs.Prelude.{None, Some}
 use native.Mathlib.Numerals.{lt_of_le_of_ne}
 use native.Mathlib.Nat.{pow-succ'}
 use lib.Arith.{digits_div, digits_lt}
@@ -103,7 +103,7 @@ read_blank [] h = absurd (omega arith)
 read_blank (d ∷ s) h = rw (blank_before 32 d s)
 
 -- a 0 in front of another column
-pub read_zero : (s : List ℕ) → 0 < length s → read_number (48 ∷ s) ≡ none
+pub read_zero : (s : List ℕ) → 0 < length s → read_number (48 ∷ s) ≡ None
 unfolding read_number strict
 read_zero [] h = absurd (omega arith)
 read_zero (d ∷ s) h = rw (blank_before 48 d s)
@@ -119,12 +119,12 @@ column_never c (suc w) x h n = go (ltb x (10 ^ suc w))
 
 -- from the first column that is neither blank nor a 0 in front of another, each column must be a digit
 pub read_digits_lem : (c : ℕ) (s : List ℕ) → (0 < length s → c ≡ 32 → ⊥) → (0 < length s → c ≡ 48 → ⊥)
-    → read_number (c ∷ s) ≡ pick (every digit (c ∷ s)) (some (value 0 (c ∷ s))) none
+    → read_number (c ∷ s) ≡ pick (every digit (c ∷ s)) (Some (value 0 (c ∷ s))) None
 unfolding read_number strict
 read_digits_lem c [] blank nought = rw (digit_again 0 c)
 read_digits_lem c (d ∷ s) blank nought = go (ltb 48 c) refl
   where
-    go : (t : Bool) → ltb 48 c ≡ t → read_number (c ∷ d ∷ s) ≡ pick (every digit (c ∷ d ∷ s)) (some (value 0 (c ∷ d ∷ s))) none
+    go : (t : Bool) → ltb 48 c ≡ t → read_number (c ∷ d ∷ s) ≡ pick (every digit (c ∷ d ∷ s)) (Some (value 0 (c ∷ d ∷ s))) None
     go true e =
         let more : 0 < 0 * 10 + (c - 48) = omega (arith, ltb-true 48 c e) in
         rw (turn 0 c (d ∷ s) more (digits_behind (0 * 10 + (c - 48)) (d ∷ s) more))

@@ -2,7 +2,7 @@
 -- printed, leniently by digits.
 -- Assumes nothing.
 use Rattle.std.proofs.Common.{◌≡◌, ℕ, zero, suc, ◌<◌, Bool, true, false, not, ◌&&◌, ◌||◌, eqb, leb, List, [], ◌∷◌, ◌++◌, length, replicate, refl, arith, ne_eqb, eqb-true, leb-true}
-use mathlib.Core.Option.{Option, none, some}
+use Rattle.std.specs.Prelude.{Option, None, Some}
 use borrow.Author.Tests.{eqb-false}
 use Rattle.columns.specs.Lists.{pick, every}
 use Rattle.columns.specs.PrintedNumbers.{digit, value, read_number, blanks_digits}
@@ -12,10 +12,10 @@ use Rattle.columns.proofs.OnePass.{read_blank, read_zero, read_digits_lem}
 
 -- whether a reading found a number
 abbrev pub found : Option ℕ → Bool
-found none = false
-found (some x) = true
+found None = false
+found (Some x) = true
 
-found_pick : (b : Bool) (x : ℕ) → found (pick b (some x) none) ≡ b
+found_pick : (b : Bool) (x : ℕ) → found (pick b (Some x) None) ≡ b
 found_pick true x = refl
 found_pick false x = refl
 

@@ -1,7 +1,7 @@
 -- The laws of printed numbers: width, value, and that reading undoes printing and printing undoes reading.
 -- Assumes nothing.
 use Rattle.std.proofs.Common.{◌≡◌, ℕ, zero, suc, ◌+◌, ◌-◌, ◌*◌, ◌/◌, ◌%◌, ◌^◌, ◌<◌, ◌≤◌, Bool, true, false, eqb, ltb, List, length, refl, ap, ◌∙◌, mod-lt, mod-eq_of_lt, mul_assoc, add-mul, div-one, arith, lit<, length-append, ltb-true, ne_eqb}
-use mathlib.Core.Option.{some}
+use Rattle.std.specs.Prelude.{Some}
 use native.Mathlib.Nat.{pow-succ', one-le-pow, mod-one, div-eq_of_lt}
 use lib.Arith.{mod-mul}
 use lib.ListN.{length-replicate}
@@ -42,12 +42,12 @@ value_columns acc (suc w) x =
 pub value_print : (w x : ℕ) → x < 10 ^ w → value 0 (print w x) ≡ x
 value_print w x h = rw (value_columns 0 w x, mod-eq_of_lt h) (omega arith)
 
-pub read_of_print : (w x : ℕ) → x < 10 ^ w → read_number (print w x) ≡ some x
+pub read_of_print : (w x : ℕ) → x < 10 ^ w → read_number (print w x) ≡ Some x
 unfolding read_number
 read_of_print w x h =
     rw length_print (strict_back (value 0) (λ y. true) (print w) x refl (value_print w x h))
 
-pub print_of_read : (s : List ℕ) {x : ℕ} → read_number s ≡ some x → (s ≡ print (length s) x) × (x < 10 ^ length s)
+pub print_of_read : (s : List ℕ) {x : ℕ} → read_number s ≡ Some x → (s ≡ print (length s) x) × (x < 10 ^ length s)
 unfolding read_number
 print_of_read s {x} h =
     let told = strict_only (value 0) (λ y. true) (print (length s)) s h in

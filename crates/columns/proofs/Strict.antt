@@ -1,7 +1,7 @@
 -- Strict reading takes the print of what keeps the rules, and nothing else; equality of byte lists by the test `same`.
 -- Assumes nothing.
 use Rattle.std.proofs.Common.{◌≡◌, ℕ, Bool, true, false, ◌&&◌, ◌||◌, eqb, List, [], ◌∷◌, ◌++◌, length, sym, refl, ap, ◌∙◌, ap₂, arith, eq-eqb, eqb-true}
-use mathlib.Core.Option.{none, some}
+use Rattle.std.specs.Prelude.{None, Some}
 use Rattle.columns.specs.Lists.{pick, same, strict}
 
 -- both tests of a conjunction that holds
@@ -52,15 +52,15 @@ same_append (x ∷ a) b (y ∷ c) d h =
     rw (same_append a b c d e, and_assoc (eqb x y) (same a c) (same b d))
 
 module _ {A : Type 0} (spell : List ℕ → A) (ok : A → Bool) (show : A → List ℕ) where
-  pub strict_back : (a : A) → ok a ≡ true → spell (show a) ≡ a → strict spell ok show (show a) ≡ some a
+  pub strict_back : (a : A) → ok a ≡ true → spell (show a) ≡ a → strict spell ok show (show a) ≡ Some a
   unfolding strict
   strict_back a h e = rw (e, h, same_refl (show a))
 
-  pub strict_only : (s : List ℕ) {a : A} → strict spell ok show s ≡ some a → (s ≡ show a) × (ok a ≡ true) × (a ≡ spell s)
+  pub strict_only : (s : List ℕ) {a : A} → strict spell ok show s ≡ Some a → (s ≡ show a) × (ok a ≡ true) × (a ≡ spell s)
   unfolding strict
   strict_only s {a} h = go (ok (spell s)) (same s (show (spell s))) refl refl h
     where
-      go : (p q : Bool) → ok (spell s) ≡ p → same s (show (spell s)) ≡ q → pick (p && q) (some (spell s)) none ≡ some a
+      go : (p q : Bool) → ok (spell s) ≡ p → same s (show (spell s)) ≡ q → pick (p && q) (Some (spell s)) None ≡ Some a
           → (s ≡ show a) × (ok a ≡ true) × (a ≡ spell s)
       go true true e f k =
           let is : spell s ≡ a = cc in

@@ -1,7 +1,7 @@
 -- Words about lists and choices that the other definitions are written with. None is document 01's own.
 -- Assumes nothing.
 use Rattle.std.specs.Prelude.{ℕ, zero, suc, ◌+◌, ◌-◌, ◌/◌, Bool, true, false, ◌&&◌, ◌||◌, List, [], ◌∷◌, ◌++◌, length, take, drop, replicate, ◌==◌}
-use Rattle.std.proofs.Math.Option.{Option, none, some}
+use Rattle.std.specs.Prelude.{Option, None, Some}
 
 -- the first where the test holds, else the second
 abbrev pub pick {ℓ} : {A : Type ℓ} → Bool → A → A → A
@@ -64,8 +64,8 @@ unfoldable pub up : ℕ → ℕ → ℕ
 up a b = (a + (b - 1)) / b
 
 -- Strict reading: s is taken for what it spells, if that keeps the rules (ok) and s is its print (show).
-unfoldable pub strict {ℓ} : {A : Type ℓ} → (List ℕ → A) → (A → Bool) → (A → List ℕ) → List ℕ → Option A
-strict spell ok show s = pick (ok (spell s) && same s (show (spell s))) (some (spell s)) none
+unfoldable pub strict : {A : Type 0} → (List ℕ → A) → (A → Bool) → (A → List ℕ) → List ℕ → Option A
+strict spell ok show s = pick (ok (spell s) && same s (show (spell s))) (Some (spell s)) None
 
 -- s in w columns, the unused ones blank
 unfoldable pub padded : ℕ → List ℕ → List ℕ

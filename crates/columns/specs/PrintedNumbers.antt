@@ -1,7 +1,7 @@
 -- Document 01, "Printed numbers", with document 02, C-13: the numbers of buckets are read strictly, those of list lines leniently.
 -- Assumes nothing.
 use Rattle.std.specs.Prelude.{ℕ, zero, suc, ◌+◌, ◌-◌, ◌*◌, ◌/◌, ◌%◌, ◌^◌, Bool, true, false, ◌&&◌, ◌||◌, List, [], ◌∷◌, length, replicate, ◌==◌, nat_eq, nat_le, nat_lt}
-use Rattle.std.proofs.Math.Option.{Option, none, some}
+use Rattle.std.specs.Prelude.{Option, None, Some}
 use Rattle.columns.specs.Lists.{pick, every, strict}
 use Rattle.columns.specs.declared.Number.{Number}
 use Rattle.columns.specs.declared.Number.TheVariants.{Value, Misprinted}
@@ -39,13 +39,13 @@ read_number s = strict (value 0) (λ x. true) (print (length s)) s
 
 -- a strict reading as the code answers it
 abbrev pub as_number : Option ℕ → Number
-as_number none = Misprinted
-as_number (some x) = Value x
+as_number None = Misprinted
+as_number (Some x) = Value x
 
 -- the same as a number alone, the largest of 64 bits where none was read
 abbrev pub or_misprint : Option ℕ → ℕ
-or_misprint none = 18446744073709551615
-or_misprint (some x) = x
+or_misprint None = 18446744073709551615
+or_misprint (Some x) = x
 
 -- ---- document 02, C-13, "Leading zeros from two old bridges"
 
@@ -56,7 +56,7 @@ blanks_digits (c ∷ s) = pick (c == 32) (blanks_digits s) (every digit (c ∷ s
 
 -- "The reading of a number in a list line accepts leading zeros, blanks before them or none."
 unfoldable pub read_lenient : List ℕ → Option ℕ
-read_lenient s = pick (blanks_digits s) (some (value 0 s)) none
+read_lenient s = pick (blanks_digits s) (Some (value 0 s)) None
 
 -- "leading zeros made blank (zero stays one 0)": those that nothing but blanks and zeros stands before, the last column aside
 abbrev pub blank_zeros : List ℕ → List ℕ

@@ -1,7 +1,7 @@
 -- Document 01, "Refused inputs": building, with the conditions 1 to 7 in that order.
 -- Assumes nothing.
 use Rattle.std.specs.Prelude.{ℕ, ◌-◌, min, max, Bool, ◌&&◌, not, List, [], ◌∷◌, leb, ltb, eqb, length}
-use Rattle.std.proofs.Math.Option.{Option, none, some}
+use Rattle.std.specs.Prelude.{Option, None, Some}
 use Rattle.columns.specs.Lists.{pick}
 use Rattle.buckets.specs.Lengths.{buckets_most}
 use Rattle.buckets.specs.ListLine.{cut_lines, list_lines, whole_lines, misprint_from, fall_from}
@@ -77,8 +77,8 @@ numbers (Refused number place) = number ∷ place ∷ []
 
 -- a refusal writes nothing; "Building returns N"
 abbrev pub outcome : Option Refusal → Plan → Outcome
-outcome (some r) t = record { answer = Refused r.number r.place; output = [] }
-outcome none t = record { answer = Cycle (cycle_size t); output = image t }
+outcome (Some r) t = record { answer = Refused r.number r.place; output = [] }
+outcome None t = record { answer = Cycle (cycle_size t); output = image t }
 
 -- building from a list's bytes
 unfoldable pub build : Settings → List ℕ → ℕ → Outcome

@@ -2,7 +2,7 @@
 -- the changed list's cycle is built in another.
 -- Assumes nothing.
 use Rattle.std.specs.Prelude.{◌≡◌, ℕ, suc, ◌*◌, Bool, ◌&&◌, ◌||◌, not, List, [], ◌∷◌, ◌++◌, leb, ltb, eqb, length, take}
-use Rattle.std.proofs.Math.Option.{Option, none, some}
+use Rattle.std.specs.Prelude.{Option, None, Some}
 use Rattle.columns.specs.Lists.{pick, joined, any, onto}
 use Rattle.columns.specs.PrintedNumbers.{blanks}
 use Rattle.buckets.specs.declared.Line.{Line}
@@ -61,7 +61,7 @@ given_length_out given = row 2 (not (eqb (length given) line_length))
 
 -- "A misprint in the given line is 3 with the number of lines in the list as its place, after the list's own lines."
 abbrev pub given_misprinted : ℕ → List ℕ → Condition
-given_misprinted lines given = row_at 3 (pick (taken (read_line given)) none (some lines))
+given_misprinted lines given = row_at 3 (pick (taken (read_line given)) None (Some lines))
 
 -- 15: "the line to take out is not in the list"
 unfoldable pub not_in_list : List ℕ → List ℕ → Condition
@@ -130,8 +130,8 @@ numbers (Refused number place) = number ∷ place ∷ []
 
 -- a refusal comes "before anything is changed"; else the image is what building the changed list gives
 abbrev pub outcome : Option Refusal → Settings → Change → ℕ → Outcome
-outcome (some r) s c room = record { answer = Refused r.number r.place; list = []; cycle = [] }
-outcome none s c room =
+outcome (Some r) s c room = record { answer = Refused r.number r.place; list = []; cycle = [] }
+outcome None s c room =
     record {
       answer = Cycle (counts (plan s (list_lines c.list)));
       list = c.list ++ c.behind;

@@ -2,7 +2,7 @@
 -- and lent buffers.
 -- Assumes nothing.
 use Rattle.std.specs.Prelude.{◌≡◌, ℕ, suc, ◌*◌, true, false, List, [], ◌∷◌, ◌++◌, leb, ltb, eqb, drop}
-use Rattle.std.proofs.Math.Option.{none}
+use Rattle.std.specs.Prelude.{None}
 use Rattle.columns.specs.Lists.{every, any, onto}
 use Rattle.columns.specs.PrintedNumbers.{blanks}
 use Rattle.buckets.specs.declared.Line.{Line}
@@ -44,7 +44,7 @@ pub record Kept (s : Settings) (buffer : List ℕ) (c : Change) (room : ℕ) (o 
 pub record UpToDate (s : Settings) (buffer : List ℕ) (lines : ℕ) (given : List ℕ) (c : Change) (room : ℕ) : Type 0 where
   -- where 1 to 4, 15 and 16 do not hold, the call is refused exactly as building the changed list is
   pub as_built :
-      first_refusal (given_conditions s buffer lines given ++ c.own ∷ []) ≡ none →
+      first_refusal (given_conditions s buffer lines given ++ c.own ∷ []) ≡ None →
       first_refusal (conditions s buffer lines given c room) ≡ first_refusal (building.conditions s c.list room)
   -- and where it is not refused, all is kept up to date
   pub kept :

@@ -2,7 +2,7 @@
 -- cycle as bytes.
 -- Assumes nothing.
 use Rattle.std.specs.Prelude.{ℕ, suc, ◌+◌, ◌-◌, ◌*◌, Bool, ◌&&◌, List, [], ◌∷◌, map, leb, eqb, length, take, drop}
-use Rattle.std.proofs.Math.Option.{Option, none, some}
+use Rattle.std.specs.Prelude.{Option, None, Some}
 use Rattle.columns.specs.Lists.{pick, joined, range}
 use Rattle.buckets.specs.declared.Line.{Line}
 use Rattle.buckets.specs.Lengths.{bucket_length}
@@ -46,7 +46,7 @@ first_pair last to_cycle = record { tag = last; distance = to_cycle }
 unfoldable pub later_pair : Plan → List Slot → Slot → ℕ → Pair
 later_pair t rest x j =
     record {
-      tag = some (largest_tag t j (above t.n (x.level - j) x.place));
+      tag = Some (largest_tag t j (above t.n (x.level - j) x.place));
       distance = to_next rest (j - 1) (above t.n (x.level - (j - 1)) x.place);
     }
 
@@ -88,7 +88,7 @@ bucket_of t size position last x rest =
 
 -- the tag of the last line sent, behind bucket x
 unfoldable pub last_sent : Plan → Slot → Option ℕ → Option ℕ
-last_sent t x last = pick (is_data t x) (some (last_tag t x.place)) last
+last_sent t x last = pick (is_data t x) (Some (last_tag t x.place)) last
 
 -- the buckets from a position on
 abbrev pub buckets_from : Plan → ℕ → ℕ → Option ℕ → List Slot → List Bucket
@@ -98,7 +98,7 @@ buckets_from t size position last (x ∷ rest) =
 
 -- the cycle
 unfoldable pub buckets : Plan → List Bucket
-buckets t = buckets_from t (length (slots t)) 0 none (slots t)
+buckets t = buckets_from t (length (slots t)) 0 None (slots t)
 
 -- the first position of bucket j of level i in the cycle
 unfoldable pub first_place : Plan → ℕ → ℕ → ℕ

@@ -2,7 +2,7 @@
 -- Nothing is written.
 -- Assumes nothing.
 use Rattle.std.specs.Prelude.{ℕ, zero, suc, ◌+◌, ◌-◌, ◌*◌, ◌^◌, max, List, [], ◌∷◌, eqb, length}
-use Rattle.std.proofs.Math.Option.{Option, none, some}
+use Rattle.std.specs.Prelude.{Option, None, Some}
 use Rattle.columns.specs.Lists.{pick, up}
 use Rattle.buckets.specs.ListLine.{list_lines}
 use Rattle.cycle.specs.Refusals.{Refusal, Condition, first_refusal}
@@ -64,8 +64,8 @@ numbers (Refused number place) = number ∷ place ∷ []
 
 -- a refusal, else the figures
 abbrev pub judged : Option Refusal → Figures → Judged
-judged (some r) f = Refused r.number r.place
-judged none f = Cycle f
+judged (Some r) f = Refused r.number r.place
+judged None f = Cycle f
 
 -- a list and settings judged, for a buffer with room for `room` bytes
 unfoldable pub judge : Settings → List ℕ → ℕ → Judged

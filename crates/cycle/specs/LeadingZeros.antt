@@ -2,7 +2,7 @@
 -- (`ListLine.blanked_list`), for every list, settings and room.
 -- Assumes nothing.
 use Rattle.std.specs.Prelude.{◌≡◌, ℕ, ◌%◌, ◌≤◌, List, length}
-use Rattle.std.proofs.Math.Option.{none}
+use Rattle.std.specs.Prelude.{None}
 use Rattle.columns.specs.Lists.{joined}
 use Rattle.buckets.specs.Lengths.{line_length}
 use Rattle.buckets.specs.ListLine.{print_line, list_lines, blanked_list}
@@ -24,4 +24,4 @@ pub record LeadingZeros : Type 0 where
   -- every line has the same four numbers as before
   pub same_numbers_lem : (list : List ℕ) → list_lines (blanked_list list) ≡ list_lines list
   -- and where no line is misprinted each number stands as on air, without leading zeros, zero as one 0
-  pub printed_plain : (list : List ℕ) → length list % line_length ≡ 0 → (line_misprinted list).holds ≡ none → blanked_list list ≡ joined print_line (list_lines list)
+  pub printed_plain : (list : List ℕ) → length list % line_length ≡ 0 → (line_misprinted list).holds ≡ None → blanked_list list ≡ joined print_line (list_lines list)

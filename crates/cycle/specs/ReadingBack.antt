@@ -2,7 +2,7 @@
 -- demand 2 of it.
 -- Assumes nothing.
 use Rattle.std.specs.Prelude.{ℕ, ◌/◌, ◌%◌, ◌≤◌, ◌<◌, ◌≡◌, Bool, true, false, ◌&&◌, not, List, [], ◌∷◌, leb, eqb, length}
-use Rattle.std.proofs.Math.Option.{Option, none, some}
+use Rattle.std.specs.Prelude.{Option, None, Some}
 use Rattle.columns.specs.Lists.{joined, parts, same}
 use Rattle.buckets.specs.declared.Line.{Line}
 use Rattle.buckets.specs.Lengths.{line_length, bucket_length, buckets_most}
@@ -78,8 +78,8 @@ abbrev pub refused : ℕ → ℕ → Outcome
 refused number place = record { answer = Refused number place; output = [] }
 
 abbrev pub outcome : Option Refusal → List ℕ → Outcome
-outcome (some r) list = refused r.number r.place
-outcome none list = handed list
+outcome (Some r) list = refused r.number r.place
+outcome None list = handed list
 
 -- reading an image back into a lent buffer, which has room for `room` bytes
 unfoldable pub read_back : Settings → List ℕ → ℕ → Outcome

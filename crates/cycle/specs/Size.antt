@@ -2,7 +2,7 @@
 -- agree with what building a list of that many lines gives.
 -- Assumes nothing.
 use Rattle.std.specs.Prelude.{◌≡◌, ℕ, ◌+◌, ◌*◌, ◌≤◌, ◌<◌, min, max, not, List, [], ◌∷◌, length}
-use Rattle.std.proofs.Math.Option.{Option, none, some}
+use Rattle.std.specs.Prelude.{Option, None, Some}
 use Rattle.buckets.specs.Lengths.{line_length}
 use Rattle.buckets.specs.ListLine.{list_lines, few_lines}
 use Rattle.cycle.specs.Refusals.{Refusal, Condition, row, first_refusal}
@@ -44,8 +44,8 @@ numbers (Cycle f) = 0 ∷ 0 ∷ f.k ∷ f.d ∷ f.n ∷ f.bytes ∷ f.heard ∷ 
 numbers (Refused number place) = number ∷ place ∷ []
 
 abbrev pub outcome : Option Refusal → Dimensions → Sized
-outcome (some r) f = Refused r.number r.place
-outcome none f = Cycle f
+outcome (Some r) f = Refused r.number r.place
+outcome None f = Cycle f
 
 -- "From a number of lines, the settings and a number C": lines is the one, c the other
 unfoldable pub size : Settings → ℕ → ℕ → Sized
@@ -56,8 +56,8 @@ size s lines c = outcome (first_refusal (conditions s lines)) (dimensions (plan_
 -- a list of that many lines, of which building refuses none: 3 and 4 do not hold
 pub record Listed (lines : ℕ) (list : List ℕ) : Type 0 where
   pub count : length list ≡ line_length * lines
-  pub printed : (line_misprinted list).holds ≡ none
-  pub rising : (tag_falls list).holds ≡ none
+  pub printed : (line_misprinted list).holds ≡ None
+  pub rising : (tag_falls list).holds ≡ None
 
 -- what building a list answers into a buffer with room for `room` bytes, by its numbers
 abbrev pub built : Settings → List ℕ → ℕ → List ℕ

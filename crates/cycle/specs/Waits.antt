@@ -2,7 +2,7 @@
 -- places of its buckets. No hearing is run to tell it; that hearings take as long is stated in `Mean` of `listener`.
 -- Assumes nothing.
 use Rattle.std.specs.Prelude.{ℕ, ◌+◌, ◌-◌, ◌*◌, ◌/◌, Bool, List, [], ◌∷◌, eqb, length, get_or}
-use Rattle.std.proofs.Math.Option.{Option, none, some}
+use Rattle.std.specs.Prelude.{Option, None, Some}
 use Rattle.columns.specs.Lists.{pick, any, only, last_or, range, least}
 use Rattle.buckets.specs.declared.Line.{Line}
 use Rattle.buckets.specs.ListLine.{list_lines}
@@ -94,8 +94,8 @@ numbers (Sum w) = 0 ∷ 0 ∷ w.n ∷ w.tags ∷ w.sum ∷ []
 numbers (Refused number place) = number ∷ place ∷ []
 
 abbrev pub outcome : Option Refusal → WaitSum → Waited
-outcome (some r) w = Refused r.number r.place
-outcome none w = Sum w
+outcome (Some r) w = Refused r.number r.place
+outcome None w = Sum w
 
 unfoldable pub waits : Settings → List ℕ → Waited
 waits s list = outcome (first_refusal (conditions s list)) (wait_sum (plan s (list_lines list)))

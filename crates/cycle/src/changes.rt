@@ -1,6 +1,6 @@
 // Changes of a list that lies in a lent buffer: a line arrives, or one is taken out; and the changed list's cycle.
 ghost use Rattle.std.specs.Prelude.{◌≡◌, true, ◌+◌, ◌-◌, ◌*◌, ◌≤◌, length, take, drop};
-ghost use Rattle.std.proofs.Math.Option.{none};
+ghost use Rattle.std.specs.Prelude.{None};
 ghost use Rattle.columns.specs.Lists.{put};
 ghost use Rattle.buckets.specs.Lengths.{line_columns_width, line_length, lines_most, bucket_length};
 ghost use Rattle.buckets.specs.ListLine.{spelled, taken, list_lines};
@@ -231,7 +231,7 @@ fn arrive_judged(
     copies: u64,
     out: &mut [u8],
 ) -> Changed
-    requires { (first_refusal (given_conditions (settings n p layout copies) buffer.old lines given.now) ≡ none) ×
+    requires { (first_refusal (given_conditions (settings n p layout copies) buffer.old lines given.now) ≡ None) ×
         (plain ≡ true → PlainList (list_in buffer.old lines)) }
     ensures { Changes.Meets (Changes.arrive (settings n p layout copies) buffer.old lines given.now (length out.old))
         result buffer.old buffer.new out.old out.new }
@@ -270,7 +270,7 @@ fn take_out_judged(
     copies: u64,
     out: &mut [u8],
 ) -> Changed
-    requires { (first_refusal (given_conditions (settings n p layout copies) buffer.old lines given.now) ≡ none) ×
+    requires { (first_refusal (given_conditions (settings n p layout copies) buffer.old lines given.now) ≡ None) ×
         (plain ≡ true → PlainList (list_in buffer.old lines)) }
     ensures { Changes.Meets (Changes.take_out (settings n p layout copies) buffer.old lines given.now (length out.old))
         result buffer.old buffer.new out.old out.new }

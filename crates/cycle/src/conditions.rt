@@ -1,6 +1,6 @@
 // The conditions of building, 1 to 7, held against a list and settings; and whether the list is known to have no leading zeros.
 ghost use Rattle.std.specs.Prelude.{◌≡◌, true, false, [], ◌*◌, ◌≤◌, length};
-ghost use Rattle.std.proofs.Math.Option.{none};
+ghost use Rattle.std.specs.Prelude.{None};
 ghost use Rattle.buckets.specs.ListLine.{read_line, cut_lines, list_lines, misprint_from, fall_from};
 ghost use Rattle.buckets.specs.Lengths.{line_length, lines_most};
 ghost use Rattle.buckets.specs.Inner.Columns.{read_plain, PlainList};
@@ -97,7 +97,7 @@ fn tag_read(part: &[u8], plain: bool) -> u64
 fn all_rise(list: &[u8], lines: u64, plain: bool) -> bool
     requires { (length list.now ≡ line_length * lines) × (lines ≤ lines_most) }
     ensures { result ≡ true →
-        (misprint_from 0 (cut_lines list.now) ≡ none) × (fall_from 0 0 (list_lines list.now) ≡ none)
+        (misprint_from 0 (cut_lines list.now) ≡ None) × (fall_from 0 0 (list_lines list.now) ≡ None)
         × (plain ≡ true → PlainList list.now) }
 {
     let mut last = 0;

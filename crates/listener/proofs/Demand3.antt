@@ -4,7 +4,7 @@ use mathlib.Core.Path.{◌≡◌, sym, ◌∙◌, ap, subst}
 use mathlib.Core.Logic.{⊎_elim}
 use Prim.Native.Nat.{ℕ, zero, suc, ◌+◌, ◌*◌, ◌/◌, ◌%◌, ◌≤◌, ◌<◌}
 use mathlib.Core.Bool.{true, false, not}
-use mathlib.Core.Option.{some}
+use Rattle.std.specs.Prelude.{Some}
 use mathlib.Core.List.{List, []}
 use native.Mathlib.Nat.{add_comm, mod-eq_of_lt, mod_self, mod-lt, mod-add-mod}
 use native.Mathlib.Numerals.{add-one}
@@ -37,7 +37,7 @@ use Rattle.listener.proofs.OnAir.{demand_3_on_air}
 
 -- ---- a cycle repeated
 
-module _ (c : Sending) (some : 0 < c.n) where
+module _ (c : Sending) (Some : 0 < c.n) where
   -- all cycles are the same
   abbrev same : Air
   same = λ x. c
@@ -53,10 +53,10 @@ module _ (c : Sending) (some : 0 < c.n) where
       (le_or_lt c.n (suc x))
 
   position_is : (x : ℕ) → (place_at same x).position ≡ x % c.n
-  position_is zero = sym (mod-eq_of_lt some)
+  position_is zero = sym (mod-eq_of_lt Some)
   position_is (suc x) =
       let p : AirPlace = place_at same x in
-      next_position p.position (rw (position_is x) (mod-lt x some)) p.cycle ∙
+      next_position p.position (rw (position_is x) (mod-lt x Some)) p.cycle ∙
       (ap (λ y. suc y % c.n) (position_is x) ∙
       (ap (λ y. y % c.n) (sym (add-one (x % c.n))) ∙ (mod-add-mod x c.n 1 ∙ ap (λ y. y % c.n) (add-one x))))
 
@@ -77,7 +77,7 @@ past_tests c tune space f w l = rw (w, lt-leb (c / 240) tune l)
 -- the run beside a hearing that comes to its end
 pub run_beside :
     (image : List ℕ) (n tag tune m : ℕ) (strays : ℕ → List ℕ) (e : End) → tune < n →
-    end_of (hearing (repeated image n) strays tag tune m) ≡ some e →
+    end_of (hearing (repeated image n) strays tag tune m) ≡ Some e →
     refused_before_end (hearing (repeated image n) strays tag tune m) ≡ false →
     whole_run image n tag tune ≡
     finish e (listener_after (start tag) (hearing (repeated image n) strays tag tune m)) (lines_got (hearing (repeated image n) strays tag tune m))
@@ -135,7 +135,7 @@ module _ (c : Sending) (accepted : Accepted c) (tag tune : ℕ) (early : tune < 
       (on_air_repeated c (omega arith)) (h.demand_3 m strays)
 
   looked :
-      (space : ℕ) (e : End) → end_of log ≡ some e →
+      (space : ℕ) (e : End) → end_of log ≡ Some e →
       lookup (image_of c) tag tune space ≡ concluded space (finish e (listener_after (start tag) log) (lines_got log))
   unfolding log
   looked space e ended =

@@ -2,7 +2,7 @@
 -- Assumes nothing.
 use mathlib.Core.Path.{◌≡◌, sym, ◌∙◌, ap, subst}
 use Prim.Native.Nat.{ℕ, ◌+◌, ◌<◌}
-use mathlib.Core.Option.{some}
+use Rattle.std.specs.Prelude.{Some}
 use mathlib.Core.List.{List}
 use native.Mathlib.Nat.{mod-eq_of_lt, add-mod_left}
 use native.Mathlib.Omega.{arith}
@@ -40,7 +40,7 @@ module _ (t : Plan) (image : List ℕ) (fits : AcceptedPlan t) (reads : CycleOf 
   way (in_second w inside z) = subst (WalkTo sends t tag tune) (sym z) w
 
   pub ends_there :
-      (m : ℕ) (strays : ℕ → List ℕ) (e : End) → end_of (hearing (repeated image (cycle_size t)) strays tag tune m) ≡ some e →
+      (m : ℕ) (strays : ℕ → List ℕ) (e : End) → end_of (hearing (repeated image (cycle_size t)) strays tag tune m) ≡ Some e →
       tune + elapsed_in (hearing (repeated image (cycle_size t)) strays tag tune m) ≡ end_place t tag tune + 1
   ends_there m strays e ended = (told sends tag tune early (way (hears sends tag tune early)) m strays).ends_at e ended
 
@@ -49,7 +49,7 @@ end_place_lem s list room n built tag tune early m strays e =
     let c : BuiltCycle (plan s (list_lines list)) (build s list room).output n = built_cycle s list room n built in
     subst
     (λ z.
-    end_of (hearing (repeated (build s list room).output z) strays tag tune m) ≡ some e →
+    end_of (hearing (repeated (build s list room).output z) strays tag tune m) ≡ Some e →
     tune + elapsed_in (hearing (repeated (build s list room).output z) strays tag tune m) ≡
     end_place (plan s (list_lines list)) tag tune + 1)
     (sym c.size_is)

@@ -2,7 +2,7 @@
 -- Assumes nothing.
 use mathlib.Core.Path.{◌≡◌, sym, ap, ◌∙◌}
 use Prim.Native.Nat.{ℕ, ◌*◌, ◌≤◌, ◌<◌}
-use mathlib.Core.Option.{none}
+use Rattle.std.specs.Prelude.{None}
 use mathlib.Core.List.{List}
 use native.Mathlib.Nat.{mul-le-mul, mul_assoc, mul_comm, div-add-mod', mod-lt}
 use native.Mathlib.Omega.{arith}
@@ -19,7 +19,7 @@ use Rattle.listener.proofs.Means.Sums.{total_most, range_most}
 use Rattle.listener.proofs.Means.Waits.{some_tag, some_bucket, wait_ends, wait_most}
 use Rattle.listener.proofs.EndPlace.{end_place_lem}
 
-module _ (s : Settings) (list : List ℕ) (passed : first_refusal (conditions s list) ≡ none) where
+module _ (s : Settings) (list : List ℕ) (passed : first_refusal (conditions s list) ≡ None) where
   abbrev n : ℕ
   n = cycle_size (plan s (list_lines list))
 

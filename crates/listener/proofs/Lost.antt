@@ -3,7 +3,7 @@
 use mathlib.Core.Path.{◌≡◌, refl, sym, ◌∙◌, ap, subst}
 use Prim.Native.Nat.{ℕ, zero, suc, ◌+◌, ◌-◌, ◌*◌, ◌≤◌, ◌<◌}
 use mathlib.Core.Bool.{Bool, true, false}
-use mathlib.Core.Option.{Option, none, some}
+use Rattle.std.specs.Prelude.{Option, None, Some}
 use mathlib.Core.List.{List, []}
 use native.Mathlib.Nat.{zero-add, add-mul, one-mul}
 use native.Mathlib.Omega.{arith}
@@ -181,11 +181,11 @@ module _ (air : Air) (accepted : (c : ℕ) → Accepted (air c)) where
             (start_awaits t.on.n tag t.position t.on.bucket (start tag) t.early refl refl refl) marks (λ h. tunings))
 
         -- an end is right at its place
-        right_at : (x : End) → end_of (steps log) ≡ some x → EndsAt Right 1 tune [] x log
+        right_at : (x : End) → end_of (steps log) ≡ Some x → EndsAt Right 1 tune [] x log
         unfolding start
         right_at x ended = told.ends [] first.right x ended
 
-        cycle_is : (x : End) (ended : end_of (steps log) ≡ some x) → (place_at air (right_at x ended).place).cycle ≡ end_cycle air tune log
+        cycle_is : (x : End) (ended : end_of (steps log) ≡ Some x) → (place_at air (right_at x ended).place).cycle ≡ end_cycle air tune log
         unfolding end_cycle
         cycle_is x ended =
             let e : (right_at x ended).place ≡ tune + elapsed_in (steps log) - 1 =
@@ -269,9 +269,9 @@ module _ (c : Sending) (accepted : Accepted c) (tag tune : ℕ) (early : tune < 
 
   end_by_lem :
       (o : Option End) → end_of (steps heard) ≡ o → (lost_in heard + 1) * limit_of c tag ≤ length marks →
-      end_of (steps heard) ≡ some (end_wanted (lines_wanted c.list tag))
+      end_of (steps heard) ≡ Some (end_wanted (lines_wanted c.list tag))
   unfolding marked_hearing
-  end_by_lem none e long =
+  end_by_lem None e long =
       absurd
       (omega (
         arith,
@@ -280,7 +280,7 @@ module _ (c : Sending) (accepted : Accepted c) (tag tune : ℕ) (early : tune < 
         length_marked (on_air (always c)) strays (start tag) (at tune) marks,
         long,
       ))
-  end_by_lem (some x) e long = e ∙ ap some (on_changing.end_right x e)
+  end_by_lem (Some x) e long = e ∙ ap Some (on_changing.end_right x e)
 
   of_unchanged : Demand3Lost c tag tune (length marks) heard
   unfolding start

@@ -2,7 +2,7 @@
 -- 8, 9 and 10. On air, cycle 0 is the sample yard's list with r 1, N 12; from cycle 1 on it is P11's list with r 2, N 18.
 -- Assumes nothing.
 use Rattle.std.specs.Prelude.{ℕ, zero, suc, ◌*◌, List, [], ◌∷◌, ◌++◌, map}
-use Rattle.std.proofs.Math.Option.{Option, none, some}
+use Rattle.std.specs.Prelude.{Option, None, Some}
 use Rattle.columns.specs.Lists.{range}
 use Rattle.buckets.specs.Lengths.{bucket_length}
 use Rattle.buckets.specs.Bucket.{Bucket, index_body, print_bucket}
@@ -25,9 +25,9 @@ air (suc c) =
 
 -- an end's number, 0 where none has come
 abbrev pub end_number : Option End → ℕ
-end_number none = 0
-end_number (some found) = 1
-end_number (some absent) = 2
+end_number None = 0
+end_number (Some found) = 1
+end_number (Some absent) = 2
 
 -- the hearing of 12 steps from tune-in t on: its end (1 found, 2 absent), heard, elapsed, and behind them the tags of the lines
 -- got; after the end no bytes are given
@@ -48,7 +48,7 @@ bucket position to_cycle to_segment pairs entries =
       position = position;
       to_cycle = to_cycle;
       to_segment = to_segment;
-      body = index_body (map (λ d. record { tag = none; distance = d }) pairs) (map (λ d. record { tag = 5; distance = d }) entries);
+      body = index_body (map (λ d. record { tag = None; distance = d }) pairs) (map (λ d. record { tag = 5; distance = d }) entries);
     }
 
 -- the answers of a listener that is given buckets one after the other

@@ -2,7 +2,7 @@
 -- `OnAir` where all cycles are the same.
 -- Assumes nothing.
 use Rattle.std.specs.Prelude.{◌≡◌, ℕ, ◌+◌, ◌*◌, ◌≤◌, ◌<◌, Bool, true, false, List, [], ◌∷◌, length, drop}
-use Rattle.std.proofs.Math.Option.{some}
+use Rattle.std.specs.Prelude.{Some}
 use Rattle.columns.specs.Lists.{joined, every, same}
 use Rattle.buckets.specs.Lengths.{line_length}
 use Rattle.buckets.specs.declared.Line.{Line}
@@ -49,11 +49,11 @@ pub record Demand3 (s : Settings) (list image : List ℕ) (n tag tune m : ℕ) (
   pub elapsed_limit : tune + elapsed_in log ≤ 2 * n
   pub unrefused : refused_before_end log ≡ false
   -- "By step 2 + k + max(1, C) the end has come"
-  pub end_come : heard_limit s list tag ≤ m → end_of log ≡ some (end_wanted (lines_wanted list tag))
+  pub end_come : heard_limit s list tag ≤ m → end_of log ≡ Some (end_wanted (lines_wanted list tag))
   -- whenever it has come, it is "absent" exactly when the list has no line of the tag, else "found", "and the lines it got
   -- are all the list's lines of that tag and no others, in list order"
-  pub end_right : (e : End) → end_of log ≡ some e → e ≡ end_wanted (lines_wanted list tag)
-  pub lines_right : (e : End) → end_of log ≡ some e → lines_got log ≡ lines_wanted list tag
+  pub end_right : (e : End) → end_of log ≡ Some e → e ≡ end_wanted (lines_wanted list tag)
+  pub lines_right : (e : End) → end_of log ≡ Some e → lines_got log ≡ lines_wanted list tag
   -- "Both counts are the listener's own and equal those of the steps."
   pub heard_own : (listener_after (start tag) log).heard ≡ heard_in log
   pub elapsed_own : (listener_after (start tag) log).elapsed ≡ elapsed_in log
@@ -63,14 +63,14 @@ pub record Demand3 (s : Settings) (list image : List ℕ) (n tag tune m : ℕ) (
   -- "A lookup over that cycle gives the same end, lines and counts, or is refused by 7 exactly if its buffer is too short for
   -- the lines."
   pub lookup_found :
-      (space : ℕ) → end_of log ≡ some found → line_length * length (lines_got log) ≤ space →
+      (space : ℕ) → end_of log ≡ Some found → line_length * length (lines_got log) ≤ space →
       Looks image tag tune space (0 ∷ 0 ∷ 1 ∷ heard_in log ∷ elapsed_in log ∷ length (lines_got log) ∷ [])
       (joined print_line (lines_got log))
   pub lookup_short :
-      (space : ℕ) → end_of log ≡ some found → space < line_length * length (lines_got log) →
+      (space : ℕ) → end_of log ≡ Some found → space < line_length * length (lines_got log) →
       Looks image tag tune space (7 ∷ 0 ∷ 0 ∷ 0 ∷ 0 ∷ 0 ∷ []) []
   pub lookup_absent :
-      (space : ℕ) → end_of log ≡ some absent →
+      (space : ℕ) → end_of log ≡ Some absent →
       Looks image tag tune space (0 ∷ 0 ∷ 2 ∷ heard_in log ∷ elapsed_in log ∷ 0 ∷ []) []
 
 -- "For any list and settings the builder accepts, any tag and any tune-in t from 0 to N - 1, the cycle repeated unchanged

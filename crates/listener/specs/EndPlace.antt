@@ -4,7 +4,7 @@
 -- is the start of the coming one, and place x of that is N + x.
 -- Assumes nothing.
 use Rattle.std.specs.Prelude.{◌≡◌, ℕ, suc, ◌+◌, ◌-◌, ◌<◌, max, Bool, List, [], ◌∷◌, leb, ltb, drop}
-use Rattle.std.proofs.Math.Option.{some}
+use Rattle.std.specs.Prelude.{Some}
 use Rattle.columns.specs.Lists.{pick, least}
 use Rattle.buckets.specs.ListLine.{list_lines}
 use Rattle.cycle.specs.Tree.{Settings, Plan, plan, last_tag}
@@ -55,6 +55,6 @@ abbrev pub EveryEnd : Type 0
 EveryEnd =
     (s : Settings) (list : List ℕ) (room n : ℕ) → Building.numbers (build s list room).answer ≡ 0 ∷ 0 ∷ n ∷ [] →
     (tag tune : ℕ) → tune < n →
-    (m : ℕ) (strays : ℕ → List ℕ) (e : End) → end_of (hearing (repeated (build s list room).output n) strays tag tune m) ≡ some e →
+    (m : ℕ) (strays : ℕ → List ℕ) (e : End) → end_of (hearing (repeated (build s list room).output n) strays tag tune m) ≡ Some e →
     tune + elapsed_in (hearing (repeated (build s list room).output n) strays tag tune m) ≡
     end_place (plan s (list_lines list)) tag tune + 1

@@ -2,7 +2,7 @@
 -- its lines.
 -- Assumes nothing.
 use Rattle.std.specs.Prelude.{ℕ, zero, suc, ◌+◌, ◌%◌, Bool, true, false, List, [], ◌∷◌, ◌++◌, eqb, length}
-use Rattle.std.proofs.Math.Option.{Option, none, some}
+use Rattle.std.specs.Prelude.{Option, None, Some}
 use Rattle.columns.specs.Lists.{pick, any, parts, up}
 use Rattle.buckets.specs.declared.Line.{Line}
 use Rattle.cycle.specs.Cycle.{bucket_at}
@@ -61,12 +61,12 @@ pub data End : Type 0 where
 
 abbrev pub end_by : Answer → Option End → Option End
 end_by (Doze d) later = later
-end_by Found later = some found
-end_by Absent later = some absent
+end_by Found later = Some found
+end_by Absent later = Some absent
 end_by (Refused number) later = later
 
 abbrev pub end_of : List Taken → Option End
-end_of [] = none
+end_of [] = None
 end_of (x ∷ xs) = end_by x.outcome.answer (end_of xs)
 
 -- the steps up to the end, that one in

@@ -2,7 +2,7 @@
 -- and 10 in that order, and what it makes of a lost bucket.
 -- Assumes nothing.
 use Rattle.std.specs.Prelude.{ℕ, suc, ◌+◌, min, Bool, true, false, ◌&&◌, ◌||◌, not, List, [], ◌∷◌, ◌++◌, map, leb, ltb, eqb, length, take, drop}
-use Rattle.std.proofs.Math.Option.{Option, none, some}
+use Rattle.std.specs.Prelude.{Option, None, Some}
 use Rattle.columns.specs.Lists.{pick, only, last_or}
 use Rattle.buckets.specs.declared.Line.{Line}
 use Rattle.buckets.specs.Bucket.{Pair, Entry, Body, index_body, data_body, Bucket, cycle_length, read_bucket}
@@ -47,8 +47,8 @@ entry_choice tag (e ∷ es) = pick (leb tag e.tag) (dozes e.distance Either 0 0)
 
 -- the tag of a later pair is always printed
 abbrev pub tag_below : Option ℕ → ℕ → Bool
-tag_below none tag = false
-tag_below (some x) tag = ltb x tag
+tag_below None tag = false
+tag_below (Some x) tag = ltb x tag
 
 -- "Else follow the first later pair whose tag is below ours."; "after a pointer or pair, an index bucket"
 abbrev pub later_choice : ℕ → List Pair → List Entry → Choice
@@ -57,8 +57,8 @@ later_choice tag (p ∷ ps) es = pick (tag_below p.tag tag) (dozes p.distance In
 
 -- "if the first pair's tag is printed and our tag is at most it"
 abbrev pub at_most : ℕ → Option ℕ → Bool
-at_most tag none = false
-at_most tag (some x) = leb tag x
+at_most tag None = false
+at_most tag (Some x) = leb tag x
 
 -- "Index bucket: if .., follow the pair. Else .."
 abbrev pub index_choice : ℕ → List Pair → List Entry → Choice
@@ -223,8 +223,8 @@ heed s b = pick (awaited s b) (decided s b (choice s.phase s.tag b)) (refused s 
 
 -- 8: "bucket not 240 bytes, or misprinted"
 abbrev pub heed_read : Listener → Option Bucket → Stepped
-heed_read s none = refused s 8
-heed_read s (some b) = heed s b
+heed_read s None = refused s 8
+heed_read s (Some b) = heed s b
 
 -- "A step: 14, 8, 9, 10." 14: "bucket given to an ended listener"
 unfoldable pub step : Listener → List ℕ → Stepped

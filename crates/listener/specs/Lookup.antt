@@ -1,7 +1,7 @@
 -- Document 01, "The listener", second paragraph: a lookup, with the conditions 11, 12, the steps' own and 7 in that order.
 -- Assumes nothing.
 use Rattle.std.specs.Prelude.{ℕ, zero, suc, ◌+◌, ◌*◌, ◌/◌, ◌%◌, List, [], ◌∷◌, ◌++◌, leb, length}
-use Rattle.std.proofs.Math.Option.{Option, none, some}
+use Rattle.std.specs.Prelude.{Option, None, Some}
 use Rattle.columns.specs.Lists.{joined}
 use Rattle.buckets.specs.Lengths.{bucket_length, line_length}
 use Rattle.buckets.specs.declared.Line.{Line}
@@ -71,9 +71,9 @@ tune_in_out image t = row 12 (leb (length image / bucket_length) t)
 
 -- "the steps' own", by which the run ended; "in a lookup's 8 to 10 the image position of the bucket just heard"
 abbrev pub step_refused : Finish → Condition
-step_refused (found s got) = row_at 0 none
-step_refused (absent s) = row_at 0 none
-step_refused (refused number place) = row_at number (some place)
+step_refused (found s got) = row_at 0 None
+step_refused (absent s) = row_at 0 None
+step_refused (refused number place) = row_at number (Some place)
 
 -- those of a run, which has no buffer: 11, 12, the steps' own
 unfoldable pub run_conditions : List ℕ → ℕ → Finish → List Condition
@@ -90,8 +90,8 @@ conditions image t room f =
 -- ---- a run's outcome
 
 abbrev pub refused_or : Option Refusal → Finish → Finish
-refused_or (some r) f = refused r.number r.place
-refused_or none f = f
+refused_or (Some r) f = refused r.number r.place
+refused_or None f = f
 
 unfoldable pub run_over : List ℕ → ℕ → ℕ → Finish
 run_over image tag t =
@@ -131,14 +131,14 @@ refuse number place = record { answer = TheVariants.Refused number place; output
 -- "On found it writes the matching lines to a lent buffer, each as a 27-byte list line, and returns heard, elapsed and the
 -- number of lines."; "On absent it writes nothing and returns 0 lines"
 abbrev pub outcome : Option Refusal → Finish → Outcome
-outcome (some r) f = refuse r.number r.place
-outcome none (found s got) =
+outcome (Some r) f = refuse r.number r.place
+outcome None (found s got) =
     record {
       answer = TheVariants.Found s.heard s.elapsed (length got);
       output = joined print_line got;
     }
-outcome none (absent s) = record { answer = TheVariants.Absent s.heard s.elapsed; output = [] }
-outcome none (refused number place) = refuse number place
+outcome None (absent s) = record { answer = TheVariants.Absent s.heard s.elapsed; output = [] }
+outcome None (refused number place) = refuse number place
 
 -- a lookup with a buffer that has room for `room` bytes
 unfoldable pub lookup : List ℕ → ℕ → ℕ → ℕ → Outcome

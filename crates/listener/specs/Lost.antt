@@ -1,7 +1,7 @@
 -- Document 02, C-16: hearings in which any buckets may be lost, over what is on air, and what demand 3 says of them.
 -- Assumes nothing.
 use Rattle.std.specs.Prelude.{◌≡◌, ℕ, ◌+◌, ◌-◌, ◌*◌, ◌≤◌, ◌<◌, Bool, true, false, List, [], ◌∷◌, ◌++◌, map, length, take, drop, replicate}
-use Rattle.std.proofs.Math.Option.{some}
+use Rattle.std.specs.Prelude.{Some}
 use Rattle.columns.specs.Lists.{pick, every}
 use Rattle.buckets.specs.declared.Line.{Line}
 use Rattle.listener.specs.Listener.{start, step, lost, stopped, named}
@@ -87,10 +87,10 @@ pub record Demand3Lost (c : Sending) (tag tune m : ℕ) (log : List Marked) : Ty
   -- "and ends within (q + 1) × 2N", less the buckets of tune-in's cycle before tune-in, as in demand 3
   pub elapsed_limit : tune + elapsed_in (steps log) ≤ (lost_in log + 1) * (2 * c.n)
   -- by step (q + 1) × (2 + k + max(1, C)) the end has come
-  pub end_come : (lost_in log + 1) * limit_of c tag ≤ m → end_of (steps log) ≡ some (end_wanted (lines_wanted c.list tag))
+  pub end_come : (lost_in log + 1) * limit_of c tag ≤ m → end_of (steps log) ≡ Some (end_wanted (lines_wanted c.list tag))
   -- whenever it has come, "it still gets its exact lines or a true absence"
-  pub end_right : (x : End) → end_of (steps log) ≡ some x → x ≡ end_wanted (lines_wanted c.list tag)
-  pub lines_right : (x : End) → end_of (steps log) ≡ some x → lines_since log ≡ lines_wanted c.list tag
+  pub end_right : (x : End) → end_of (steps log) ≡ Some x → x ≡ end_wanted (lines_wanted c.list tag)
+  pub lines_right : (x : End) → end_of (steps log) ≡ Some x → lines_since log ≡ lines_wanted c.list tag
   pub well : WellHeard tag log
 
 -- For any list and settings the builder accepts, any tag, any tune-in, any number of steps and any marks: strays are the bytes
@@ -108,8 +108,8 @@ end_cycle air tune log = (place_at air (tune + elapsed_in (steps log) - 1)).cycl
 
 -- What remains true of it: "A display's lines, or its absence, are those of the list in whose cycle it ends."
 pub record LostOnAir (air : Air) (tag tune : ℕ) (log : List Marked) : Type 0 where
-  pub end_right : (x : End) → end_of (steps log) ≡ some x → x ≡ end_wanted (lines_wanted (air (end_cycle air tune log)).list tag)
-  pub lines_right : (x : End) → end_of (steps log) ≡ some x → lines_since log ≡ lines_wanted (air (end_cycle air tune log)).list tag
+  pub end_right : (x : End) → end_of (steps log) ≡ Some x → x ≡ end_wanted (lines_wanted (air (end_cycle air tune log)).list tag)
+  pub lines_right : (x : End) → end_of (steps log) ≡ Some x → lines_since log ≡ lines_wanted (air (end_cycle air tune log)).list tag
   pub well : WellHeard tag log
 
 abbrev pub EveryMarkedAir : Type 0

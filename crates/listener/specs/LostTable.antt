@@ -2,7 +2,7 @@
 -- hearings of the sample yard's list with r 1, N 12, in which buckets are lost.
 -- Assumes nothing.
 use Rattle.std.specs.Prelude.{ℕ, ◌*◌, Bool, true, false, List, [], ◌∷◌, ◌++◌, map, replicate}
-use Rattle.std.proofs.Math.Option.{Option, none, some}
+use Rattle.std.specs.Prelude.{Option, None, Some}
 use Rattle.buckets.specs.Lengths.{bucket_length}
 use Rattle.buckets.specs.Bucket.{Bucket, print_bucket}
 use Rattle.listener.specs.Listener.{numbers, start, counting}
@@ -19,8 +19,8 @@ use Rattle.listener.specs.declared.Stepped.{Stepped}
 
 -- what is handed in for a bucket, or for a lost one
 abbrev pub printed : Option Bucket → Option (List ℕ)
-printed none = none
-printed (some b) = some (print_bucket b)
+printed None = None
+printed (Some b) = Some (print_bucket b)
 
 -- its answers one after the other, and then its counts
 abbrev pub answers_from : Listener → List (Option Bucket) → List ℕ
@@ -39,10 +39,10 @@ answers_with heard elapsed xs = answers_from (counting (start 5) heard elapsed) 
 
 -- an index bucket at position 3 of 7, d before the next segment; one that leads tag 5 to the next cycle's start
 unfoldable pub at_three : ℕ → Option Bucket
-at_three d = some (bucket 3 4 d [] [])
+at_three d = Some (bucket 3 4 d [] [])
 
 unfoldable pub round_again : Option Bucket
-round_again = some (bucket 0 7 7 [] (7 ∷ []))
+round_again = Some (bucket 0 7 7 [] (7 ∷ []))
 
 -- ---- a hearing
 
@@ -64,15 +64,15 @@ steps_of m = replicate m false
 
 unfoldable pub table : List (List ℕ)
 table =
-    answers (none ∷ none ∷ []) ∷
-    answers (at_three 2 ∷ none ∷ []) ∷
-    answers (at_three 2 ∷ some (bucket 9 9 1 [] []) ∷ none ∷ []) ∷
-    answers (at_three 2 ∷ none ∷ some (bucket 9 9 1 [] []) ∷ []) ∷
+    answers (None ∷ None ∷ []) ∷
+    answers (at_three 2 ∷ None ∷ []) ∷
+    answers (at_three 2 ∷ Some (bucket 9 9 1 [] []) ∷ None ∷ []) ∷
+    answers (at_three 2 ∷ None ∷ Some (bucket 9 9 1 [] []) ∷ []) ∷
     answers (at_three 4 ∷ round_again ∷ []) ∷
-    answers (at_three 4 ∷ none ∷ at_three 4 ∷ []) ∷
-    answers (at_three 4 ∷ none ∷ at_three 4 ∷ round_again ∷ none ∷ []) ∷
-    answers (none ∷ at_three 5 ∷ none ∷ []) ∷
-    answers_with 4294967294 4294967292 (at_three 2 ∷ none ∷ at_three 4 ∷ round_again ∷ []) ∷
+    answers (at_three 4 ∷ None ∷ at_three 4 ∷ []) ∷
+    answers (at_three 4 ∷ None ∷ at_three 4 ∷ round_again ∷ None ∷ []) ∷
+    answers (None ∷ at_three 5 ∷ None ∷ []) ∷
+    answers_with 4294967294 4294967292 (at_three 2 ∷ None ∷ at_three 4 ∷ round_again ∷ []) ∷
     heard 5 0 (steps_of 8) ∷
     heard 5 0 (lost_behind 6 ++ steps_of 7) ∷
     heard 5 0 (lost_behind 6 ++ (lost_behind 6 ++ steps_of 8)) ∷

@@ -1,7 +1,7 @@
 -- Document 02, C-17, "Mean wait with its remainder": the mean over all hearings, and that each of them takes as long as is added.
 -- Assumes nothing.
 use Rattle.std.specs.Prelude.{◌≡◌, ℕ, ◌+◌, ◌*◌, ◌/◌, ◌%◌, ◌≤◌, ◌<◌, List, [], ◌∷◌, length}
-use Rattle.std.proofs.Math.Option.{Option, none, some}
+use Rattle.std.specs.Prelude.{Option, None, Some}
 use Rattle.columns.specs.Lists.{range}
 use Rattle.buckets.specs.ListLine.{list_lines}
 use Rattle.cycle.specs.Refusals.{Refusal, first_refusal}
@@ -49,8 +49,8 @@ numbers (Mean w) = 0 ∷ 0 ∷ w.sum ∷ w.divisor ∷ w.quotient ∷ w.remainde
 numbers (Refused number place) = number ∷ place ∷ []
 
 abbrev pub outcome : Option Refusal → MeanWait → Averaged
-outcome (some r) w = Refused r.number r.place
-outcome none w = Mean w
+outcome (Some r) w = Refused r.number r.place
+outcome None w = Mean w
 
 -- refused by 1 to 6 as in building, then by 17
 unfoldable pub mean : Settings → List ℕ → Averaged
@@ -67,7 +67,7 @@ pub record Exact (s : Settings) (list : List ℕ) : Type 0 where
       (n ≡ buckets s list) ×
       ((tag tune : ℕ) → tune < n →
       (m : ℕ) (strays : ℕ → List ℕ) (e : End) →
-      end_of (hearing (repeated (build s list room).output n) strays tag tune m) ≡ some e →
+      end_of (hearing (repeated (build s list room).output n) strays tag tune m) ≡ Some e →
       elapsed_in (hearing (repeated (build s list room).output n) strays tag tune m) ≡ wait s list tag tune)
   pub some : 0 < divisor s list
   pub divides : sum_of_waits s list ≡ (mean_wait s list).quotient * divisor s list + (mean_wait s list).remainder
@@ -76,4 +76,4 @@ pub record Exact (s : Settings) (list : List ℕ) : Type 0 where
   pub sum_limit : sum_of_waits s list ≤ 2 * buckets s list * divisor s list
 
 abbrev pub EveryMean : Type 0
-EveryMean = (s : Settings) (list : List ℕ) → first_refusal (conditions s list) ≡ none → Exact s list
+EveryMean = (s : Settings) (list : List ℕ) → first_refusal (conditions s list) ≡ None → Exact s list

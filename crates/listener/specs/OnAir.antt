@@ -2,7 +2,7 @@
 -- of its own.
 -- Assumes nothing.
 use Rattle.std.specs.Prelude.{◌≡◌, ℕ, zero, suc, ◌+◌, ◌-◌, ◌≤◌, ◌<◌, true, false, List, [], ◌∷◌, ltb, drop}
-use Rattle.std.proofs.Math.Option.{some}
+use Rattle.std.specs.Prelude.{Some}
 use Rattle.columns.specs.Lists.{pick, every}
 use Rattle.cycle.specs.Tree.{Settings}
 use Rattle.cycle.specs.Cycle.{bucket_at}
@@ -64,12 +64,12 @@ pub record Demand3OnAir (air : Air) (tag tune e m : ℕ) (log : List Taken) : Ty
   pub elapsed_limit : tune + elapsed_in log ≤ (air 0).n + (air 1).n
   pub unrefused : refused_before_end log ≡ false
   -- "By step 2 + k + max(1, C) the end has come"
-  pub end_come : heard_limit (air e).settings (air e).list tag ≤ m → end_of log ≡ some (end_wanted (lines_wanted (air e).list tag))
+  pub end_come : heard_limit (air e).settings (air e).list tag ≤ m → end_of log ≡ Some (end_wanted (lines_wanted (air e).list tag))
   -- whenever it has come, "A display's lines, or its absence, are those of the list in whose cycle it ends."
-  pub end_right : (x : End) → end_of log ≡ some x → x ≡ end_wanted (lines_wanted (air e).list tag)
-  pub lines_right : (x : End) → end_of log ≡ some x → lines_got log ≡ lines_wanted (air e).list tag
+  pub end_right : (x : End) → end_of log ≡ Some x → x ≡ end_wanted (lines_wanted (air e).list tag)
+  pub lines_right : (x : End) → end_of log ≡ Some x → lines_got log ≡ lines_wanted (air e).list tag
   -- it ends in cycle e: there lies the bucket taken last, elapsed counting tune-in and that one, "both in"
-  pub ends_in : (x : End) → end_of log ≡ some x → (place_at air (tune + elapsed_in log - 1)).cycle ≡ e
+  pub ends_in : (x : End) → end_of log ≡ Some x → (place_at air (tune + elapsed_in log - 1)).cycle ≡ e
   -- "Both counts are the listener's own and equal those of the steps."
   pub heard_own : (listener_after (start tag) log).heard ≡ heard_in log
   pub elapsed_own : (listener_after (start tag) log).elapsed ≡ elapsed_in log

@@ -3,7 +3,7 @@
 -- listeners that are told of lost buckets too.
 -- Assumes nothing.
 use Rattle.std.specs.Prelude.{◌≡◌, ℕ, ◌+◌, ◌*◌, ◌≤◌, true, false, List, [], ◌∷◌, ltb}
-use Rattle.std.proofs.Math.Option.{Option, none, some}
+use Rattle.std.specs.Prelude.{Option, None, Some}
 use Rattle.buckets.specs.Lengths.{buckets_most}
 use Rattle.buckets.specs.Bucket.{Bucket, cycle_length, read_bucket}
 use Rattle.listener.specs.Listener.{step_numbers, start, step, is_ended, count_most, awaited, elapsed_with, past_next_cycle, counting, lost}
@@ -32,8 +32,8 @@ CountsLimited = (tag : ℕ) (given : List (List ℕ)) → Limits (after (start t
 
 -- the tune-in bucket: the first one given, or the one at hand
 abbrev pub read_or : Bucket → Option Bucket → Bucket
-read_or b none = b
-read_or b (some c) = c
+read_or b None = b
+read_or b (Some c) = c
 
 abbrev pub tune_in_bucket : List (List ℕ) → Bucket → Bucket
 tune_in_bucket [] b = b
@@ -43,7 +43,7 @@ tune_in_bucket (bytes ∷ more) b = read_or b (read_bucket bytes)
 -- lies past that cycle and the one after it. "10 counts the new cycle's N": past a start it is the N of the bucket at hand.
 abbrev pub PastByCount : Type 0
 PastByCount =
-    (tag : ℕ) (given : List (List ℕ)) (bytes : List ℕ) (b : Bucket) (d : ℕ) → read_bucket bytes ≡ some b →
+    (tag : ℕ) (given : List (List ℕ)) (bytes : List ℕ) (b : Bucket) (d : ℕ) → read_bucket bytes ≡ Some b →
     awaited (after (start tag) given) b ≡ true → d ≤ b.to_cycle →
     past_next_cycle (after (start tag) given) b d ≡
     ltb (cycle_length (tune_in_bucket given b) + cycle_length b)
@@ -61,8 +61,8 @@ NeverSpent =
 
 -- what is handed in: a bucket's bytes, or none for a lost one
 abbrev pub handed_in : Listener → Option (List ℕ) → Stepped
-handed_in s none = lost s
-handed_in s (some bytes) = step s bytes
+handed_in s None = lost s
+handed_in s (Some bytes) = step s bytes
 
 abbrev pub after_all : Listener → List (Option (List ℕ)) → Listener
 after_all s [] = s

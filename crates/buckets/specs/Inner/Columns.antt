@@ -2,7 +2,7 @@
 -- reading of `ListLine` and `Bucket` is a law.
 -- Assumes nothing.
 use Rattle.std.specs.Prelude.{ℕ, zero, suc, ◌-◌, ◌*◌, ◌≡◌, ◌&&◌, List, [], ◌∷◌, ◌++◌, leb, eqb, length, take, drop, get_or}
-use Rattle.std.proofs.Math.Option.{Option, none, some}
+use Rattle.std.specs.Prelude.{Option, None, Some}
 use Rattle.columns.specs.Lists.{pick, joined, strict}
 use Rattle.columns.specs.PrintedNumbers.{all_blank, read_number, blank_zeros}
 use Rattle.columns.specs.Inner.Places.{places}
@@ -20,12 +20,12 @@ use Rattle.buckets.specs.Lengths.{pairs_start, pairs_width, entries_start, entri
 
 -- a reading that goes on with what the one before it found
 abbrev pub and_then : {A B : Type 0} → Option A → (A → Option B) → Option B
-and_then none k = none
-and_then (some a) k = k a
+and_then None k = None
+and_then (Some a) k = k a
 
 -- a number from low to high
 unfoldable pub number_within : ℕ → ℕ → List ℕ → Option ℕ
-number_within low high s = and_then (read_number s) (λ x. pick (leb low x && leb x high) (some x) none)
+number_within low high s = and_then (read_number s) (λ x. pick (leb low x && leb x high) (Some x) None)
 
 -- a line's columns, its tag at least m
 unfoldable pub read_line_columns : ℕ → List ℕ → Option Line
@@ -37,7 +37,7 @@ read_line_columns m s =
     and_then (number_within 0 code_most (columns code_start code_width s))
     (λ c.
     and_then (number_within 0 weighing_most (columns weighing_start weighing_width s))
-    (λ w. some (record { tag = t; tare = k; code = c; weighing = w })))))
+    (λ w. Some (record { tag = t; tare = k; code = c; weighing = w })))))
 
 -- a list line without leading zeros, read as a bucket's are
 unfoldable pub read_plain : List ℕ → Option Line
@@ -63,16 +63,16 @@ line_places = places (tag_width - 2) ++ rest_places
 unfoldable pub read_entry : ℕ → ℕ → List ℕ → Option Entry
 read_entry n m s =
     and_then (number_within m tag_most (columns tag_start tag_width s))
-    (λ t. and_then (number_within 1 n (columns distance_start place_width s)) (λ d. some (record { tag = t; distance = d })))
+    (λ t. and_then (number_within 1 n (columns distance_start place_width s)) (λ d. Some (record { tag = t; distance = d })))
 
 -- a pair whose tag is blank
 unfoldable pub read_blank_pair : ℕ → List ℕ → Option Pair
 read_blank_pair n s =
-    and_then (number_within 1 n (columns distance_start place_width s)) (λ d. some (record { tag = none; distance = d }))
+    and_then (number_within 1 n (columns distance_start place_width s)) (λ d. Some (record { tag = None; distance = d }))
 
 -- a pair whose tag is printed
 unfoldable pub read_printed_pair : ℕ → List ℕ → Option Pair
-read_printed_pair n s = and_then (read_entry n 0 s) (λ e. some (printed_pair e))
+read_printed_pair n s = and_then (read_entry n 0 s) (λ e. Some (printed_pair e))
 
 -- pair i: only the first one's tag may be blank
 unfoldable pub read_pair : ℕ → ℕ → List ℕ → Option Pair
@@ -80,13 +80,13 @@ read_pair n i s = pick (eqb i 0 && all_blank (columns tag_start tag_width s)) (r
 
 -- c items in w columns each, one behind the other; an item is read by what those before it leave (next), at first m
 abbrev pub read_run : {A : Type 0} → (ℕ → List ℕ → Option A) → (ℕ → A → ℕ) → ℕ → ℕ → ℕ → List ℕ → Option (List A)
-read_run read next w m zero s = some []
+read_run read next w m zero s = Some []
 read_run read next w m (suc c) s =
-    and_then (read m (take w s)) (λ a. and_then (read_run read next w (next m a) c (drop w s)) (λ xs. some (a ∷ xs)))
+    and_then (read m (take w s)) (λ a. and_then (read_run read next w (next m a) c (drop w s)) (λ xs. Some (a ∷ xs)))
 
 -- the same, with the unused columns behind them blank
 unfoldable pub read_items : {A : Type 0} → (ℕ → List ℕ → Option A) → (ℕ → A → ℕ) → ℕ → ℕ → List ℕ → Option (List A)
-read_items read next w c s = pick (all_blank (drop (c * w) s)) (read_run read next w 0 c s) none
+read_items read next w c s = pick (all_blank (drop (c * w) s)) (read_run read next w 0 c s) None
 
 unfoldable pub read_pairs : ℕ → ℕ → List ℕ → Option (List Pair)
 read_pairs n c s = read_items (read_pair n) (λ i p. suc i) entry_width c s
@@ -104,7 +104,7 @@ read_head s =
     and_then (number_within 1 (buckets_most - p) (columns to_cycle_start place_width s))
     (λ c.
     and_then (number_within 1 c (columns to_segment_start place_width s))
-    (λ g. some (record { position = p; to_cycle = c; to_segment = g }))))
+    (λ g. Some (record { position = p; to_cycle = c; to_segment = g }))))
 
 -- behind the head h of an index bucket s
 unfoldable pub read_index : Head → List ℕ → Option Bucket
@@ -118,7 +118,7 @@ read_index h s =
     and_then (read_pairs h.to_cycle k (columns pairs_start pairs_width s))
     (λ ps.
     and_then (read_entries h.to_cycle c (columns entries_start entries_width s))
-    (λ es. some (bucket_with h (index_body ps es)))))))
+    (λ es. Some (bucket_with h (index_body ps es)))))))
 
 -- behind the head h of a data bucket s
 unfoldable pub read_data : Head → List ℕ → Option Bucket
@@ -128,14 +128,14 @@ read_data h s =
     and_then (number_within 0 0 (columns pair_count_start count_width s))
     (λ k.
     and_then (number_within 1 bucket_lines_most (columns item_count_start count_width s))
-    (λ c. and_then (read_lines c (columns lines_start lines_width s)) (λ ls. some (bucket_with h (data_body f ls))))))
+    (λ c. and_then (read_lines c (columns lines_start lines_width s)) (λ ls. Some (bucket_with h (data_body f ls))))))
 
 -- behind the head, by the letter
 unfoldable pub read_by_letter : ℕ → Head → List ℕ → Option Bucket
-read_by_letter x h s = pick (eqb x letter_index) (read_index h s) (pick (eqb x letter_data) (read_data h s) none)
+read_by_letter x h s = pick (eqb x letter_index) (read_index h s) (pick (eqb x letter_data) (read_data h s) None)
 
 unfoldable pub read_fields : List ℕ → Option Bucket
 read_fields s =
     pick (eqb (length s) bucket_length && eqb (get_or s bucket_end 0) newline)
     (and_then (read_head s) (λ h. read_by_letter (get_or s letter_column 0) h s))
-    none
+    None

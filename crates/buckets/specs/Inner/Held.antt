@@ -1,7 +1,7 @@
 -- How the code holds what "A list line" and "A bucket" describe: its structs and enums against those definitions.
 -- Assumes nothing.
 use Rattle.std.specs.Prelude.{◌≡◌, ℕ, ◌+◌, ◌-◌, ◌*◌, ◌<◌, Bool, true, false, List, [], ◌∷◌, ◌++◌, map, length, take, drop, replicate}
-use Rattle.std.proofs.Math.Option.{Option, none, some}
+use Rattle.std.specs.Prelude.{Option, None, Some}
 use Rattle.columns.specs.Lists.{pick, joined, padded}
 use Rattle.columns.specs.PrintedNumbers.{blanks}
 use Rattle.buckets.specs.declared.Line.{Line}
@@ -17,13 +17,13 @@ use Rattle.buckets.specs.Lengths.{pairs_most, entries_most, bucket_lines_most}
 
 -- a reading of a line as the code answers it
 abbrev pub as_line_read : Option Line → LineRead
-as_line_read none = LineMisprinted
-as_line_read (some l) = Read l
+as_line_read None = LineMisprinted
+as_line_read (Some l) = Read l
 
 -- the tag alone of a line that was read, the largest number of 64 bits where none was
 abbrev pub tag_or_misprint : Option Line → ℕ
-tag_or_misprint none = 18446744073709551615
-tag_or_misprint (some l) = l.tag
+tag_or_misprint None = 18446744073709551615
+tag_or_misprint (Some l) = l.tag
 
 -- ---- from the structs
 
@@ -33,13 +33,13 @@ entries_of (t ∷ ts) [] = []
 entries_of (t ∷ ts) (d ∷ ds) = record { tag = t; distance = d } ∷ entries_of ts ds
 
 abbrev pub printed_pair : Entry → Pair
-printed_pair e = record { tag = some e.tag; distance = e.distance }
+printed_pair e = record { tag = Some e.tag; distance = e.distance }
 
 -- pairs with their tags; the first one's tag is blank where the flag says so
 abbrev pub pairs_of : Bool → List Entry → List Pair
 pairs_of blank [] = []
 pairs_of blank (e ∷ es) =
-    record { tag = pick blank none (some e.tag); distance = e.distance } ∷ map printed_pair es
+    record { tag = pick blank None (Some e.tag); distance = e.distance } ∷ map printed_pair es
 
 unfoldable pub index_of : IndexItems → Body
 index_of x =
@@ -57,16 +57,16 @@ unfoldable pub filled : ℕ → List ℕ → List ℕ
 filled w xs = xs ++ replicate (w - length xs) 0
 
 abbrev pub tag_or0 : Option ℕ → ℕ
-tag_or0 none = 0
-tag_or0 (some t) = t
+tag_or0 None = 0
+tag_or0 (Some t) = t
 
 abbrev pub first_blank : List Pair → Bool
 first_blank [] = false
 first_blank (p ∷ ps) = blank_tag p.tag
   where
     blank_tag : Option ℕ → Bool
-    blank_tag none = true
-    blank_tag (some t) = false
+    blank_tag None = true
+    blank_tag (Some t) = false
 
 unfoldable pub held_index : List Pair → List Entry → IndexItems
 held_index ps es =
@@ -102,7 +102,7 @@ held_body h (data_body f ls) =
 
 -- a strict reading of a bucket as the code answers it
 abbrev pub as_reading : Option Bucket → Reading
-as_reading none =
+as_reading None =
     record {
       kind = KindMisprinted;
       head = no_head;
@@ -111,7 +111,7 @@ as_reading none =
       lines = 0;
       tags = replicate bucket_lines_most 0;
     }
-as_reading (some b) = held_body (head_of b) b.body
+as_reading (Some b) = held_body (head_of b) b.body
 
 -- ---- an index bucket while it is written
 

@@ -1,7 +1,7 @@
 -- `columns::read_digits` meets its contract: one column, and a first digit with digits behind it.
 -- Assumes nothing.
 use Rattle.std.proofs.Common.{◌≡◌, ℕ, ◌+◌, ◌%◌, ◌^◌, ◌<◌, ◌≤◌, Bool, true, false, eqb, List, [], ◌∷◌, length, get_or, drop, sym, refl, ap, ◌∙◌, arith, rules, eqb-true}
-use mathlib.Core.Option.{none, some}
+use Rattle.std.specs.Prelude.{None, Some}
 use borrow.Author.Tests.{eqb-false, not-true, not-false}
 use Rattle.columns.proofs.Rows.{◌▹◌, ◌▹₂◌, ◌▹₄◌}
 use Rattle.columns.specs.Lists.{pick, every}
@@ -20,11 +20,11 @@ alone (c ∷ d ∷ s) h = absurd (omega arith)
 
 -- a first column, less 49 as bytes are counted, with columns behind it
 module _ (d : ℕ) where
-  no_first : (s : List ℕ) → 1 < length s → Starts s → (d + 49) % 2 ^ 8 ≡ get_or s 0 0 → d < 256 → 8 < d → read_number s ≡ none
+  no_first : (s : List ℕ) → 1 < length s → Starts s → (d + 49) % 2 ^ 8 ≡ get_or s 0 0 → d < 256 → 8 < d → read_number s ≡ None
   no_first [] h u e small far = absurd (omega arith)
   no_first (c ∷ s) h u e small far = go (eqb c 48) refl
     where
-      go : (t : Bool) → eqb c 48 ≡ t → read_number (c ∷ s) ≡ none
+      go : (t : Bool) → eqb c 48 ≡ t → read_number (c ∷ s) ≡ None
       go true k = rw (eqb-true c 48 k) (read_zero s (omega arith))
       go false k =
           rw (
@@ -33,7 +33,7 @@ module _ (d : ℕ) where
           )
 
   first_digit : (s : List ℕ) → 1 < length s → Starts s → (d + 49) % 2 ^ 8 ≡ get_or s 0 0 → d ≤ 8
-      → (every digit s ≡ every digit (drop 1 s)) × (read_number s ≡ pick (every digit (drop 1 s)) (some (value 0 s)) none)
+      → (every digit s ≡ every digit (drop 1 s)) × (read_number s ≡ pick (every digit (drop 1 s)) (Some (value 0 s)) None)
   first_digit [] h u e near = absurd (omega arith)
   first_digit (c ∷ s) h u e near =
       let told = first_near c d e near in
@@ -51,7 +51,7 @@ long c = omega (arith, (start c).requires.some, c.before.before.if-part-eq1.fals
 
 first : (c : tie.Else-wrapping_sub_u8-gt8)
     → (every digit (bytes c.before) ≡ every digit (drop 1 (bytes c.before))) ×
-    (read_number (bytes c.before) ≡ pick (every digit (drop 1 (bytes c.before))) (some (value 0 (bytes c.before))) none)
+    (read_number (bytes c.before) ≡ pick (every digit (drop 1 (bytes c.before))) (Some (value 0 (bytes c.before))) None)
 first c =
     let at = c.before in
     first_digit _ _ (long at) (start at).requires at.wrapping_sub_u8.ensures c.if-wrapping_sub_u8-gt8.false

@@ -5,7 +5,7 @@
 use mathlib.Core.Path.{◌≡◌, refl, sym, ap, ap₂, subst, ◌∙◌}
 use Prim.Native.Nat.{ℕ, zero, suc, ◌+◌, ◌-◌, ◌*◌, ◌≤◌, ◌<◌}
 use native.Mathlib.Omega.{arith}
-use mathlib.Core.Option.{none, some}
+use Rattle.std.specs.Prelude.{None, Some}
 use mathlib.Core.List.{List, [], ◌∷◌, ◌++◌, map}
 use lib.Dec.{eqb}
 use lib.ListN.{length}
@@ -40,10 +40,10 @@ map_same f g a (suc c) h =
 -- the first pair, as the code has its parts
 pub first_is :
     (t : Plan) (sent tag d : ℕ) → tag ≡ tag_or0 (last_of t sent) →
-    record { tag = pick (eqb sent 0) none (some tag); distance = d } ≡ first_pair (last_of t sent) d
+    record { tag = pick (eqb sent 0) None (Some tag); distance = d } ≡ first_pair (last_of t sent) d
 unfolding first_pair
 first_is t zero tag d e = refl
-first_is t (suc q) tag d e = rw (ne_eqb (suc q) 0 (λ z. omega arith)) (ap (λ (y : ℕ). record { tag = some y; distance = d }) e)
+first_is t (suc q) tag d e = rw (ne_eqb (suc q) 0 (λ z. omega arith)) (ap (λ (y : ℕ). record { tag = Some y; distance = d }) e)
 
 -- the entries of bucket j of height e put behind these pairs make the bucket at x
 abbrev pub Prints : Figures → Source → List ℕ → ℕ → ℕ → ℕ → List Pair → Type 0

@@ -9,7 +9,7 @@ use Prim.Native.Nat.{ℕ, suc, ◌+◌, ◌-◌, ◌*◌, ◌≤◌, ◌<◌}
 use native.Mathlib.Nat.{eq-zero-or-pos}
 use native.Mathlib.Numerals.{add-one}
 use native.Mathlib.Omega.{arith}
-use mathlib.Core.Option.{some}
+use Rattle.std.specs.Prelude.{Some}
 use mathlib.Core.Bool.{Bool}
 use mathlib.Core.List.{List, [], ◌∷◌}
 use lib.Dec.{eqb}
@@ -64,14 +64,14 @@ module _ (t : Plan) (sound : Sound t) (one : t.layout ≡ 1) (b i m : ℕ) (low 
 
   abbrev later_held : ℕ → Pair
   later_held j =
-      record { tag = some (largest_tag t j (place_over t b j)); distance = pair_reach t (length (slots t)) (place_on t b i) j (place_over t b j) }
+      record { tag = Some (largest_tag t j (place_over t b j)); distance = pair_reach t (length (slots t)) (place_on t b i) j (place_over t b j) }
 
   later_is : (j : ℕ) → 2 ≤ j → j ≤ i → later_pair t path_ahead (slot i path_place) j ≡ later_held j
   unfolding later_pair slot
   later_is j from to =
       let distance_is : to_next path_ahead (j - 1) (above t.n (i - (j - 1)) path_place) ≡ (later_held j).distance =
       ap (to_next path_ahead (j - 1)) (over_path (j - 1) (omega arith)) ∙ pair_reaches t sound one b i m low high count j from to in
-      λ k. record { tag = some (largest_tag t j (over_path j to k)); distance = distance_is k }
+      λ k. record { tag = Some (largest_tag t j (over_path j to k)); distance = distance_is k }
 
   path_pairs :
       (sent first : ℕ) → 1 ≤ i → first ≡ tag_or0 (last_of t sent) →

@@ -3,7 +3,7 @@
 use mathlib.Core.Path.{◌≡◌, refl, ◌∙◌}
 use Prim.Native.Nat.{ℕ, ◌-◌, ◌/◌, ◌%◌, ◌≤◌, max}
 use mathlib.Core.Bool.{true, ◌&&◌}
-use mathlib.Core.Option.{none}
+use Rattle.std.specs.Prelude.{None}
 use mathlib.Core.List.{List, map}
 use native.Mathlib.Omega.{arith}
 use lib.Dec.{leb, eqb}
@@ -145,7 +145,7 @@ module _ (s : Settings) (list : List ℕ) (fit : settings_fit s ≡ true) (whole
       }
 
   pub accepted_plan :
-      misprint_from 0 (cut_lines list) ≡ none → fall_from 0 0 (list_lines list) ≡ none →
+      misprint_from 0 (cut_lines list) ≡ None → fall_from 0 0 (list_lines list) ≡ None →
       copies_fit (plan s (list_lines list)) ≡ true → Accepted (plan s (list_lines list))
   unfolding plan
   accepted_plan read order h =

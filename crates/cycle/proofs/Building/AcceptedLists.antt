@@ -5,7 +5,7 @@ use Prim.Native.Nat.{ℕ, suc, ◌+◌, ◌-◌, ◌*◌, ◌/◌, ◌%◌, ◌�
 use native.Mathlib.Nat.{mul_comm, mul-mod_left, mul-div_cancel}
 use native.Mathlib.Omega.{arith}
 use mathlib.Core.Bool.{true}
-use mathlib.Core.Option.{none}
+use Rattle.std.specs.Prelude.{None}
 use mathlib.Core.List.{List, [], map}
 use lib.Dec.{lit<}
 use lib.ListN.{length, take, drop, get_or, length-drop, length-map}
@@ -130,7 +130,7 @@ module _ (f : Figures) (list : List ℕ) (s : AcceptedList f list) where
     pub text_whole : length text % line_length ≡ 0
     text_whole = rw text_is (part_whole list a c within)
 
-    pub text_reads : misprint_from 0 (cut_lines text) ≡ none
+    pub text_reads : misprint_from 0 (cut_lines text) ≡ None
     text_reads = rw text_is (part_reads list a c within s.printed)
 
     pub text_lines : list_lines text ≡ take c (drop a (list_lines list))

@@ -5,7 +5,7 @@ use Prim.Native.Nat.{ℕ, ◌+◌, ◌*◌, ◌/◌, ◌%◌, ◌≤◌, ◌<◌
 use native.Mathlib.Omega.{arith}
 use native.Mathlib.Nat.{div-add-mod'}
 use mathlib.Core.Bool.{true, false, not}
-use mathlib.Core.Option.{Option, none, some}
+use Rattle.std.specs.Prelude.{Option, None, Some}
 use mathlib.Core.List.{List, [], ◌∷◌}
 use lib.Dec.{ltb}
 use lib.ListN.{length}
@@ -38,41 +38,41 @@ use Rattle.cycle.proofs.Building.PlanFigures.{last_shape, sized_figures}
 
 -- what a refusal judges, and what figures do
 pub judged_refusal :
-    (o : Option Refusal) (g : Figures) (number place : ℕ) → judged o g ≡ Refused number place → o ≡ some (refusal number place)
-judged_refusal none g number place h = let z : ◌≡◌ {A = ℕ} 0 1 = cc in absurd (omega arith)
-judged_refusal (some r) g number place h =
+    (o : Option Refusal) (g : Figures) (number place : ℕ) → judged o g ≡ Refused number place → o ≡ Some (refusal number place)
+judged_refusal None g number place h = let z : ◌≡◌ {A = ℕ} 0 1 = cc in absurd (omega arith)
+judged_refusal (Some r) g number place h =
     let n : r.number ≡ number = cc in
     let p : r.place ≡ place = cc in
-    λ i. some (refusal (n i) (p i))
+    λ i. Some (refusal (n i) (p i))
 
-pub judged_cycle : (o : Option Refusal) (g f : Figures) → judged o g ≡ Cycle f → (o ≡ none) × (g ≡ f)
-judged_cycle none g f h = (refl, cc)
-judged_cycle (some r) g f h = let z : ◌≡◌ {A = ℕ} 0 1 = cc in absurd (omega arith)
+pub judged_cycle : (o : Option Refusal) (g f : Figures) → judged o g ≡ Cycle f → (o ≡ None) × (g ≡ f)
+judged_cycle None g f h = (refl, cc)
+judged_cycle (Some r) g f h = let z : ◌≡◌ {A = ℕ} 0 1 = cc in absurd (omega arith)
 
 -- and back
 pub refusal_judged :
-    (number place : ℕ) (o : Option Refusal) (g : Figures) → o ≡ some (refusal number place) → Refused number place ≡ judged o g
+    (number place : ℕ) (o : Option Refusal) (g : Figures) → o ≡ Some (refusal number place) → Refused number place ≡ judged o g
 refusal_judged number place o g e = sym (ap (λ r. judged r g) e)
 
-pub cycle_judged : (o : Option Refusal) (g f : Figures) → o ≡ none → f ≡ g → Cycle f ≡ judged o g
+pub cycle_judged : (o : Option Refusal) (g f : Figures) → o ≡ None → f ≡ g → Cycle f ≡ judged o g
 cycle_judged o g f e same = ap Cycle same ∙ sym (ap (λ r. judged r g) e)
 
 -- ---- 5 and 6
 
 module _ (t : Plan) where
-  pub refused_5 : copies_fit t ≡ false → first_refusal (size_conditions t) ≡ some (refusal 5 0)
+  pub refused_5 : copies_fit t ≡ false → first_refusal (size_conditions t) ≡ Some (refusal 5 0)
   unfolding size_conditions
   refused_5 e = rw e
 
-  pub refused_6 : copies_fit t ≡ true → 99999 < cycle_size t → first_refusal (size_conditions t) ≡ some (refusal 6 0)
+  pub refused_6 : copies_fit t ≡ true → 99999 < cycle_size t → first_refusal (size_conditions t) ≡ Some (refusal 6 0)
   unfolding size_conditions
   refused_6 e l = rw (e, lt-ltb 99999 (cycle_size t) l)
 
-  pub size_passed : copies_fit t ≡ true → cycle_size t ≤ 99999 → first_refusal (size_conditions t) ≡ none
+  pub size_passed : copies_fit t ≡ true → cycle_size t ≤ 99999 → first_refusal (size_conditions t) ≡ None
   unfolding size_conditions
   size_passed e l = rw (e, le-ltb 99999 (cycle_size t) l)
 
-  pub size_short : first_refusal (size_conditions t) ≡ none → cycle_size t ≤ 99999
+  pub size_short : first_refusal (size_conditions t) ≡ None → cycle_size t ≤ 99999
   unfolding size_conditions
   size_short h =
       let five = none_holds (copies_out t) (cycle_too_long t ∷ []) h in
@@ -82,19 +82,19 @@ module _ (t : Plan) where
   -- 7 behind them
   module _ (room : ℕ) where
     pub refused_before_7 :
-        (r : Refusal) → first_refusal (size_conditions t) ≡ some r → first_refusal (plan_conditions t room) ≡ some r
+        (r : Refusal) → first_refusal (size_conditions t) ≡ Some r → first_refusal (plan_conditions t room) ≡ Some r
     unfolding size_conditions plan_conditions
     refused_before_7 r h = first_stands (size_conditions t) (buffer_too_short room (240 * cycle_size t) ∷ []) r h
 
     pub refused_7 :
-        first_refusal (size_conditions t) ≡ none → room < 240 * cycle_size t →
-        first_refusal (plan_conditions t room) ≡ some (refusal 7 0)
+        first_refusal (size_conditions t) ≡ None → room < 240 * cycle_size t →
+        first_refusal (plan_conditions t room) ≡ Some (refusal 7 0)
     unfolding size_conditions plan_conditions
     refused_7 h l =
         none_before (size_conditions t) (buffer_too_short room (240 * cycle_size t) ∷ []) h ∙ rw (lt-ltb room (240 * cycle_size t) l)
 
     pub plan_passed :
-        first_refusal (size_conditions t) ≡ none → 240 * cycle_size t ≤ room → first_refusal (plan_conditions t room) ≡ none
+        first_refusal (size_conditions t) ≡ None → 240 * cycle_size t ≤ room → first_refusal (plan_conditions t room) ≡ None
     unfolding size_conditions plan_conditions
     plan_passed h l =
         none_before (size_conditions t) (buffer_too_short room (240 * cycle_size t) ∷ []) h ∙ rw (le-ltb room (240 * cycle_size t) l)
@@ -102,37 +102,37 @@ module _ (t : Plan) where
 -- ---- 1 to 4
 
 module _ (s : Settings) (list : List ℕ) (room : ℕ) where
-  pub refused_1 : settings_fit s ≡ false → first_refusal (conditions s list room) ≡ some (refusal 1 0)
+  pub refused_1 : settings_fit s ≡ false → first_refusal (conditions s list room) ≡ Some (refusal 1 0)
   unfolding conditions
   refused_1 e = rw e
 
   pub refused_2 :
-      settings_fit s ≡ true → whole_lines (length list) ≡ false → first_refusal (conditions s list room) ≡ some (refusal 2 0)
+      settings_fit s ≡ true → whole_lines (length list) ≡ false → first_refusal (conditions s list room) ≡ Some (refusal 2 0)
   unfolding conditions
   refused_2 e w = rw (e, w)
 
   module _ (one : settings_fit s ≡ true) (two : whole_lines (length list) ≡ true) where
     pub refused_3 :
-        (place : ℕ) → misprint_from 0 (cut_lines list) ≡ some place →
-        first_refusal (conditions s list room) ≡ some (refusal 3 place)
+        (place : ℕ) → misprint_from 0 (cut_lines list) ≡ Some place →
+        first_refusal (conditions s list room) ≡ Some (refusal 3 place)
     unfolding conditions
     refused_3 place e = rw (one, two, e)
 
     pub refused_4 :
-        (place : ℕ) → misprint_from 0 (cut_lines list) ≡ none → fall_from 0 0 (list_lines list) ≡ some place →
-        first_refusal (conditions s list room) ≡ some (refusal 4 place)
+        (place : ℕ) → misprint_from 0 (cut_lines list) ≡ None → fall_from 0 0 (list_lines list) ≡ Some place →
+        first_refusal (conditions s list room) ≡ Some (refusal 4 place)
     unfolding conditions
     refused_4 place e f = rw (one, two, e, f)
 
     pub passed :
-        misprint_from 0 (cut_lines list) ≡ none → fall_from 0 0 (list_lines list) ≡ none →
+        misprint_from 0 (cut_lines list) ≡ None → fall_from 0 0 (list_lines list) ≡ None →
         first_refusal (conditions s list room) ≡ first_refusal (plan_conditions (plan s (list_lines list)) room)
     unfolding conditions plan_conditions
     passed e f = rw (one, two, e, f)
 
   -- the answers of judging and of building
   pub judges_refusal :
-      (number place : ℕ) → first_refusal (conditions s list room) ≡ some (refusal number place) →
+      (number place : ℕ) → first_refusal (conditions s list room) ≡ Some (refusal number place) →
       Judging.numbers (Refused number place) ≡ Judging.numbers (judge s list room)
   unfolding judge
   judges_refusal number place e = sym (ap (λ o. Judging.numbers (judged o (figures_of (plan s (list_lines list))))) e)
@@ -203,7 +203,7 @@ figures_ready t r fit short =
       size_high = short;
     }
 
-module _ (s : Settings) (list : List ℕ) (room : ℕ) (none_of : first_refusal (conditions s list room) ≡ none) where
+module _ (s : Settings) (list : List ℕ) (room : ℕ) (none_of : first_refusal (conditions s list room) ≡ None) where
   pub figures_sending : AcceptedList (figures_of (plan s (list_lines list))) list
   unfolding figures_of plan
   figures_sending =
@@ -241,7 +241,7 @@ module _ (s : Settings) (list : List ℕ) (room : ℕ) (none_of : first_refusal 
 
 -- the same of the figures that judging answers with
 module _ (s : Settings) (list : List ℕ) (room : ℕ) (f : Figures) (h : judge s list room ≡ Cycle f) where
-  none_and_figures : (first_refusal (conditions s list room) ≡ none) × (figures_of (plan s (list_lines list)) ≡ f)
+  none_and_figures : (first_refusal (conditions s list room) ≡ None) × (figures_of (plan s (list_lines list)) ≡ f)
   unfolding judge
   none_and_figures = judged_cycle (first_refusal (conditions s list room)) (figures_of (plan s (list_lines list))) f h
 

@@ -6,7 +6,7 @@ use Prim.Native.Nat.{ℕ, ◌+◌, ◌-◌, ◌*◌, ◌%◌, ◌≤◌, ◌<◌
 use native.Mathlib.Nat.{suc-mul}
 use native.Mathlib.Numerals.{add-one}
 use native.Mathlib.Omega.{arith}
-use mathlib.Core.Option.{none}
+use Rattle.std.specs.Prelude.{None}
 use mathlib.Core.List.{List, [], ◌∷◌, ◌++◌}
 use lib.ListN.{length, take, drop, length-drop}
 use lib.Seq.{take_all}
@@ -70,7 +70,7 @@ module _ (f : Figures) (list : List ℕ) (s : AcceptedList f list) where
     pub within : end ≤ length list
     pub few : length (take (end - from) (drop from list)) ≤ bucket_lines_most * line_length
     pub whole_lines_lem : length (take (end - from) (drop from list)) % line_length ≡ 0
-    pub printed : misprint_from 0 (cut_lines (take (end - from) (drop from list))) ≡ none
+    pub printed : misprint_from 0 (cut_lines (take (end - from) (drop from list))) ≡ None
     pub no_zeros : PlainList list → PlainList (take (end - from) (drop from list))
     pub lines_are : list_lines (take (end - from) (drop from list)) ≡ lines_of (plan_in f InList list) q
 

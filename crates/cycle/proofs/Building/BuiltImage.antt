@@ -5,7 +5,7 @@ use Prim.Native.Nat.{ℕ, suc, ◌*◌, ◌≤◌, ◌<◌}
 use native.Mathlib.Nat.{mul_comm}
 use native.Mathlib.Omega.{arith}
 use mathlib.Core.Bool.{Bool, true}
-use mathlib.Core.Option.{some}
+use Rattle.std.specs.Prelude.{Some}
 use mathlib.Core.List.{List, [], ◌∷◌, append-nil}
 use lib.ListN
 use lib.ListN.{length, drop, get_or}
@@ -33,7 +33,7 @@ module _ (t : Plan) (a : Accepted t) (short : cycle_size t ≤ buckets_most) whe
   unfolding cycle_bucket
   all_good = every_by_place good no_bucket (buckets t) (λ i l. built_good t a short i (rw length_buckets at l))
 
-  pub read_bucket_lem : (x : ℕ) → x < cycle_size t → read_bucket (print_bucket (cycle_bucket t x)) ≡ some (cycle_bucket t x)
+  pub read_bucket_lem : (x : ℕ) → x < cycle_size t → read_bucket (print_bucket (cycle_bucket t x)) ≡ Some (cycle_bucket t x)
   read_bucket_lem x h = read_of_print_bucket (cycle_bucket t x) (built_good t a short x h)
 
   pub length_image : length (image t) ≡ bucket_length * cycle_size t
@@ -48,7 +48,7 @@ module _ (t : Plan) (a : Accepted t) (short : cycle_size t ≤ buckets_most) whe
       rw (mul_comm bucket_length x, ← append-nil (joined print_bucket (buckets t)))
       (joined_at_if print_bucket good bucket_length length_print_bucket no_bucket (buckets t) [] x all_good (rw length_buckets h))
 
-  pub image_reads : (x : ℕ) → x < cycle_size t → read_bucket (ListN.take bucket_length (drop (bucket_length * x) (image t))) ≡ some (cycle_bucket t x)
+  pub image_reads : (x : ℕ) → x < cycle_size t → read_bucket (ListN.take bucket_length (drop (bucket_length * x) (image t))) ≡ Some (cycle_bucket t x)
   image_reads x h = rw (image_bucket x h) (read_bucket_lem x h)
 
 -- ---- what building wrote
@@ -58,7 +58,7 @@ pub record CycleOf (bytes : List ℕ) (n : ℕ) (bk : ℕ → Bucket) : Type 0 w
   pub small : n ≤ buckets_most
   pub long : length bytes ≡ bucket_length * n
   pub part : (x : ℕ) → x < n → ListN.take bucket_length (drop (bucket_length * x) bytes) ≡ print_bucket (bk x)
-  pub read : (x : ℕ) → x < n → read_bucket (ListN.take bucket_length (drop (bucket_length * x) bytes)) ≡ some (bk x)
+  pub read : (x : ℕ) → x < n → read_bucket (ListN.take bucket_length (drop (bucket_length * x) bytes)) ≡ Some (bk x)
   pub position_is : (x : ℕ) → x < n → (bk x).position ≡ x
   pub cycle_is : (x : ℕ) → x < n → cycle_length (bk x) ≡ n
 

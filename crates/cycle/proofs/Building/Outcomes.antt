@@ -3,7 +3,7 @@
 use mathlib.Core.Path.{◌≡◌, refl, ap, subst}
 use Prim.Native.Nat.{ℕ, ◌*◌, ◌≤◌}
 use mathlib.Core.Bool.{true, not}
-use mathlib.Core.Option.{Option, none, some}
+use Rattle.std.specs.Prelude.{Option, None, Some}
 use mathlib.Core.List.{List, [], ◌∷◌}
 use native.Mathlib.Omega.{arith}
 use lib.Dec.{ltb}
@@ -25,8 +25,8 @@ use Rattle.cycle.proofs.Basics.Conditions.{none_holds, test_fails}
 pub record Answered (s : Settings) (list : List ℕ) (room n : ℕ) : Type 0 where
   pub settings : settings_fit s ≡ true
   pub whole : whole_lines (length list) ≡ true
-  pub read : misprint_from 0 (cut_lines list) ≡ none
-  pub order : fall_from 0 0 (list_lines list) ≡ none
+  pub read : misprint_from 0 (cut_lines list) ≡ None
+  pub order : fall_from 0 0 (list_lines list) ≡ None
   pub copies : copies_fit (plan s (list_lines list)) ≡ true
   pub short : cycle_size (plan s (list_lines list)) ≤ 99999
   pub roomy : 240 * cycle_size (plan s (list_lines list)) ≤ room
@@ -35,7 +35,7 @@ pub record Answered (s : Settings) (list : List ℕ) (room n : ℕ) : Type 0 whe
 
 -- no condition holds
 pub none_refused :
-    (s : Settings) (list : List ℕ) (room : ℕ) → first_refusal (conditions s list room) ≡ none →
+    (s : Settings) (list : List ℕ) (room : ℕ) → first_refusal (conditions s list room) ≡ None →
     Answered s list room (cycle_size (plan s (list_lines list)))
 unfolding build conditions
 none_refused s list room h =
@@ -66,9 +66,9 @@ none_refused s list room h =
 
 -- ---- building answers with a cycle
 
-cycle_passed : (o : Option Refusal) (t : Plan) (n : ℕ) → (outcome o t).answer ≡ Cycle n → (o ≡ none) × (cycle_size t ≡ n)
-cycle_passed none t n h = (refl, cc)
-cycle_passed (some r) t n h = let z : ◌≡◌ {A = ℕ} 0 1 = cc in absurd (omega arith)
+cycle_passed : (o : Option Refusal) (t : Plan) (n : ℕ) → (outcome o t).answer ≡ Cycle n → (o ≡ None) × (cycle_size t ≡ n)
+cycle_passed None t n h = (refl, cc)
+cycle_passed (Some r) t n h = let z : ◌≡◌ {A = ℕ} 0 1 = cc in absurd (omega arith)
 
 pub answered : (s : Settings) (list : List ℕ) (room n : ℕ) → (build s list room).answer ≡ Cycle n → Answered s list room n
 unfolding build
@@ -89,7 +89,7 @@ accepted_list s list room n h =
 -- and back
 pub builds_cycle :
     (s : Settings) (list : List ℕ) (room : ℕ) → settings_fit s ≡ true → whole_lines (length list) ≡ true →
-    misprint_from 0 (cut_lines list) ≡ none → fall_from 0 0 (list_lines list) ≡ none → copies_fit (plan s (list_lines list)) ≡ true →
+    misprint_from 0 (cut_lines list) ≡ None → fall_from 0 0 (list_lines list) ≡ None → copies_fit (plan s (list_lines list)) ≡ true →
     cycle_size (plan s (list_lines list)) ≤ 99999 → 240 * cycle_size (plan s (list_lines list)) ≤ room →
     build s list room ≡
     record { answer = Cycle (cycle_size (plan s (list_lines list))); output = image (plan s (list_lines list)) }

@@ -7,7 +7,7 @@ use native.Mathlib.Nat.{mul_comm, mul-div_cancel}
 use native.Mathlib.Numerals.{add-one}
 use native.Mathlib.Omega.{arith}
 use mathlib.Core.Bool.{Bool, true, false}
-use mathlib.Core.Option.{Option, none, some}
+use Rattle.std.specs.Prelude.{Option, None, Some}
 use mathlib.Core.List.{List, [], ◌∷◌, ◌++◌}
 use lib.Dec.{lit<, leb}
 use lib.ListN.{length, take, drop, drop_of_length-le}
@@ -67,12 +67,12 @@ module _ (list : List ℕ) (lines : ℕ) (whole : length list ≡ line_length * 
     line_read h e = so ∙ rw (cut_here h, e, ← add-one i)
 
     pub line_misprinted_lem :
-        i < lines → read_line (take line_length (drop (line_length * i) list)) ≡ none → i ≡ place_or lines (misprint_from 0 (cut_lines list))
-    line_misprinted_lem h e = let found : misprint_from 0 (cut_lines list) ≡ some i = so ∙ rw (cut_here h, e) in sym (ap (place_or lines) found)
+        i < lines → read_line (take line_length (drop (line_length * i) list)) ≡ None → i ≡ place_or lines (misprint_from 0 (cut_lines list))
+    line_misprinted_lem h e = let found : misprint_from 0 (cut_lines list) ≡ Some i = so ∙ rw (cut_here h, e) in sym (ap (place_or lines) found)
 
     pub lines_read_lem : lines ≤ i → lines ≡ place_or lines (misprint_from 0 (cut_lines list))
     lines_read_lem h =
-        let found : misprint_from 0 (cut_lines list) ≡ none =
+        let found : misprint_from 0 (cut_lines list) ≡ None =
         so ∙ rw (drop_of_length-le (cut_lines list) {i = i} (omega (arith, length_cut_lines list, count_lines list lines whole))) in
         sym (ap (place_or lines) found)
 
@@ -101,35 +101,35 @@ module _ (list : List ℕ) (lines : ℕ) (whole : length list ≡ line_length * 
     unfolding spelled
     tag_falls_lem h x e l =
         let down : leb m (value 0 (take tag_width (drop (line_length * i) list))) ≡ false = lt-leb m (value 0 (take tag_width (drop (line_length * i) list))) (omega arith) in
-        let found : fall_from 0 0 (list_lines list) ≡ some i = so ∙ rw (line_here h, down) in
+        let found : fall_from 0 0 (list_lines list) ≡ Some i = so ∙ rw (line_here h, down) in
         sym (ap (place_or lines) found)
 
     pub tags_rise : lines ≤ i → lines ≡ place_or lines (fall_from 0 0 (list_lines list))
     tags_rise h =
-        let found : fall_from 0 0 (list_lines list) ≡ none =
+        let found : fall_from 0 0 (list_lines list) ≡ None =
         so ∙ rw (drop_of_length-le (list_lines list) {i = i} (omega (arith, length_list_lines list, count_lines list lines whole))) in
         sym (ap (place_or lines) found)
 
 -- a place that is found is a line's
-pub no_place_misprint : (i : ℕ) (ss : List (List ℕ)) (lines : ℕ) → i + length ss ≤ lines → lines ≤ place_or lines (misprint_from i ss) → misprint_from i ss ≡ none
+pub no_place_misprint : (i : ℕ) (ss : List (List ℕ)) (lines : ℕ) → i + length ss ≤ lines → lines ≤ place_or lines (misprint_from i ss) → misprint_from i ss ≡ None
 no_place_misprint i [] lines h l = refl
 no_place_misprint i (s ∷ ss) lines h l = go (taken (read_line s)) (no_place_misprint (suc i) ss lines (omega arith)) l
   where
-    go : (b : Bool) → (lines ≤ place_or lines (misprint_from (suc i) ss) → misprint_from (suc i) ss ≡ none) →
-        lines ≤ place_or lines (pick b (misprint_from (suc i) ss) (some i)) → pick b (misprint_from (suc i) ss) (some i) ≡ none
+    go : (b : Bool) → (lines ≤ place_or lines (misprint_from (suc i) ss) → misprint_from (suc i) ss ≡ None) →
+        lines ≤ place_or lines (pick b (misprint_from (suc i) ss) (Some i)) → pick b (misprint_from (suc i) ss) (Some i) ≡ None
     go true rec k = rec k
     go false rec k = absurd (omega arith)
 
-pub no_place_fall : (i m : ℕ) (ls : List Line) (lines : ℕ) → i + length ls ≤ lines → lines ≤ place_or lines (fall_from i m ls) → fall_from i m ls ≡ none
+pub no_place_fall : (i m : ℕ) (ls : List Line) (lines : ℕ) → i + length ls ≤ lines → lines ≤ place_or lines (fall_from i m ls) → fall_from i m ls ≡ None
 no_place_fall i m [] lines h l = refl
 no_place_fall i m (x ∷ ls) lines h l = go (leb m x.tag) (no_place_fall (suc i) x.tag ls lines (omega arith)) l
   where
-    go : (b : Bool) → (lines ≤ place_or lines (fall_from (suc i) x.tag ls) → fall_from (suc i) x.tag ls ≡ none) →
-        lines ≤ place_or lines (pick b (fall_from (suc i) x.tag ls) (some i)) → pick b (fall_from (suc i) x.tag ls) (some i) ≡ none
+    go : (b : Bool) → (lines ≤ place_or lines (fall_from (suc i) x.tag ls) → fall_from (suc i) x.tag ls ≡ None) →
+        lines ≤ place_or lines (pick b (fall_from (suc i) x.tag ls) (Some i)) → pick b (fall_from (suc i) x.tag ls) (Some i) ≡ None
     go true rec k = rec k
     go false rec k = absurd (omega arith)
 
 -- and it is found
-pub place_found : (lines : ℕ) (o : Option ℕ) → place_or lines o < lines → o ≡ some (place_or lines o)
-place_found lines none h = absurd (omega arith)
-place_found lines (some i) h = refl
+pub place_found : (lines : ℕ) (o : Option ℕ) → place_or lines o < lines → o ≡ Some (place_or lines o)
+place_found lines None h = absurd (omega arith)
+place_found lines (Some i) h = refl

@@ -4,7 +4,7 @@ use mathlib.Core.Path.{◌≡◌, refl, sym, ap, subst, ◌∙◌}
 use Prim.Native.Nat.{ℕ, ◌*◌, ◌/◌, ◌%◌, ◌≤◌, ◌<◌, min}
 use native.Mathlib.Omega.{arith}
 use mathlib.Core.Bool.{Bool, true, false, not}
-use mathlib.Core.Option.{Option, none, some}
+use Rattle.std.specs.Prelude.{Option, None, Some}
 use mathlib.Core.List.{List, [], ◌∷◌}
 use lib.Dec.{ltb}
 use lib.ListN.{length}
@@ -33,17 +33,17 @@ use Rattle.cycle.proofs.Building.Outcomes.{accepted, answered}
 
 -- a refusal by earlier conditions, or where there is none, by the last one
 abbrev or_last : Option Refusal → Option Refusal → Option Refusal
-or_last (some r) o = some r
-or_last none o = o
+or_last (Some r) o = Some r
+or_last None o = o
 
 -- 7 where the image does not fit
 abbrev lastly : Bool → Option Refusal
-lastly short = pick short (some (refusal 7 0)) none
+lastly short = pick short (Some (refusal 7 0)) None
 
 -- building's conditions are sizing's and then 7, where 3 and 4 do not hold
 in_order :
     (one two five six seven : Bool) →
-    first_refusal (row 1 one ∷ row 2 two ∷ row_at 3 none ∷ row_at 4 none ∷ row 5 five ∷ row 6 six ∷ row 7 seven ∷ []) ≡
+    first_refusal (row 1 one ∷ row 2 two ∷ row_at 3 None ∷ row_at 4 None ∷ row 5 five ∷ row 6 six ∷ row 7 seven ∷ []) ≡
     or_last (first_refusal (row 1 one ∷ row 2 two ∷ row 5 five ∷ row 6 six ∷ [])) (lastly seven)
 in_order true two five six seven = refl
 in_order false true five six seven = refl
@@ -104,7 +104,7 @@ module _ (s : Settings) (lines : ℕ) (list : List ℕ) (l : Listed lines list) 
         row 5 (not copies) ∷
         row 6 (ltb buckets_most n) ∷
         row 7 (ltb room (bucket_length * n)) ∷ []) in
-        let alike : first_refusal (building.conditions s list room) ≡ rows (few_lines lines) none none (copies_fit t) (cycle_size t) =
+        let alike : first_refusal (building.conditions s list room) ≡ rows (few_lines lines) None None (copies_fit t) (cycle_size t) =
         λ i. rows (whole i) (l.printed i) (l.rising i) (copies_alike i) (size_alike i) in
         alike ∙
         in_order (not (settings_fit s)) (not (few_lines lines)) (not (copies_fit t)) (ltb buckets_most (cycle_size t)) (ltb room (image_length t))
@@ -114,15 +114,15 @@ module _ (s : Settings) (lines : ℕ) (list : List ℕ) (l : Listed lines list) 
     building_is = ap (λ o. building.outcome o u) refusals
 
     -- no condition holds where the image fits
-    builds_none : sizing ≡ none → image_length t ≤ room → first_refusal (building.conditions s list room) ≡ none
+    builds_none : sizing ≡ None → image_length t ≤ room → first_refusal (building.conditions s list room) ≡ None
     unfolding seven
     builds_none e fits = refusals ∙ ap (λ o. or_last o seven) e ∙ rw (le-ltb room (image_length t) fits)
 
-    builds_cycle : sizing ≡ none → image_length t ≤ room → (build s list room).answer ≡ Built.Cycle (cycle_size u)
+    builds_cycle : sizing ≡ None → image_length t ≤ room → (build s list room).answer ≡ Built.Cycle (cycle_size u)
     unfolding build
     builds_cycle e fits = ap (λ o. (building.outcome o u).answer) (builds_none e fits)
 
-    builds_bytes : sizing ≡ none → image_length t ≤ room → length (build s list room).output ≡ image_length t
+    builds_bytes : sizing ≡ None → image_length t ≤ room → length (build s list room).output ≡ image_length t
     builds_bytes e fits =
         let answer = builds_cycle e fits in
         let a = answered s list room (cycle_size u) answer in
@@ -130,7 +130,7 @@ module _ (s : Settings) (lines : ℕ) (list : List ℕ) (l : Listed lines list) 
         ∙ length_image u (accepted s list room (cycle_size u) answer) a.short
         ∙ ap (λ n. bucket_length * n) size_alike
 
-    builds_short : sizing ≡ none → room < image_length t → built s list room ≡ 7 ∷ 0 ∷ []
+    builds_short : sizing ≡ None → room < image_length t → built s list room ≡ 7 ∷ 0 ∷ []
     unfolding seven
     builds_short e short =
         ap (λ o. building.numbers o.answer) building_is
@@ -144,20 +144,20 @@ module _ (d : Dimensions) (u : Plan) where
   refused_alike :
       (o : Option Refusal) (short : Bool) (number place : ℕ) → numbers (outcome o d) ≡ number ∷ place ∷ [] →
       building.numbers (building.outcome (or_last o (lastly short)) u).answer ≡ number ∷ place ∷ []
-  refused_alike (some r) short number place h = h
-  refused_alike none short number place h = let z : ◌≡◌ {A = ℕ} 7 2 = ap length h in absurd (omega arith)
+  refused_alike (Some r) short number place h = h
+  refused_alike None short number place h = let z : ◌≡◌ {A = ℕ} 7 2 = ap length h in absurd (omega arith)
 
   refused_back :
       (o : Option Refusal) (short : Bool) (number place : ℕ) →
       building.numbers (building.outcome (or_last o (lastly short)) u).answer ≡ number ∷ place ∷ [] →
       (number ≡ 7 → ⊥) → numbers (outcome o d) ≡ number ∷ place ∷ []
-  refused_back (some r) short number place h other = h
-  refused_back none true number place h other = let z : number ≡ 7 = cc in absurd (other z)
-  refused_back none false number place h other = let z : ◌≡◌ {A = ℕ} 3 2 = ap length h in absurd (omega arith)
+  refused_back (Some r) short number place h other = h
+  refused_back None true number place h other = let z : number ≡ 7 = cc in absurd (other z)
+  refused_back None false number place h other = let z : ◌≡◌ {A = ℕ} 3 2 = ap length h in absurd (omega arith)
 
-  given : (o : Option Refusal) (f : Dimensions) → outcome o d ≡ Cycle f → (o ≡ none) × (d ≡ f)
-  given none f h = (refl, cc)
-  given (some r) f h = let z : ◌≡◌ {A = ℕ} 0 1 = cc in absurd (omega arith)
+  given : (o : Option Refusal) (f : Dimensions) → outcome o d ≡ Cycle f → (o ≡ None) × (d ≡ f)
+  given None f h = (refl, cc)
+  given (Some r) f h = let z : ◌≡◌ {A = ℕ} 0 1 = cc in absurd (omega arith)
 
 -- C-11: "The figures agree with what building a list of that many lines gives, and 1, 2, 5 and 6 are given as there"
 pub every_size : EverySize
@@ -199,7 +199,7 @@ every_size s lines c list room l =
     short : Bool
     short = ltb room (image_length (plan_for s lines []))
 
-    told : (f : Dimensions) → size s lines c ≡ Cycle f → (first_refusal (conditions s lines) ≡ none) × (d ≡ f)
+    told : (f : Dimensions) → size s lines c ≡ Cycle f → (first_refusal (conditions s lines) ≡ None) × (d ≡ f)
     told f h = given d u (first_refusal (conditions s lines)) f h
 
 -- "A C above D is taken as D."

@@ -3,7 +3,7 @@
 use mathlib.Core.Path.{◌≡◌, refl, sym, ap, subst, ◌∙◌}
 use Prim.Native.Nat.{ℕ, ◌≤◌, ◌<◌}
 use mathlib.Core.Bool.{true, false}
-use mathlib.Core.Option.{none, some}
+use Rattle.std.specs.Prelude.{None, Some}
 use mathlib.Core.List.{[]}
 use borrow.Author.Tests.{le-leb, lt-leb}
 use Rattle.buckets.specs.Lengths.{lines_most, buckets_most}
@@ -23,11 +23,11 @@ use Rattle.cycle.proofs.Building.Answering.{judged_refusal, judged_cycle, size_s
 -- ---- the conditions
 
 module _ (s : Settings) (lines : ℕ) where
-  pub refused_1 : settings_fit s ≡ false → first_refusal (conditions s lines) ≡ some (refusal 1 0)
+  pub refused_1 : settings_fit s ≡ false → first_refusal (conditions s lines) ≡ Some (refusal 1 0)
   unfolding conditions
   refused_1 e = rw e
 
-  pub refused_2 : settings_fit s ≡ true → lines_most < lines → first_refusal (conditions s lines) ≡ some (refusal 2 0)
+  pub refused_2 : settings_fit s ≡ true → lines_most < lines → first_refusal (conditions s lines) ≡ Some (refusal 2 0)
   unfolding conditions
   refused_2 e l = rw (e, lt-leb lines lines_most l)
 
@@ -39,13 +39,13 @@ module _ (s : Settings) (lines : ℕ) where
 
   module _ (c : ℕ) where
     pub sizes_refusal :
-        (number place : ℕ) → first_refusal (conditions s lines) ≡ some (refusal number place) →
+        (number place : ℕ) → first_refusal (conditions s lines) ≡ Some (refusal number place) →
         numbers (Refused number place) ≡ numbers (size s lines c)
     unfolding size
     sizes_refusal number place e = sym (ap (λ o. numbers (outcome o (dimensions (plan_for s lines []) c))) e)
 
     pub sizes_cycle :
-        first_refusal (conditions s lines) ≡ none → numbers (Cycle (dimensions (plan_for s lines []) c)) ≡ numbers (size s lines c)
+        first_refusal (conditions s lines) ≡ None → numbers (Cycle (dimensions (plan_for s lines []) c)) ≡ numbers (size s lines c)
     unfolding size
     sizes_cycle e = sym (ap (λ o. numbers (outcome o (dimensions (plan_for s lines []) c))) e)
 

@@ -5,7 +5,7 @@ use Prim.Native.Nat.{ℕ, ◌%◌, ◌≤◌}
 use native.Mathlib.Nat.{mul_comm, mul-mod_left}
 use native.Mathlib.Omega.{arith}
 use mathlib.Core.Bool.{true}
-use mathlib.Core.Option.{Option, none, some}
+use Rattle.std.specs.Prelude.{Option, None, Some}
 use mathlib.Core.List.{List, [], ◌∷◌, ◌++◌}
 use lib.ListN.{length}
 use Rattle.columns.specs.Lists.{onto}
@@ -69,17 +69,17 @@ module _ (s : Settings) (buffer : List ℕ) (lines : ℕ) (given : List ℕ) (c 
 
   -- ---- the conditions in their order
 
-  pub given_refused : (r : Refusal) → first_refusal (given_conditions s buffer lines given) ≡ some r → all ≡ some r
+  pub given_refused : (r : Refusal) → first_refusal (given_conditions s buffer lines given) ≡ Some r → all ≡ Some r
   unfolding conditions
   given_refused r h = first_stands (given_conditions s buffer lines given) (c.own ∷ plan_conditions (plan s (list_lines c.list)) room) r h
 
-  module _ (passed : first_refusal (given_conditions s buffer lines given) ≡ none) where
-    pub own_holds : (place : ℕ) → c.own.holds ≡ some place → all ≡ some (refusal c.own.number place)
+  module _ (passed : first_refusal (given_conditions s buffer lines given) ≡ None) where
+    pub own_holds : (place : ℕ) → c.own.holds ≡ Some place → all ≡ Some (refusal c.own.number place)
     unfolding conditions plan_conditions
     own_holds place e =
         none_before (given_conditions s buffer lines given) (c.own ∷ plan_conditions (plan s (list_lines c.list)) room) passed ∙ rw e
 
-    pub own_passed : c.own.holds ≡ none → all ≡ first_refusal (plan_conditions (plan s (list_lines c.list)) room)
+    pub own_passed : c.own.holds ≡ None → all ≡ first_refusal (plan_conditions (plan s (list_lines c.list)) room)
     unfolding conditions plan_conditions
     own_passed e =
         none_before (given_conditions s buffer lines given) (c.own ∷ plan_conditions (plan s (list_lines c.list)) room) passed ∙ rw e
@@ -87,7 +87,7 @@ module _ (s : Settings) (buffer : List ℕ) (lines : ℕ) (given : List ℕ) (c 
   -- ---- the answers
 
   pub change_refused :
-      (number place : ℕ) (out : List ℕ) → all ≡ some (refusal number place) →
+      (number place : ℕ) (out : List ℕ) → all ≡ Some (refusal number place) →
       Answers (Refused number place) (change s buffer lines given c room) buffer buffer out out
   unfolding change onto
   change_refused number place out e = (
@@ -97,47 +97,47 @@ module _ (s : Settings) (buffer : List ℕ) (lines : ℕ) (given : List ℕ) (c 
   )
 
   -- a refusal answered is that of the first condition that holds
-  pub refused_told : (number place : ℕ) → (change s buffer lines given c room).answer ≡ Refused number place → all ≡ some (refusal number place)
+  pub refused_told : (number place : ℕ) → (change s buffer lines given c room).answer ≡ Refused number place → all ≡ Some (refusal number place)
   unfolding change
   refused_told number place = from all
     where
-      from : (o : Option Refusal) → (outcome o s c room).answer ≡ Refused number place → o ≡ some (refusal number place)
-      from none h = let z : ◌≡◌ {A = ℕ} 0 1 = cc in absurd (omega arith)
-      from (some r) h =
+      from : (o : Option Refusal) → (outcome o s c room).answer ≡ Refused number place → o ≡ Some (refusal number place)
+      from None h = let z : ◌≡◌ {A = ℕ} 0 1 = cc in absurd (omega arith)
+      from (Some r) h =
           let n : r.number ≡ number = cc in
           let p : r.place ≡ place = cc in
-          λ i. some (refusal (n i) (p i))
+          λ i. Some (refusal (n i) (p i))
 
   pub change_made :
-      all ≡ none → change s buffer lines given c room ≡
+      all ≡ None → change s buffer lines given c room ≡
       record { answer = Cycle (counts (plan s (list_lines c.list))); list = c.list ++ c.behind; cycle = (build s c.list room).output }
   unfolding change
   change_made e = ap (λ o. outcome o s c room) e
 
-  pub made_counts : (x : Counts) → (change s buffer lines given c room).answer ≡ Cycle x → (all ≡ none) × (counts (plan s (list_lines c.list)) ≡ x)
+  pub made_counts : (x : Counts) → (change s buffer lines given c room).answer ≡ Cycle x → (all ≡ None) × (counts (plan s (list_lines c.list)) ≡ x)
   unfolding change
   made_counts x = from all
     where
-      from : (o : Option Refusal) → (outcome o s c room).answer ≡ Cycle x → (o ≡ none) × (counts (plan s (list_lines c.list)) ≡ x)
-      from none h = (refl, cc)
-      from (some r) h = let z : ◌≡◌ {A = ℕ} 0 1 = cc in absurd (omega arith)
+      from : (o : Option Refusal) → (outcome o s c room).answer ≡ Cycle x → (o ≡ None) × (counts (plan s (list_lines c.list)) ≡ x)
+      from None h = (refl, cc)
+      from (Some r) h = let z : ◌≡◌ {A = ℕ} 0 1 = cc in absurd (omega arith)
 
   -- ---- behind the own condition
 
-  module _ (passed : first_refusal (given_conditions s buffer lines given) ≡ none) (free : c.own.holds ≡ none) (count : ℕ)
+  module _ (passed : first_refusal (given_conditions s buffer lines given) ≡ None) (free : c.own.holds ≡ None) (count : ℕ)
       (fit : settings_fit s ≡ true) (few : count ≤ lines_most) (l : Listed count c.list) where
     -- refused as building the changed list is
     pub refused_as_built : all ≡ first_refusal (building.conditions s c.list room)
     refused_as_built = own_passed passed free ∙ sym (built_by_plan s c.list room count fit few l)
 
-    pub judged_refused : (number place : ℕ) → judge s c.list room ≡ Judged.Refused number place → all ≡ some (refusal number place)
+    pub judged_refused : (number place : ℕ) → judge s c.list room ≡ Judged.Refused number place → all ≡ Some (refusal number place)
     unfolding judge
     judged_refused number place h =
         refused_as_built
         ∙ judged_refusal (first_refusal (building.conditions s c.list room)) (figures_of (plan s (list_lines c.list))) number place h
 
     pub judged_made :
-        (f : Figures) → judge s c.list room ≡ Judged.Cycle f → (all ≡ none) × (counts (plan s (list_lines c.list)) ≡ counts_held f)
+        (f : Figures) → judge s c.list room ≡ Judged.Cycle f → (all ≡ None) × (counts (plan s (list_lines c.list)) ≡ counts_held f)
     unfolding judge counts figures_of
     judged_made f h =
         let told = judged_cycle (first_refusal (building.conditions s c.list room)) (figures_of (plan s (list_lines c.list))) f h in

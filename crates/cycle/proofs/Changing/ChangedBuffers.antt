@@ -4,7 +4,7 @@ use mathlib.Core.Path.{◌≡◌, sym, ap, ◌∙◌}
 use Prim.Native.Nat.{ℕ, suc, ◌+◌, ◌-◌, ◌*◌, ◌≤◌, ◌<◌}
 use native.Mathlib.Omega.{arith}
 use mathlib.Core.Bool.{true, false}
-use mathlib.Core.Option.{none, some}
+use Rattle.std.specs.Prelude.{None, Some}
 use mathlib.Core.List.{List, ◌++◌, append-nil}
 use lib.ListN.{length, take}
 use borrow.Author.Tests.{eq-eqb, ne_eqb}
@@ -22,24 +22,24 @@ use Rattle.cycle.proofs.Changing.Moves.{line_put, line_removed, onto_front_of}
 -- ---- 15 and 16
 
 module _ (buffer : List ℕ) (lines : ℕ) where
-  pub full_list : lines ≡ lines_most → (no_place buffer lines).holds ≡ some 0
+  pub full_list : lines ≡ lines_most → (no_place buffer lines).holds ≡ Some 0
   unfolding no_place
   full_list e = rw (eq-eqb lines lines_most e)
 
-  pub full_buffer : (lines ≡ lines_most → ⊥) → places_for buffer (suc lines) ≡ false → (no_place buffer lines).holds ≡ some 0
+  pub full_buffer : (lines ≡ lines_most → ⊥) → places_for buffer (suc lines) ≡ false → (no_place buffer lines).holds ≡ Some 0
   unfolding no_place
   full_buffer h e = rw (ne_eqb lines lines_most h, e)
 
-  pub place_left : (lines ≡ lines_most → ⊥) → places_for buffer (suc lines) ≡ true → (no_place buffer lines).holds ≡ none
+  pub place_left : (lines ≡ lines_most → ⊥) → places_for buffer (suc lines) ≡ true → (no_place buffer lines).holds ≡ None
   unfolding no_place
   place_left h e = rw (ne_eqb lines lines_most h, e)
 
 module _ (given list : List ℕ) where
-  pub line_absent : any (equals given) (cut_lines list) ≡ false → (not_in_list given list).holds ≡ some 0
+  pub line_absent : any (equals given) (cut_lines list) ≡ false → (not_in_list given list).holds ≡ Some 0
   unfolding not_in_list
   line_absent e = rw e
 
-  pub line_present : any (equals given) (cut_lines list) ≡ true → (not_in_list given list).holds ≡ none
+  pub line_present : any (equals given) (cut_lines list) ≡ true → (not_in_list given list).holds ≡ None
   unfolding not_in_list
   line_present e = rw e
 

@@ -4,7 +4,7 @@ use mathlib.Core.Path.{◌≡◌, refl, sym, ap, ap₂, ◌∙◌, subst}
 use Prim.Native.Nat.{ℕ, suc, ◌+◌, ◌-◌, ◌*◌, ◌≤◌}
 use native.Mathlib.Omega.{arith}
 use mathlib.Core.Bool.{Bool, true, false, ◌||◌, not, true≢false}
-use mathlib.Core.Option.{Option, none, some}
+use Rattle.std.specs.Prelude.{Option, None, Some}
 use mathlib.Core.List.{List, [], ◌∷◌, ◌++◌, map, append-nil}
 use lib.Dec.{eqb}
 use lib.ListN.{length, take, drop, length-append, length-replicate}
@@ -36,16 +36,16 @@ use Rattle.cycle.proofs.Changing.MovedLines.{put_behind, first_gone, taken_arriv
 
 -- none of its conditions holds, and its list has this many lines
 record Made (s : Settings) (buffer : List ℕ) (lines : ℕ) (given : List ℕ) (c : Change) : Type 0 where
-  passed : first_refusal (given_conditions s buffer lines given) ≡ none
+  passed : first_refusal (given_conditions s buffer lines given) ≡ None
   given_fits : GivenPassed s buffer lines given
-  free : c.own.holds ≡ none
+  free : c.own.holds ≡ None
 
 record Fitting (c : Change) (count : ℕ) : Type 0 where
   few : count ≤ lines_most
   listed : Listed count c.list
 
 module _ (s : Settings) (buffer : List ℕ) (lines : ℕ) (given : List ℕ) (c : Change) (room : ℕ) where
-  passes : first_refusal (conditions s buffer lines given c room) ≡ none → Made s buffer lines given c
+  passes : first_refusal (conditions s buffer lines given c room) ≡ None → Made s buffer lines given c
   unfolding conditions
   passes h =
       let own : List Condition = c.own ∷ plan_conditions (plan s (list_lines c.list)) room in
@@ -124,14 +124,14 @@ or_none true b h = absurd (true≢false h)
 or_none false b h = (refl, h)
 
 -- 16 does not hold
-place_free : (buffer : List ℕ) (lines : ℕ) → (no_place buffer lines).holds ≡ none → (lines ≡ lines_most → ⊥) × (places_for buffer (suc lines) ≡ true)
+place_free : (buffer : List ℕ) (lines : ℕ) → (no_place buffer lines).holds ≡ None → (lines ≡ lines_most → ⊥) × (places_for buffer (suc lines) ≡ true)
 unfolding no_place
 place_free buffer lines h =
     let told = or_none (eqb lines lines_most) (not (places_for buffer (suc lines))) (test_fails 16 (eqb lines lines_most || not (places_for buffer (suc lines))) h) in
     (λ e. true≢false (sym (eq-eqb lines lines_most e) ∙ told.0), not-false (places_for buffer (suc lines)) told.1)
 
 -- 15 does not hold
-line_there : (given list : List ℕ) → (not_in_list given list).holds ≡ none → any (equals given) (cut_lines list) ≡ true
+line_there : (given list : List ℕ) → (not_in_list given list).holds ≡ None → any (equals given) (cut_lines list) ≡ true
 unfolding not_in_list
 line_there given list h = not-false (any (equals given) (cut_lines list)) (test_fails 15 (not (any (equals given) (cut_lines list))) h)
 
@@ -302,8 +302,8 @@ module _ (s t : Settings) (buffer : List ℕ) (lines : ℕ) (given next : List �
       (o : Option Refusal) → first_refusal (conditions t behind x.lines next (arrival behind x.lines next) other) ≡ o →
       length (outcome o t (arrival behind x.lines next) other).list ≤ line_length * lines
   unfolding arrival
-  short (some r) h = omega arith
-  short none h =
+  short (Some r) h = omega arith
+  short None h =
       let a : Change = arrival behind x.lines next in
       let long = (arrival_fits t behind x.lines next (passes t behind x.lines next a other h)).listed.count in
       rw (append-nil a.list) (omega (arith, long, fewer))

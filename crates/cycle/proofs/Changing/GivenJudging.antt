@@ -3,7 +3,7 @@
 use mathlib.Core.Path.{◌≡◌, refl, ◌∙◌, subst}
 use Prim.Native.Nat.{ℕ, ◌*◌, ◌≤◌, ◌<◌}
 use mathlib.Core.Bool.{Bool, true, false, ◌&&◌, not}
-use mathlib.Core.Option.{none, some}
+use Rattle.std.specs.Prelude.{None, Some}
 use mathlib.Core.List.{List, [], ◌∷◌}
 use lib.Dec.{eqb}
 use lib.ListN.{length}
@@ -45,13 +45,13 @@ pub record GivenPassed (s : Settings) (buffer : List ℕ) (lines : ℕ) (given :
   pub reads : taken (read_line given) ≡ true
 
 -- 3 does not hold of the given line
-given_reads : (lines : ℕ) (b : Bool) → pick b none (some lines) ≡ none → b ≡ true
+given_reads : (lines : ℕ) (b : Bool) → pick b None (Some lines) ≡ None → b ≡ true
 given_reads lines true h = refl
 given_reads lines false h = cc
 
 pub given_passed :
     (s : Settings) (buffer : List ℕ) (lines : ℕ) (given : List ℕ) →
-    first_refusal (given_conditions s buffer lines given) ≡ none → GivenPassed s buffer lines given
+    first_refusal (given_conditions s buffer lines given) ≡ None → GivenPassed s buffer lines given
 unfolding given_conditions line_conditions
 given_passed s buffer lines given h =
     let list : List ℕ = list_in buffer lines in
@@ -96,48 +96,48 @@ told_any_copies n p layout c d buffer lines given found r e h =
 
 module _ (list : List ℕ) (lines : ℕ) (given : List ℕ) where
   pub list_misprinted :
-      (place : ℕ) → misprint_from 0 (cut_lines list) ≡ some place →
-      first_refusal (line_conditions list lines given) ≡ some (refusal 3 place)
+      (place : ℕ) → misprint_from 0 (cut_lines list) ≡ Some place →
+      first_refusal (line_conditions list lines given) ≡ Some (refusal 3 place)
   unfolding line_conditions
   list_misprinted place e = rw e
 
-  module _ (printed : misprint_from 0 (cut_lines list) ≡ none) where
-    pub given_misprinted_lem : read_line given ≡ none → first_refusal (line_conditions list lines given) ≡ some (refusal 3 lines)
+  module _ (printed : misprint_from 0 (cut_lines list) ≡ None) where
+    pub given_misprinted_lem : read_line given ≡ None → first_refusal (line_conditions list lines given) ≡ Some (refusal 3 lines)
     unfolding line_conditions
     given_misprinted_lem e = rw (printed, e)
 
     pub list_falls :
-        taken (read_line given) ≡ true → (place : ℕ) → fall_from 0 0 (list_lines list) ≡ some place →
-        first_refusal (line_conditions list lines given) ≡ some (refusal 4 place)
+        taken (read_line given) ≡ true → (place : ℕ) → fall_from 0 0 (list_lines list) ≡ Some place →
+        first_refusal (line_conditions list lines given) ≡ Some (refusal 4 place)
     unfolding line_conditions
     list_falls read place e = rw (printed, read, e)
 
     pub lines_passed :
-        taken (read_line given) ≡ true → fall_from 0 0 (list_lines list) ≡ none →
-        first_refusal (line_conditions list lines given) ≡ none
+        taken (read_line given) ≡ true → fall_from 0 0 (list_lines list) ≡ None →
+        first_refusal (line_conditions list lines given) ≡ None
     unfolding line_conditions
     lines_passed read e = rw (printed, read, e)
 
 -- ---- 1 and 2 before them
 
 module _ (s : Settings) (buffer : List ℕ) (lines : ℕ) (given : List ℕ) where
-  pub settings_refused : settings_fit s ≡ false → first_refusal (given_conditions s buffer lines given) ≡ some (refusal 1 0)
+  pub settings_refused : settings_fit s ≡ false → first_refusal (given_conditions s buffer lines given) ≡ Some (refusal 1 0)
   unfolding given_conditions
   settings_refused e = rw e
 
   module _ (one : settings_fit s ≡ true) where
-    pub too_many_lines_lem : lines_most < lines → first_refusal (given_conditions s buffer lines given) ≡ some (refusal 2 0)
+    pub too_many_lines_lem : lines_most < lines → first_refusal (given_conditions s buffer lines given) ≡ Some (refusal 2 0)
     unfolding given_conditions
     too_many_lines_lem l = rw (one, lt-leb lines lines_most l)
 
     module _ (few : lines ≤ lines_most) where
-      pub no_places : places_for buffer lines ≡ false → first_refusal (given_conditions s buffer lines given) ≡ some (refusal 2 0)
+      pub no_places : places_for buffer lines ≡ false → first_refusal (given_conditions s buffer lines given) ≡ Some (refusal 2 0)
       unfolding given_conditions
       no_places e = rw (one, le-leb lines lines_most few, e)
 
       module _ (places : places_for buffer lines ≡ true) where
         pub given_length_out_lem :
-            (length given ≡ line_length → ⊥) → first_refusal (given_conditions s buffer lines given) ≡ some (refusal 2 0)
+            (length given ≡ line_length → ⊥) → first_refusal (given_conditions s buffer lines given) ≡ Some (refusal 2 0)
         unfolding given_conditions line_conditions
         given_length_out_lem h = rw (one, le-leb lines lines_most few, places, ne_eqb (length given) line_length h)
 

@@ -4,7 +4,7 @@ use mathlib.Core.Path.{◌≡◌, refl, ap}
 use Prim.Native.Nat.{ℕ, zero, suc, ◌+◌, ◌≤◌, ◌<◌}
 use native.Mathlib.Omega.{arith}
 use mathlib.Core.Bool.{Bool, true, false, ◌||◌}
-use mathlib.Core.Option.{some}
+use Rattle.std.specs.Prelude.{Some}
 use mathlib.Core.List.{List, [], ◌∷◌, map}
 use lib.ListN.{length}
 use Rattle.columns.specs.Lists.{pick, any}
@@ -31,7 +31,7 @@ module _ {A : Type 0} (f : A → Bool) where
   first_place_lem i (x ∷ xs) c e = go (f x) (first_place_lem (suc i) xs c (omega arith))
     where
       go : (t : Bool) → place_or c (first_from f (suc i) xs) ≡ suc i + place f xs
-          → place_or c (pick t (some i) (first_from f (suc i) xs)) ≡ i + pick t zero (suc (place f xs))
+          → place_or c (pick t (Some i) (first_from f (suc i) xs)) ≡ i + pick t zero (suc (place f xs))
       go true h = omega arith
       go false h = omega arith
 

@@ -5,7 +5,7 @@ use Prim.Native.Nat.{ℕ, ◌+◌, ◌-◌, ◌*◌, ◌≤◌, ◌<◌}
 use native.Mathlib.Numerals.{add-one}
 use native.Mathlib.Omega.{arith}
 use mathlib.Core.Bool.{Bool, true, false}
-use mathlib.Core.Option.{none, some}
+use Rattle.std.specs.Prelude.{None, Some}
 use mathlib.Core.List.{List}
 use lib.ListN.{length, take, drop, drop_of_length-le}
 use borrow.Author.Tests.{lt-ltb, le-ltb, ne_eqb}
@@ -33,12 +33,12 @@ module _ (f : Line → Bool) (list : List ℕ) (lines : ℕ) (whole : length lis
   pub passes_here :
       i < lines → f (spelled (drop (line_length * i) list)) ≡ true → i ≡ place_or lines (first_from f 0 (list_lines list))
   passes_here h e =
-      let found : first_from f 0 (list_lines list) ≡ some i = so ∙ rw (line_here list lines whole i h, e) in
+      let found : first_from f 0 (list_lines list) ≡ Some i = so ∙ rw (line_here list lines whole i h, e) in
       sym (ap (place_or lines) found)
 
   pub none_passes : lines ≤ i → lines ≡ place_or lines (first_from f 0 (list_lines list))
   none_passes h =
-      let found : first_from f 0 (list_lines list) ≡ none =
+      let found : first_from f 0 (list_lines list) ≡ None =
       so ∙ rw (drop_of_length-le (list_lines list) {i = i} (omega (arith, length_list_lines list, count_lines list lines whole))) in
       sym (ap (place_or lines) found)
 

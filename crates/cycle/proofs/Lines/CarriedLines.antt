@@ -5,7 +5,7 @@ use Prim.Native.Nat.{ℕ, zero, suc, ◌+◌, ◌-◌, ◌*◌, ◌≤◌}
 use native.Mathlib.Nat.{zero-mul, suc-mul}
 use native.Mathlib.Omega.{arith}
 use mathlib.Core.Bool.{Bool, true, false}
-use mathlib.Core.Option.{Option, none}
+use Rattle.std.specs.Prelude.{Option, None}
 use mathlib.Core.List.{List, [], ◌∷◌, ◌++◌, append_assoc}
 use lib.ListN.{length, drop}
 use lib.ListN
@@ -87,7 +87,7 @@ lines_joined t h = chunks t.p 0 t.d t.lines ∙ rw zero-mul (take_all (t.d * t.p
 pub lines_sent : (t : Plan) → Keeps t → length t.lines ≤ t.d * t.p → joined carried (buckets t) ≡ t.lines
 unfolding buckets
 lines_sent t keeps h =
-    carried_from t (length (slots t)) 0 none (slots t)
+    carried_from t (length (slots t)) 0 None (slots t)
     ∙ carried_in_order t keeps [] (slots t) refl
     ∙ ap (λ c. joined (lines_of t) (span 0 c)) keeps.all_sent
     ∙ lines_joined t h

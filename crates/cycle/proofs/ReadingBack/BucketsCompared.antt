@@ -4,7 +4,7 @@ use mathlib.Core.Path.{◌≡◌, refl, sym, ap, ap₂, ◌∙◌, subst}
 use Prim.Native.Nat.{ℕ, ◌+◌, ◌-◌, ◌*◌, ◌/◌, ◌%◌, ◌≤◌, ◌<◌, min}
 use native.Mathlib.Omega.{arith}
 use mathlib.Core.Bool.{Bool, true}
-use mathlib.Core.Option.{Option, none, some}
+use Rattle.std.specs.Prelude.{Option, None, Some}
 use mathlib.Core.List.{List, [], ◌∷◌, ◌++◌, map}
 use borrow.Author.Tests.{eq-eqb}
 use lib.Arith.{digits_div, digits_mod}
@@ -96,10 +96,10 @@ pub record DataFacts (g : Reading) (head : Head) (count follow : ℕ) : Type 0 w
 -- that is all there is to it, if its lines are those wanted as soon as there are as many
 pub data_told :
     (o : Option Bucket) (b : Bucket) (f : ℕ) (ls : List Line) →
-    ((c : Bucket) (h : ℕ) (ms : List Line) → o ≡ some c → c.body ≡ data_body h ms → length ms ≡ length ls → ms ≡ ls) →
-    b.body ≡ data_body f ls → DataFacts (as_reading o) (head_of b) (length ls) f → o ≡ some b
-data_told none b f ls known e d = absurd (let k : KindMisprinted ≡ KindData = d.kind_is in let z : ◌≡◌ {A = ℕ} 0 1 = cc in omega arith)
-data_told (some c) b f ls known e d = ap some (of c.body refl)
+    ((c : Bucket) (h : ℕ) (ms : List Line) → o ≡ Some c → c.body ≡ data_body h ms → length ms ≡ length ls → ms ≡ ls) →
+    b.body ≡ data_body f ls → DataFacts (as_reading o) (head_of b) (length ls) f → o ≡ Some b
+data_told None b f ls known e d = absurd (let k : KindMisprinted ≡ KindData = d.kind_is in let z : ◌≡◌ {A = ℕ} 0 1 = cc in omega arith)
+data_told (Some c) b f ls known e d = ap Some (of c.body refl)
   where
     of : (x : Body) → c.body ≡ x → c ≡ b
     of (index_body ps es) g =
@@ -113,7 +113,7 @@ data_told (some c) b f ls known e d = ap some (of c.body refl)
         let body : c.body ≡ b.body = g ∙ (ap₂ data_body follow (known c h ms refl g count) ∙ sym e) in
         sym (bucket_whole c) ∙ (ap₂ bucket_with head body ∙ bucket_whole b)
 
-pub data_reads : (b : Bucket) (f : ℕ) (ls : List Line) → b.body ≡ data_body f ls → DataFacts (as_reading (some b)) (head_of b) (length ls) f
+pub data_reads : (b : Bucket) (f : ℕ) (ls : List Line) → b.body ≡ data_body f ls → DataFacts (as_reading (Some b)) (head_of b) (length ls) f
 data_reads b f ls e =
     record {
       kind_is = ap (λ x. (held_body (head_of b) x).kind) e;
@@ -136,13 +136,13 @@ last_filled w z d (x ∷ xs) h =
 -- the last tag that a reading of a data bucket finds
 last_of_read :
     (o : Option Bucket) (ls : List Line) →
-    ((c : Bucket) (h : ℕ) (ms : List Line) → o ≡ some c → c.body ≡ data_body h ms → length ms ≡ length ls → ms ≡ ls) →
+    ((c : Bucket) (h : ℕ) (ms : List Line) → o ≡ Some c → c.body ≡ data_body h ms → length ms ≡ length ls → ms ≡ ls) →
     (as_reading o).kind ≡ KindData → (as_reading o).lines ≡ length ls → 1 ≤ length ls →
     get_or (as_reading o).tags ((as_reading o).lines - 1) 0 ≡ last_or 0 (map (λ l. l.tag) ls)
-last_of_read none ls known k c h = absurd (let z : ◌≡◌ {A = ℕ} 0 1 = cc in omega arith)
-last_of_read (some b) ls known k c h = of b.body refl
+last_of_read None ls known k c h = absurd (let z : ◌≡◌ {A = ℕ} 0 1 = cc in omega arith)
+last_of_read (Some b) ls known k c h = of b.body refl
   where
-    of : (y : Body) → b.body ≡ y → get_or (as_reading (some b)).tags ((as_reading (some b)).lines - 1) 0 ≡ last_or 0 (map (λ l. l.tag) ls)
+    of : (y : Body) → b.body ≡ y → get_or (as_reading (Some b)).tags ((as_reading (Some b)).lines - 1) 0 ≡ last_or 0 (map (λ l. l.tag) ls)
     of (index_body ps es) g =
         absurd
         (let i : KindIndex ≡ KindData = ap (λ x. (held_body (head_of b) x).kind) (sym g) ∙ k in
@@ -191,7 +191,7 @@ module _ (f : Figures) (bytes : List ℕ) (ready : Ready f) (x q : ℕ) (st : St
       ∙ ap (λ y. spelled (line_bytes (bucket_at bytes y) m)) data_here
 
   pub lines_known :
-      (c : Bucket) (h : ℕ) (ms : List Line) → read_bucket (bucket_at bytes x) ≡ some c → c.body ≡ data_body h ms →
+      (c : Bucket) (h : ℕ) (ms : List Line) → read_bucket (bucket_at bytes x) ≡ Some c → c.body ≡ data_body h ms →
       length ms ≡ length (lines_of (plan_in f InImage bytes) q) → ms ≡ lines_of (plan_in f InImage bytes) q
   lines_known c h ms e g l =
       let z : Line = spelled [] in

@@ -5,7 +5,7 @@ use Prim.Native.Nat.{ℕ, zero, suc, ◌+◌, ◌-◌, ◌*◌, ◌/◌, ◌%◌
 use native.Mathlib.Nat.{mod-eq_of_lt, suc-mul, mul-div_cancel}
 use native.Mathlib.Omega.{arith}
 use mathlib.Core.Bool.{Bool, true, false}
-use mathlib.Core.Option.{Option, none}
+use Rattle.std.specs.Prelude.{Option, None}
 use mathlib.Core.List.{List, [], ◌∷◌, ◌++◌, map, append_assoc, append-nil}
 use lib.Dec.{eqb, lit<}
 use lib.ListN
@@ -118,7 +118,7 @@ lines_by_lem t a (suc q) e =
 
 counted_buckets : (t : Plan) → Accepted t → counted_from t.p 0 48 (map print_bucket (buckets t)) ≡ lines_by t.p t.d (digit_behind t t.d)
 unfolding buckets
-counted_buckets t a = counted_all t (laid t a).keeps t.p (length (slots t)) 0 none [] (slots t) refl
+counted_buckets t a = counted_all t (laid t a).keeps t.p (length (slots t)) 0 None [] (slots t) refl
 
 pub counted_lines : (t : Plan) → Accepted t → cycle_size t ≤ buckets_most → counted t.p (image t) ≡ length t.lines
 unfolding counted image

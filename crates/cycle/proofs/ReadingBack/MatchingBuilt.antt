@@ -5,7 +5,7 @@ use Prim.Native.Nat.{ℕ, zero, suc, ◌+◌, ◌*◌, ◌/◌, ◌%◌, ◌≤�
 use native.Mathlib.Nat.{mul_comm, mul-div_cancel, mul-mod_left}
 use native.Mathlib.Omega.{arith}
 use mathlib.Core.Bool.{Bool, true, ◌&&◌}
-use mathlib.Core.Option.{none}
+use Rattle.std.specs.Prelude.{None}
 use mathlib.Core.List.{List, [], ◌∷◌, ◌++◌, map}
 use lib.Dec.{lit<, eqb, leb}
 use lib.ListN
@@ -199,7 +199,7 @@ module _ (s : Settings) (f : Figures) (bytes : List ℕ) (fit : settings_fit s �
       let lines_left : length list % line_length ≡ 0 = rw size_bytes (mul-mod_left (length ls) line_length) in
       let few : length list / line_length ≤ lines_most = omega (arith, lines_count, count, shaped.lines_high) in
       let wholes : eqb (length list % line_length) 0 && leb (length list / line_length) lines_most ≡ true = rw (eq-eqb (length list % line_length) 0 lines_left, le-leb (length list / line_length) lines_most few) in
-      let falls : fall_from 0 0 (list_lines list) ≡ none = rw lines_back (rising_none_falls 0 0 ls fine.tags_rise) in
+      let falls : fall_from 0 0 (list_lines list) ≡ None = rw lines_back (rising_none_falls 0 0 ls fine.tags_rise) in
       let plans : plan s (list_lines list) ≡ t = ap (plan s) lines_back ∙ sym (plan_same s f ls g count) in
       let n_is : cycle_size (plan s (list_lines list)) ≡ f.size = ap cycle_size plans ∙ size in
       let built = builds_cycle s list (length bytes) fit wholes (none_misprinted_of_printed ls fine.lines_fit) falls

@@ -3,7 +3,7 @@
 use mathlib.Core.Path.{◌≡◌, sym, ◌∙◌, ap}
 use Prim.Native.Nat.{ℕ, suc, ◌<◌}
 use mathlib.Core.Bool.{false}
-use mathlib.Core.Option.{none}
+use Rattle.std.specs.Prelude.{None}
 use mathlib.Core.List.{List, ◌∷◌, ◌++◌}
 use native.Mathlib.Nat.{zero-add}
 use native.Mathlib.Omega.{arith}
@@ -24,8 +24,8 @@ pub bucket_at_lem :
     cycle_bucket t (length before) ≡ bucket_of t (length (slots t)) (length before) (last_of t (data_count t before)) x rest
 unfolding cycle_bucket buckets
 bucket_at_lem t keeps before x rest e =
-    ap (λ s. get_or (buckets_from t (length (slots t)) 0 none s) (length before) no_bucket) e ∙
-    (get_d_buckets_from t (length (slots t)) 0 none before x rest ∙
+    ap (λ s. get_or (buckets_from t (length (slots t)) 0 None s) (length before) no_bucket) e ∙
+    (get_d_buckets_from t (length (slots t)) 0 None before x rest ∙
     rw (zero-add, last_behind t keeps before (x ∷ rest) e))
 
 -- a place of the cycle, with the slot there

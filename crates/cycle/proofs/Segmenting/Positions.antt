@@ -4,7 +4,7 @@ use mathlib.Core.Path.{◌≡◌, refl, sym, ap, ap₂, ◌∙◌}
 use Prim.Native.Nat.{ℕ, suc, ◌+◌, ◌-◌, ◌≤◌, ◌<◌}
 use native.Mathlib.Nat.{add-zero, add-suc, suc-add}
 use native.Mathlib.Omega.{arith}
-use mathlib.Core.Option.{Option, none}
+use Rattle.std.specs.Prelude.{Option, None}
 use mathlib.Core.List.{List, [], ◌∷◌, ◌++◌, map, append_assoc}
 use lib.ListN.{length, take, drop, get_or, length-append}
 use lib.Seq.{take_at, drop_at, split_at, length-take-le, get_or-append_seam}
@@ -75,7 +75,7 @@ length_buckets_from t size p last (x ∷ xs) = ap suc (length_buckets_from t siz
 
 pub length_buckets : (t : Plan) → length (buckets t) ≡ cycle_size t
 unfolding buckets cycle_size
-length_buckets t = length_buckets_from t (length (slots t)) 0 none (slots t)
+length_buckets t = length_buckets_from t (length (slots t)) 0 None (slots t)
 
 pub get_d_buckets_from :
     (t : Plan) (size p : ℕ) (last : Option ℕ) (before : List Slot) (x : Slot) (rest : List Slot) →
@@ -107,19 +107,19 @@ module _ {t : Plan} {x i j : ℕ} {xs : List Slot} (a : At t x i j xs) where
   at_slot z =
       ap₂ (λ ys p. get_or ys p z) a.splits (sym a.here) ∙ get_or-append_seam a.before a.it (a.next ++ a.behind) z
 
-  pub at_last : last_sent_before t x ≡ last_sent_in t none a.before
+  pub at_last : last_sent_before t x ≡ last_sent_in t None a.before
   unfolding last_sent_before
-  at_last = ap (last_sent_in t none) at_before
+  at_last = ap (last_sent_in t None) at_before
 
   pub bucket_at_lem : cycle_bucket t x ≡ bucket_of t (length (slots t)) x (last_sent_before t x) a.it (a.next ++ a.behind)
   unfolding cycle_bucket buckets
   bucket_at_lem =
       let rest : List Slot = a.next ++ a.behind in
-      let one : get_or (buckets_from t (length (slots t)) 0 none (a.before ++ (a.it ∷ rest))) (length a.before) no_bucket
-      ≡ bucket_of t (length (slots t)) (0 + length a.before) (last_sent_in t none a.before) a.it rest =
-      get_d_buckets_from t (length (slots t)) 0 none a.before a.it rest in
+      let one : get_or (buckets_from t (length (slots t)) 0 None (a.before ++ (a.it ∷ rest))) (length a.before) no_bucket
+      ≡ bucket_of t (length (slots t)) (0 + length a.before) (last_sent_in t None a.before) a.it rest =
+      get_d_buckets_from t (length (slots t)) 0 None a.before a.it rest in
       let p : 0 + length a.before ≡ x = omega (arith, a.here) in
-      ap₂ (λ ys p'. get_or (buckets_from t (length (slots t)) 0 none ys) p' no_bucket) a.splits (sym a.here)
+      ap₂ (λ ys p'. get_or (buckets_from t (length (slots t)) 0 None ys) p' no_bucket) a.splits (sym a.here)
       ∙ one
       ∙ ap₂ (λ p' l. bucket_of t (length (slots t)) p' l a.it rest) p (sym at_last)
 

@@ -7,7 +7,7 @@ use native.Mathlib.Nat.{zero-add, add-zero, add_assoc}
 use native.Mathlib.Numerals.{add-one}
 use native.Mathlib.Omega.{arith}
 use mathlib.Core.Bool.{Bool, true, false}
-use mathlib.Core.Option.{none, some}
+use Rattle.std.specs.Prelude.{None, Some}
 use mathlib.Core.List.{List, [], ◌∷◌, ◌++◌, map, append_assoc}
 use lib.ListN.{length, take, drop, get_or, length-append, length-take, length-map, take-append-drop, get_or-map}
 use lib.Seq.{split_at}
@@ -48,7 +48,7 @@ module _ (t : Plan) (keeps : Keeps t) where
     where
       by_test :
           (b : Bool) → is_data t x ≡ b →
-          pick (is_data t x) (some (last_tag t x.place)) (last_of t (data_count t before)) ≡ last_of t (data_count t before + pick (is_data t x) 1 0)
+          pick (is_data t x) (Some (last_tag t x.place)) (last_of t (data_count t before)) ≡ last_of t (data_count t before + pick (is_data t x) 1 0)
       by_test true e =
           let s : ℕ = data_count t before in
           let place : x.place ≡ s = keeps.in_order before x rest splits e in
@@ -68,7 +68,7 @@ module _ (t : Plan) (keeps : Keeps t) where
       ∙ last_among (before ++ (x ∷ [])) xs rest more
       ∙ ap (last_of t) (ap (λ y. y + data_count t xs) count ∙ add_assoc s one (data_count t xs))
 
-  pub last_behind : (xs rest : List Slot) → slots t ≡ xs ++ rest → last_sent_in t none xs ≡ last_of t (data_count t xs)
+  pub last_behind : (xs rest : List Slot) → slots t ≡ xs ++ rest → last_sent_in t None xs ≡ last_of t (data_count t xs)
   last_behind xs rest splits = last_among [] xs rest splits ∙ ap (last_of t) (zero-add (data_count t xs))
 
   pub last_sent_lem : (x : ℕ) → last_sent_before t x ≡ last_of t (data_count t (take x (slots t)))

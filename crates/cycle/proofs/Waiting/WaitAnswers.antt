@@ -4,7 +4,7 @@
 use mathlib.Core.Path.{◌≡◌, refl, sym, ap, ◌∙◌}
 use Prim.Native.Nat.{ℕ, ◌*◌, ◌≤◌}
 use native.Mathlib.Omega.{arith}
-use mathlib.Core.Option.{Option, none, some}
+use Rattle.std.specs.Prelude.{Option, None, Some}
 use mathlib.Core.List.{List, [], ◌∷◌, ◌++◌}
 use lib.Dec.{ltb, eqb}
 use lib.ListN.{length}
@@ -55,7 +55,7 @@ module _ (s : Settings) (list : List ℕ) where
   waits_split = refl
 
   -- where 6 does not hold, neither does 7
-  six_short : first_refusal (first_six s list) ≡ none → cycle_size (plan s (list_lines list)) ≤ buckets_most
+  six_short : first_refusal (first_six s list) ≡ None → cycle_size (plan s (list_lines list)) ≤ buckets_most
   six_short h =
       let t : Plan = plan s (list_lines list) in
       let front : List Condition = settings_out s ∷ list_length_out list ∷ line_misprinted list ∷ tag_falls list ∷ copies_out t ∷ [] in
@@ -63,33 +63,33 @@ module _ (s : Settings) (list : List ℕ) where
       let six = none_holds (cycle_too_long t) [] last.1 in
       ltb-false buckets_most (cycle_size t) (test_fails 6 (ltb buckets_most (cycle_size t)) six.first)
 
-  no_seventh : first_refusal (first_six s list) ≡ none → first_refusal (building.conditions s list room_most) ≡ none
+  no_seventh : first_refusal (first_six s list) ≡ None → first_refusal (building.conditions s list room_most) ≡ None
   no_seventh h =
       let size : ℕ = cycle_size (plan s (list_lines list)) in
       let short : size ≤ buckets_most = six_short h in
       ap first_refusal building_split ∙ none_before (first_six s list) seventh h ∙ rw (le-ltb room_most (bucket_length * size) (omega arith))
 
   -- what building refuses, with room for every cycle
-  pub refused_alike : (r : Refusal) → first_refusal (building.conditions s list room_most) ≡ some r → first_refusal (waits.conditions s list) ≡ some r
+  pub refused_alike : (r : Refusal) → first_refusal (building.conditions s list room_most) ≡ Some r → first_refusal (waits.conditions s list) ≡ Some r
   refused_alike r h = by (first_refusal (first_six s list)) refl
     where
-      by : (o : Option Refusal) → first_refusal (first_six s list) ≡ o → first_refusal (waits.conditions s list) ≡ some r
-      by none e = none_not_some (sym (no_seventh e) ∙ h)
-      by (some q) e =
+      by : (o : Option Refusal) → first_refusal (first_six s list) ≡ o → first_refusal (waits.conditions s list) ≡ Some r
+      by None e = none_not_some (sym (no_seventh e) ∙ h)
+      by (Some q) e =
           ap first_refusal waits_split ∙ first_stands (first_six s list) (no_line list ∷ []) q e
           ∙ sym (ap first_refusal building_split ∙ first_stands (first_six s list) seventh q e) ∙ h
 
   -- and what it does not
   pub passed_alike :
-      first_refusal (building.conditions s list room_most) ≡ none → first_refusal (waits.conditions s list) ≡ first_refusal (no_line list ∷ [])
+      first_refusal (building.conditions s list room_most) ≡ None → first_refusal (waits.conditions s list) ≡ first_refusal (no_line list ∷ [])
   passed_alike h =
       ap first_refusal waits_split
       ∙ none_before (first_six s list) (no_line list ∷ []) (none_both (first_six s list) seventh (sym (ap first_refusal building_split) ∙ h)).0
 
   -- where the waits are not refused, neither is building, and the list has a line
   pub passed_there :
-      first_refusal (waits.conditions s list) ≡ none →
-      (first_refusal (building.conditions s list room_most) ≡ none) × (1 ≤ length (list_lines list))
+      first_refusal (waits.conditions s list) ≡ None →
+      (first_refusal (building.conditions s list room_most) ≡ None) × (1 ≤ length (list_lines list))
   passed_there h =
       let told = none_both (first_six s list) (no_line list ∷ []) (sym (ap first_refusal waits_split) ∙ h) in
       let no = none_holds (no_line list) [] told.1 in
@@ -108,7 +108,7 @@ module _ (s : Settings) (list : List ℕ) where
       sym (ap (λ o. waits.numbers (outcome o (wait_sum t))) (refused_alike (refusal number place) e))
 
   module _ (f : Figures) (h : judge s list room_most ≡ Cycle f) where
-    none_and_figures : (first_refusal (building.conditions s list room_most) ≡ none) × (figures_of (plan s (list_lines list)) ≡ f)
+    none_and_figures : (first_refusal (building.conditions s list room_most) ≡ None) × (figures_of (plan s (list_lines list)) ≡ f)
     unfolding judge
     none_and_figures = judged_cycle (first_refusal (building.conditions s list room_most)) (figures_of (plan s (list_lines list))) f h
 
@@ -124,7 +124,7 @@ module _ (s : Settings) (list : List ℕ) where
     unfolding waits.waits
     waits_no_line e =
         let t : Plan = plan s (list_lines list) in
-        let holds : first_refusal (waits.conditions s list) ≡ some (refusal 17 0) =
+        let holds : first_refusal (waits.conditions s list) ≡ Some (refusal 17 0) =
         passed_alike none_and_figures.0 ∙ rw (eq-eqb (length (list_lines list)) 0 (lines_are ∙ e)) in
         sym (ap (λ o. waits.numbers (outcome o (wait_sum t))) holds)
 
@@ -134,6 +134,6 @@ module _ (s : Settings) (list : List ℕ) where
     unfolding waits.waits
     waits_summed some_line w e =
         let t : Plan = plan s (list_lines list) in
-        let passes : first_refusal (waits.conditions s list) ≡ none =
+        let passes : first_refusal (waits.conditions s list) ≡ None =
         passed_alike none_and_figures.0 ∙ rw (ne_eqb (length (list_lines list)) 0 (λ z. some_line (sym lines_are ∙ z))) in
         ap (λ x. waits.numbers (Waited.Sum x)) (e ∙ ap wait_sum plan_is) ∙ sym (ap (λ o. waits.numbers (outcome o (wait_sum t))) passes)

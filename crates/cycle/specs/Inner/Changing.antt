@@ -2,7 +2,7 @@
 -- list's buffer holds behind it.
 -- Assumes nothing.
 use Rattle.std.specs.Prelude.{◌≡◌, ℕ, suc, ◌+◌, ◌-◌, Bool, true, List, [], ◌∷◌, ◌++◌, ltb, take, drop}
-use Rattle.std.proofs.Math.Option.{Option, none, some}
+use Rattle.std.specs.Prelude.{Option, None, Some}
 use Rattle.columns.specs.Lists.{pick, onto}
 use Rattle.columns.specs.PrintedNumbers.{blanks}
 use Rattle.buckets.specs.declared.Line.{Line}
@@ -17,15 +17,15 @@ use Rattle.cycle.specs.declared.changes.GivenJudged.TheVariants.{Passed, Refused
 -- what conditions come to: the first that holds, or none of them, and where the flag says so no number of the list has a leading
 -- zero
 abbrev pub GivenTold : List Condition → List ℕ → GivenJudged → Type 0
-GivenTold cs list (Refused number place) = first_refusal cs ≡ some (refusal number place)
-GivenTold cs list (Passed plain) = (first_refusal cs ≡ none) × (plain ≡ true → PlainList list)
+GivenTold cs list (Refused number place) = first_refusal cs ≡ Some (refusal number place)
+GivenTold cs list (Passed plain) = (first_refusal cs ≡ None) × (plain ≡ true → PlainList list)
 
 -- ---- places
 
 -- the first place where f passes, counted from i
 abbrev pub first_from {ℓ} : {A : Type ℓ} → (A → Bool) → ℕ → List A → Option ℕ
-first_from f i [] = none
-first_from f i (x ∷ xs) = pick (f x) (some i) (first_from f (suc i) xs)
+first_from f i [] = None
+first_from f i (x ∷ xs) = pick (f x) (Some i) (first_from f (suc i) xs)
 
 -- a line's tag is greater than this one
 abbrev pub tag_over : ℕ → Line → Bool

@@ -2,7 +2,7 @@
 -- when a part of it is that part of a plan's cycle.
 -- Assumes nothing.
 use Rattle.std.specs.Prelude.{◌≡◌, ℕ, ◌+◌, ◌-◌, ◌*◌, ◌/◌, ◌≤◌, ◌<◌, Bool, true, false, List, [], ◌∷◌, map, eqb, ltb, length, drop, get_or}
-use Rattle.std.proofs.Math.Option.{some}
+use Rattle.std.specs.Prelude.{Some}
 use Rattle.columns.specs.Lists.{pick, parts, joined, range}
 use Rattle.buckets.specs.Bucket.{read_bucket, follow_on}
 use Rattle.buckets.specs.declared.Line.{Line}
@@ -55,7 +55,7 @@ RisesAt t q = q + 1 < t.d → last_tag t q ≤ first_tag t (q + 1)
 
 -- bucket x of the image is bucket x of the cycle, and no tag falls from a data bucket there to the next
 pub record MatchesAt (t : Plan) (image : List ℕ) (x : ℕ) : Type 0 where
-  pub reads : read_bucket (bucket_at image x) ≡ some (cycle_bucket t x)
+  pub reads : read_bucket (bucket_at image x) ≡ Some (cycle_bucket t x)
   pub rises : (q : ℕ) → first_place t (t.k + 1) q ≡ x → RisesAt t q
 
 -- the same of those from x up to but without y

@@ -3,7 +3,7 @@
 -- `Cycle`; sums and products that the code computes with are laws in proofs/.
 -- Assumes nothing.
 use Rattle.std.specs.Prelude.{◌≡◌, ℕ, zero, suc, ◌+◌, ◌-◌, ◌*◌, ◌/◌, ◌%◌, ◌^◌, ◌≤◌, ◌<◌, min, max, Bool, true, List, [], ◌∷◌, ◌++◌, map, eqb, ltb, length, take, drop, get_or}
-use Rattle.std.proofs.Math.Option.{Option, none, some}
+use Rattle.std.specs.Prelude.{Option, None, Some}
 use Rattle.columns.specs.Lists.{pick, joined, span, range, up, put}
 use Rattle.columns.specs.PrintedNumbers.{value, print, blank_zeros}
 use Rattle.buckets.specs.declared.Line.{Line}
@@ -128,12 +128,12 @@ last_sent_in t last [] = last
 last_sent_in t last (x ∷ xs) = last_sent_in t (last_sent t x last) xs
 
 unfoldable pub last_sent_before : Plan → ℕ → Option ℕ
-last_sent_before t x = last_sent_in t none (take x (slots t))
+last_sent_before t x = last_sent_in t None (take x (slots t))
 
 -- the last tag of the data buckets up to but without q
 abbrev pub last_of : Plan → ℕ → Option ℕ
-last_of t zero = none
-last_of t (suc q) = some (last_tag t q)
+last_of t zero = None
+last_of t (suc q) = Some (last_tag t q)
 
 -- Segment number `number` of the cycle, as the code holds it: its path, from level `top` on; its tree, that of bucket `root`
 -- of height `height`; its data buckets, from `first` up to but without `last`; and where these stand.
@@ -186,13 +186,13 @@ plan_in f source text = plan_of f (lines_held f source text)
 pub record AcceptedList (f : Figures) (list : List ℕ) : Type 0 where
   pub ready : Ready f
   pub whole : length list ≡ line_length * f.lines
-  pub printed : misprint_from 0 (cut_lines list) ≡ none
-  pub rising : fall_from 0 0 (list_lines list) ≡ none
+  pub printed : misprint_from 0 (cut_lines list) ≡ None
+  pub rising : fall_from 0 0 (list_lines list) ≡ None
 
 -- a line's place, or the number of lines where there is none
 abbrev pub place_or : ℕ → Option ℕ → ℕ
-place_or lines none = lines
-place_or lines (some i) = i
+place_or lines None = lines
+place_or lines (Some i) = i
 
 -- the text is long enough to hold them
 abbrev pub TextFits : Figures → Source → ℕ → Type 0

@@ -1,7 +1,7 @@
 -- Lines copied from a bucket as they stand in it, each with a newline behind it.
 -- Assumes nothing.
 use mathlib.Core.Path.{◌≡◌, refl}
-use mathlib.Core.Option.{Option, none, some}
+use Rattle.std.specs.Prelude.{Option, None, Some}
 use mathlib.Core.List.{List, [], ◌∷◌, ◌++◌, append_assoc}
 use Prim.Native.Nat.{ℕ, ◌+◌, ◌-◌, ◌*◌, ◌≤◌}
 use native.Mathlib.Omega.{arith}
@@ -43,8 +43,8 @@ module _ (f k : ℕ) where
   ended_read :
       (bytes : List ℕ) (o : Option Bucket) → read_bucket bytes ≡ o → f + k ≤ length (lines_read o) →
       ended_lines k (drop (lines_start + line_columns_width * f) bytes) ≡ joined print_line (ListN.take k (drop f (lines_read o)))
-  ended_read bytes none e h = no_lines k (drop (lines_start + line_columns_width * f) bytes) (drop f []) (omega arith)
-  ended_read bytes (some b) e h =
+  ended_read bytes None e h = no_lines k (drop (lines_start + line_columns_width * f) bytes) (drop f []) (omega arith)
+  ended_read bytes (Some b) e h =
       rw (print_of_read_bucket bytes e).0 (of_body b.position b.to_cycle b.to_segment b.body h)
 
 -- the lines that a step names stand from the first column of lines on, side by side

@@ -2,7 +2,7 @@
 -- Assumes nothing.
 use mathlib.Core.Path.{◌≡◌, refl, sym, ◌∙◌, ap}
 use mathlib.Core.Bool.{Bool, true, false, ◌&&◌, not}
-use mathlib.Core.Option.{none}
+use Rattle.std.specs.Prelude.{None}
 use mathlib.Core.List.{List, [], ◌∷◌}
 use Prim.Native.Nat.{ℕ, ◌*◌, ◌/◌, ◌%◌, ◌≤◌, ◌<◌}
 use native.Mathlib.Omega.{arith}
@@ -69,7 +69,7 @@ lookup_told false l f room = refl
 lookup_told true true f room = refl
 lookup_told true false (found s got) room = by (ltb room (line_length * length got))
   where
-    by : (b : Bool) → outcome (first_refusal (row 7 b ∷ [])) (found s got) ≡ pick b (refuse 7 0) (outcome none (found s got))
+    by : (b : Bool) → outcome (first_refusal (row 7 b ∷ [])) (found s got) ≡ pick b (refuse 7 0) (outcome None (found s got))
     by true = refl
     by false = refl
 lookup_told true false (absent s) room = rw (le-ltb room 0 (omega arith))

@@ -5,7 +5,7 @@ use Prim.Native.Nat.{ℕ, zero, suc, ◌+◌, ◌%◌}
 use native.Mathlib.Nat.{suc-add, mod-add-mod}
 use native.Mathlib.Omega.{arith}
 use mathlib.Core.Bool.{true, false, true≢false}
-use mathlib.Core.Option.{none, some}
+use Rattle.std.specs.Prelude.{None, Some}
 use mathlib.Core.List.{List, ◌∷◌, ◌++◌, append_assoc, append-nil}
 use Rattle.buckets.specs.declared.Line.{Line}
 use Rattle.cycle.specs.Cycle.{bucket_at}
@@ -37,10 +37,10 @@ module _ (image : List ℕ) (n : ℕ) (strays : ℕ → List ℕ) where
   -- a run of as many steps and more ends with it
   abbrev Runs : ℕ → ℕ → Type 0
   Runs m more =
-      (s : Listener) (x : ℕ) (e : End) (before : List Line) → end_of (heard s x m) ≡ some e → refused_before_end (heard s x m) ≡ false →
+      (s : Listener) (x : ℕ) (e : End) (before : List Line) → end_of (heard s x m) ≡ Some e → refused_before_end (heard s x m) ≡ false →
       run image n (m + more) (x % n) s before ≡ finish e (listener_after s (heard s x m)) (before ++ lines_got (heard s x m))
 
-  same_end : {e e' : End} → some e ≡ some e' → e ≡ e'
+  same_end : {e e' : End} → Some e ≡ Some e' → e ≡ e'
   same_end c = cc
 
   -- the step at hand, by what it hands back
@@ -62,7 +62,7 @@ module _ (image : List ℕ) (n : ℕ) (strays : ℕ → List ℕ) where
         rw (s.keeps, s.no_lines, append-nil)
 
     goes_on :
-        (a : Answer) → (is_end a ≡ true → l.phase ≡ Ended) → Runs m more → (e : End) → end_of (taken a ∷ rest a) ≡ some e →
+        (a : Answer) → (is_end a ≡ true → l.phase ≡ Ended) → Runs m more → (e : End) → end_of (taken a ∷ rest a) ≡ Some e →
         refused_before_end (taken a ∷ rest a) ≡ false →
         after_answer (run image n (m + more)) n (x % n) (before ++ lines a) l a ≡
         finish e (listener_after l (rest a)) (before ++ (lines a ++ lines_got (rest a)))
@@ -85,7 +85,7 @@ module _ (image : List ℕ) (n : ℕ) (strays : ℕ → List ℕ) where
   unfolding repeated
   runs_hearing zero more s x e before end fine = absurd (no_end e end)
     where
-      no_end : (e : End) → none ≡ some e → ⊥
+      no_end : (e : End) → None ≡ Some e → ⊥
       no_end e c = let z : ◌≡◌ {A = ℕ} 0 1 = cc in omega arith
   runs_hearing (suc m) more s x e before end fine =
       let r : Stepped = step s (bucket_at image (x % n)) in

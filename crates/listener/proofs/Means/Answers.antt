@@ -2,7 +2,7 @@
 -- Assumes nothing.
 use mathlib.Core.Path.{◌≡◌, refl, sym, ap, subst, ◌∙◌}
 use Prim.Native.Nat.{ℕ, ◌*◌, ◌≤◌}
-use mathlib.Core.Option.{Option, none, some}
+use Rattle.std.specs.Prelude.{Option, None, Some}
 use mathlib.Core.List.{List}
 use native.Mathlib.Omega.{arith}
 use Rattle.buckets.specs.ListLine.{list_lines}
@@ -38,16 +38,16 @@ averaged_told (Refused number place) (Refused other there) h = cc
 
 -- ---- by what the waits' sum answers
 
-refused_by : (o : Option Refusal) (w : WaitSum) (number place : ℕ) → Waits.outcome o w ≡ waited.Refused number place → o ≡ some (refusal number place)
-refused_by none w number place h = let z : ◌≡◌ {A = ℕ} 0 1 = cc in absurd (omega arith)
-refused_by (some r) w number place h =
+refused_by : (o : Option Refusal) (w : WaitSum) (number place : ℕ) → Waits.outcome o w ≡ waited.Refused number place → o ≡ Some (refusal number place)
+refused_by None w number place h = let z : ◌≡◌ {A = ℕ} 0 1 = cc in absurd (omega arith)
+refused_by (Some r) w number place h =
     let n : r.number ≡ number = cc in
     let p : r.place ≡ place = cc in
-    λ i. some (refusal (n i) (p i))
+    λ i. Some (refusal (n i) (p i))
 
-summed_by : (o : Option Refusal) (w v : WaitSum) → Waits.outcome o w ≡ waited.Sum v → (o ≡ none) × (w ≡ v)
-summed_by none w v h = (refl, cc)
-summed_by (some r) w v h = let z : ◌≡◌ {A = ℕ} 0 1 = cc in absurd (omega arith)
+summed_by : (o : Option Refusal) (w v : WaitSum) → Waits.outcome o w ≡ waited.Sum v → (o ≡ None) × (w ≡ v)
+summed_by None w v h = (refl, cc)
+summed_by (Some r) w v h = let z : ◌≡◌ {A = ℕ} 0 1 = cc in absurd (omega arith)
 
 -- what is asked of a sum that is divided
 pub record Divisible (w : WaitSum) : Type 0 where
@@ -66,7 +66,7 @@ module _ (s : Settings) (list : List ℕ) where
       sym (ap (λ o. Mean.numbers (Mean.outcome o (mean_wait s list))) e)
 
   module _ (w : WaitSum) (h : waits s list ≡ waited.Sum w) where
-    known : (first_refusal (conditions s list) ≡ none) × (wait_sum (plan s (list_lines list)) ≡ w)
+    known : (first_refusal (conditions s list) ≡ None) × (wait_sum (plan s (list_lines list)) ≡ w)
     unfolding waits
     known = summed_by (first_refusal (conditions s list)) (wait_sum (plan s (list_lines list))) w h
 

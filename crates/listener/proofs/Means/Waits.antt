@@ -4,7 +4,7 @@
 use mathlib.Core.Path.{◌≡◌, ap, ap₂, subst, ◌∙◌}
 use Prim.Native.Nat.{ℕ, ◌+◌, ◌*◌, ◌≤◌, ◌<◌}
 use mathlib.Core.Bool.{true}
-use mathlib.Core.Option.{none}
+use Rattle.std.specs.Prelude.{None}
 use mathlib.Core.List.{List, [], ◌∷◌}
 use native.Mathlib.Omega.{arith}
 use lib.ListN.{length}
@@ -37,14 +37,14 @@ use Rattle.listener.proofs.Means.TuneIns.{all_tune_ins}
 use Rattle.listener.proofs.Demand3.{demand_3}
 use Rattle.listener.proofs.EndPlace.{end_place_lem}
 
-module _ (s : Settings) (list : List ℕ) (passed : first_refusal (conditions s list) ≡ none) where
+module _ (s : Settings) (list : List ℕ) (passed : first_refusal (conditions s list) ≡ None) where
   abbrev t : Plan
   t = plan s (list_lines list)
 
   abbrev n : ℕ
   n = cycle_size t
 
-  none_there : first_refusal (building.conditions s list room_most) ≡ none
+  none_there : first_refusal (building.conditions s list room_most) ≡ None
   none_there = (passed_there s list passed).0
 
   -- building makes its cycle, where there is room

@@ -3,7 +3,7 @@
 use mathlib.Core.Path.{◌≡◌, refl}
 use Prim.Native.Nat.{ℕ}
 use mathlib.Core.Bool.{Bool, true, false, false≢true}
-use mathlib.Core.Option.{Option, none, some}
+use Rattle.std.specs.Prelude.{Option, None, Some}
 use mathlib.Core.List.{List}
 use Rattle.columns.specs.Lists.{pick}
 use Rattle.buckets.specs.Bucket.{Bucket, read_bucket}
@@ -48,8 +48,8 @@ over_decided s b misses = over_ended s Absent 0 0
 
 over_read : (s : Listener) (o : Option Bucket) → Over (heed_read s o)
 unfolding heed
-over_read s none = over_refused s 8
-over_read s (some b) =
+over_read s None = over_refused s 8
+over_read s (Some b) =
     over_either (decided s b (choice s.phase s.tag b)) (refused s 9) (awaited s b)
     (over_decided s b (choice s.phase s.tag b)) (over_refused s 9)
 

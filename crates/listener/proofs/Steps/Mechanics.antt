@@ -5,7 +5,7 @@ use mathlib.Core.Path.{◌≡◌, refl, sym, ◌∙◌, ap, ap₂}
 use mathlib.Core.Logic.{⊎_elim}
 use Prim.Native.Nat.{ℕ, ◌+◌, ◌-◌, ◌≤◌, ◌<◌}
 use mathlib.Core.Bool.{Bool, true, false, ◌||◌}
-use mathlib.Core.Option.{some}
+use Rattle.std.specs.Prelude.{Some}
 use mathlib.Core.List.{List}
 use native.Mathlib.Omega.{arith}
 use lib.Dec.{eqb}
@@ -24,7 +24,7 @@ use Rattle.listener.proofs.Steps.Dozes
 pub record Airs (sent : ℕ → List ℕ) (n n' : ℕ) (bk : ℕ → Bucket) : Type 0 where
   pub small : n ≤ 99999
   pub small' : n' ≤ 99999
-  pub read : (x : ℕ) → x < n + n' → read_bucket (sent x) ≡ some (bk x)
+  pub read : (x : ℕ) → x < n + n' → read_bucket (sent x) ≡ Some (bk x)
   pub old_position : (x : ℕ) → x < n → (bk x).position ≡ x
   pub old_start : (x : ℕ) → x < n → (bk x).to_cycle ≡ n - x
   pub new_position : (x : ℕ) → n ≤ x → x < n + n' → (bk x).position ≡ x - n
@@ -60,7 +60,7 @@ start_awaits n tag u bk s h same tuning none =
     }
 
 pub step_takes :
-    (s : Listener) (bytes : List ℕ) (b : Bucket) → is_ended s.phase ≡ false → read_bucket bytes ≡ some b → step s bytes ≡ heed s b
+    (s : Listener) (bytes : List ℕ) (b : Bucket) → is_ended s.phase ≡ false → read_bucket bytes ≡ Some b → step s bytes ≡ heed s b
 unfolding step
 step_takes s bytes b h r = rw (h, r)
 

@@ -2,7 +2,7 @@
 -- Assumes nothing.
 use mathlib.Core.Path.{◌≡◌, refl, sym, ◌∙◌, ap, subst}
 use mathlib.Core.Bool.{true}
-use mathlib.Core.Option.{Option, none, some}
+use Rattle.std.specs.Prelude.{Option, None, Some}
 use mathlib.Core.List.{List}
 use Prim.Native.Nat.{ℕ, ◌≤◌}
 use native.Mathlib.Omega.{arith}
@@ -40,8 +40,8 @@ module _ (p c g : ℕ) where
   bucket x = record { position = p; to_cycle = c; to_segment = g; body = x }
 
   index_of_lem :
-      (x : Body) → good (bucket x) ≡ true → (as_reading (some (bucket x))).kind ≡ TheVariants.Index →
-      IndexRead (as_reading (some (bucket x))) (some (bucket x))
+      (x : Body) → good (bucket x) ≡ true → (as_reading (Some (bucket x))).kind ≡ TheVariants.Index →
+      IndexRead (as_reading (Some (bucket x))) (Some (bucket x))
   unfolding bucket_with head_of
   index_of_lem (index_body ps es) k e =
       let b = bucket_good (bucket (index_body ps es)) k in
@@ -53,8 +53,8 @@ module _ (p c g : ℕ) where
   index_of_lem (data_body f ls) k e = let z : ◌≡◌ {A = ℕ} 0 1 = cc in absurd (omega arith)
 
   data_of :
-      (x : Body) → good (bucket x) ≡ true → (as_reading (some (bucket x))).kind ≡ TheVariants.Data →
-      DataRead (as_reading (some (bucket x))) (some (bucket x))
+      (x : Body) → good (bucket x) ≡ true → (as_reading (Some (bucket x))).kind ≡ TheVariants.Data →
+      DataRead (as_reading (Some (bucket x))) (Some (bucket x))
   unfolding bucket_with head_of
   data_of (index_body ps es) k e = let z : ◌≡◌ {A = ℕ} 0 1 = cc in absurd (omega arith)
   data_of (data_body f ls) k e =
@@ -70,14 +70,14 @@ module _ (p c g : ℕ) where
 module _ (bytes : List ℕ) where
   index_read_as :
       (o : Option Bucket) → read_bucket bytes ≡ o → (as_reading o).kind ≡ TheVariants.Index → IndexRead (as_reading o) o
-  index_read_as none h e = let z : ◌≡◌ {A = ℕ} 0 1 = cc in absurd (omega arith)
-  index_read_as (some b) h e =
+  index_read_as None h e = let z : ◌≡◌ {A = ℕ} 0 1 = cc in absurd (omega arith)
+  index_read_as (Some b) h e =
       index_of_lem b.position b.to_cycle b.to_segment b.body (print_of_read_bucket bytes h).1 e
 
   data_read_as :
       (o : Option Bucket) → read_bucket bytes ≡ o → (as_reading o).kind ≡ TheVariants.Data → DataRead (as_reading o) o
-  data_read_as none h e = let z : ◌≡◌ {A = ℕ} 0 1 = cc in absurd (omega arith)
-  data_read_as (some b) h e =
+  data_read_as None h e = let z : ◌≡◌ {A = ℕ} 0 1 = cc in absurd (omega arith)
+  data_read_as (Some b) h e =
       data_of b.position b.to_cycle b.to_segment b.body (print_of_read_bucket bytes h).1 e
 
   module _ (r : Reading) (e : r ≡ as_reading (read_bucket bytes)) where
@@ -91,16 +91,16 @@ module _ (bytes : List ℕ) where
         subst (λ q. DataRead q (read_bucket bytes)) (sym e)
         (data_read_as (read_bucket bytes) refl (ap (λ q. q.kind) (sym e) ∙ k))
 
-    pub misprint_read : r.kind ≡ TheVariants.Misprinted → read_bucket bytes ≡ none
+    pub misprint_read : r.kind ≡ TheVariants.Misprinted → read_bucket bytes ≡ None
     misprint_read k = none_of (read_bucket bytes) (ap (λ q. q.kind) (sym e) ∙ k)
       where
         by_body :
-            (p c g : ℕ) (x : Body) → (as_reading (some (bucket p c g x))).kind ≡ TheVariants.Misprinted → ◌≡◌ {A = ℕ} 0 1
+            (p c g : ℕ) (x : Body) → (as_reading (Some (bucket p c g x))).kind ≡ TheVariants.Misprinted → ◌≡◌ {A = ℕ} 0 1
         by_body p c g (index_body ps es) f = cc
         by_body p c g (data_body d ls) f = cc
 
-        none_of : (o : Option Bucket) → (as_reading o).kind ≡ TheVariants.Misprinted → o ≡ none
-        none_of none f = refl
-        none_of (some b) f =
+        none_of : (o : Option Bucket) → (as_reading o).kind ≡ TheVariants.Misprinted → o ≡ None
+        none_of None f = refl
+        none_of (Some b) f =
             let z : ◌≡◌ {A = ℕ} 0 1 = by_body b.position b.to_cycle b.to_segment b.body f in
             absurd (omega arith)

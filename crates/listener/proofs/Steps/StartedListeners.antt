@@ -3,7 +3,7 @@
 -- Assumes nothing.
 use mathlib.Core.Path.{◌≡◌, refl, sym, ◌∙◌, ap, subst}
 use mathlib.Core.Bool.{true, false, ◌&&◌, true≢false}
-use mathlib.Core.Option.{some}
+use Rattle.std.specs.Prelude.{Some}
 use mathlib.Core.List.{List, [], ◌∷◌, ◌++◌}
 use Prim.Native.Nat.{ℕ, ◌+◌, ◌≤◌}
 use native.Mathlib.Omega.{arith}
@@ -38,7 +38,7 @@ start_open : (tag : ℕ) → is_ended (start tag).phase ≡ false
 unfolding start
 start_open tag = refl
 
-read_good : (bytes : List ℕ) (b : Bucket) → read_bucket bytes ≡ some b → Good b
+read_good : (bytes : List ℕ) (b : Bucket) → read_bucket bytes ≡ Some b → Good b
 read_good bytes b e = bucket_good b (print_of_read_bucket bytes e).1
 
 -- the tune-in bucket, or any other where none was read: the listener has then ended

@@ -2,7 +2,7 @@
 -- Assumes nothing.
 use mathlib.Core.Path.{◌≡◌, refl, subst}
 use mathlib.Core.Bool.{Bool, true, false, ◌&&◌, not}
-use mathlib.Core.Option.{Option, none, some}
+use Rattle.std.specs.Prelude.{Option, None, Some}
 use mathlib.Core.List.{List, [], ◌∷◌}
 use Prim.Native.Nat.{ℕ, suc, ◌+◌, ◌≤◌}
 use native.Mathlib.Omega.{arith}
@@ -109,8 +109,8 @@ bounded_data c tag f ls h =
     by_follow_on false zero e r = r
     by_follow_on true true e r = r
     by_follow_on true false e r =
-        let some : f ≡ 0 → ⊥ = eqb-false f 0 e in
-        (record { onward = omega (arith, some); near = h; wakes = refl }, r)
+        let Some : f ≡ 0 → ⊥ = eqb-false f 0 e in
+        (record { onward = omega (arith, Some); near = h; wakes = refl }, r)
 
 module _ (b : Bucket) (g : Good b) (tag : ℕ) where
   bounded_body :
@@ -164,8 +164,8 @@ within_read :
     (s : Listener) (bytes : List ℕ) (o : Option Bucket) → read_bucket bytes ≡ o →
     Within (length (lines_read o)) (heed_read s o)
 unfolding heed
-within_read s bytes none e = within_refused 0 s 8
-within_read s bytes (some b) e =
+within_read s bytes None e = within_refused 0 s 8
+within_read s bytes (Some b) e =
     let n = length (body_lines b.body) in
     let g = bucket_good b (print_of_read_bucket bytes e).1 in
     either_step n (awaited s b)
@@ -186,8 +186,8 @@ module _ (s : Listener) (bytes : List ℕ) where
   length_named = simp (length-take, length-drop) (omega (arith, within_step.lines))
 
 pub few_lines_lem : (bytes : List ℕ) (o : Option Bucket) → read_bucket bytes ≡ o → length (lines_read o) ≤ 8
-few_lines_lem bytes none e = omega arith
-few_lines_lem bytes (some b) e =
+few_lines_lem bytes None e = omega arith
+few_lines_lem bytes (Some b) e =
     of_body b.to_cycle b.body (bucket_good b (print_of_read_bucket bytes e).1).good_rest
   where
     of_body : (c : ℕ) (x : Body) → GoodBody c x → length (body_lines x) ≤ 8

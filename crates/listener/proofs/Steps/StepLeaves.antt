@@ -3,7 +3,7 @@
 -- Assumes nothing.
 use mathlib.Core.Path.{◌≡◌, refl, sym, ◌∙◌, ap}
 use mathlib.Core.Bool.{Bool, true, false, ◌&&◌, ◌||◌, true≢false, false≢true}
-use mathlib.Core.Option.{Option, none, some}
+use Rattle.std.specs.Prelude.{Option, None, Some}
 use mathlib.Core.List.{List, [], ◌∷◌}
 use Prim.Native.Nat.{ℕ, zero, suc, ◌+◌, ◌*◌, ◌≤◌, ◌<◌}
 use native.Mathlib.Omega.{arith}
@@ -269,7 +269,7 @@ module _ (t : Bucket) (s : Listener) (b : Bucket) (good : Good b) (k : Takes t s
 
 module _ (t : Bucket) (s : Listener) (bytes : List ℕ) (l : Limits s) where
   leaves_heed :
-      (b : Bucket) → read_bucket bytes ≡ some b → (awaited s b ≡ true → Takes t s b) → Leaves t s (heed s b)
+      (b : Bucket) → read_bucket bytes ≡ Some b → (awaited s b ≡ true → Takes t s b) → Leaves t s (heed s b)
   unfolding heed
   leaves_heed b e takes =
       let g = bucket_good b (print_of_read_bucket bytes e).1 in
@@ -280,13 +280,13 @@ module _ (t : Bucket) (s : Listener) (bytes : List ℕ) (l : Limits s) where
 
   leaves_read :
       (o : Option Bucket) → read_bucket bytes ≡ o →
-      ((b : Bucket) → read_bucket bytes ≡ some b → awaited s b ≡ true → Takes t s b) → Leaves t s (heed_read s o)
-  leaves_read none e takes = leaves_refused s 8 l
-  leaves_read (some b) e takes = leaves_heed b e (takes b e)
+      ((b : Bucket) → read_bucket bytes ≡ Some b → awaited s b ≡ true → Takes t s b) → Leaves t s (heed_read s o)
+  leaves_read None e takes = leaves_refused s 8 l
+  leaves_read (Some b) e takes = leaves_heed b e (takes b e)
 
   -- what a listener leaves that has not ended and takes every bucket that 9 lets pass
   pub leaves_open :
-      is_ended s.phase ≡ false → ((b : Bucket) → read_bucket bytes ≡ some b → awaited s b ≡ true → Takes t s b) →
+      is_ended s.phase ≡ false → ((b : Bucket) → read_bucket bytes ≡ Some b → awaited s b ≡ true → Takes t s b) →
       Leaves t s (step s bytes)
   leaves_open o takes = rw (step_read s bytes o) (leaves_read (read_bucket bytes) refl takes)
 

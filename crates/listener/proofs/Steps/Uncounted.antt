@@ -2,7 +2,7 @@
 -- Assumes nothing.
 use mathlib.Core.Path.{◌≡◌, refl, sym, ◌∙◌, ap, ap₂}
 use mathlib.Core.Bool.{Bool, true, false, ◌&&◌}
-use mathlib.Core.Option.{Option, none, some}
+use Rattle.std.specs.Prelude.{Option, None, Some}
 use mathlib.Core.List.{List, [], ◌∷◌}
 use Prim.Native.Nat.{ℕ, ◌≤◌}
 use native.Mathlib.Omega.{arith}
@@ -55,8 +55,8 @@ module _ (s : Listener) (k : Keeps s) where
 
   keeps_read : (o : Option Bucket) → Keeps (heed_read s o).listener
   unfolding heed
-  keeps_read none = keeps_refused 8
-  keeps_read (some b) =
+  keeps_read None = keeps_refused 8
+  keeps_read (Some b) =
       keeps_either (decided s b (choice s.phase s.tag b)) (refused s 9) (awaited s b)
       (keeps_decided b (choice s.phase s.tag b)) (keeps_refused 9)
 
@@ -66,8 +66,8 @@ module _ (s : Listener) (k : Keeps s) where
 
   keeps_step : (x : Option (List ℕ)) → Keeps (handed_in s x).listener
   unfolding step lost
-  keeps_step none = keeps_either (refused_ended s) (stepped (starts_over s) (Doze 1) 0 0) (is_ended s.phase) keeps_14 keeps_lost
-  keeps_step (some bytes) =
+  keeps_step None = keeps_either (refused_ended s) (stepped (starts_over s) (Doze 1) 0 0) (is_ended s.phase) keeps_14 keeps_lost
+  keeps_step (Some bytes) =
       keeps_either (refused_ended s) (heed_read s (read_bucket bytes)) (is_ended s.phase) keeps_14 (keeps_read (read_bucket bytes))
 
 keeps_all : (s : Listener) → Keeps s → (given : List (Option (List ℕ))) → Keeps (after_all s given)
@@ -142,8 +142,8 @@ module _ (s : Listener) (heard elapsed : ℕ) where
       (alike_either (awaited s b) (alike_decided b (choice s.phase s.tag b)) (alike_refused 9))
 
   alike_read : (o : Option Bucket) → Alike (heed_read other o) (heed_read s o)
-  alike_read none = alike_refused 8
-  alike_read (some b) = alike_heed b
+  alike_read None = alike_refused 8
+  alike_read (Some b) = alike_heed b
 
   alike_lost : Alike (stepped (starts_over other) (Doze 1) 0 0) (stepped (starts_over s) (Doze 1) 0 0)
   unfolding other counting stepped starts_over step_numbers
@@ -151,8 +151,8 @@ module _ (s : Listener) (heard elapsed : ℕ) where
 
   alike_step : (x : Option (List ℕ)) → Alike (handed_in other x) (handed_in s x)
   unfolding step lost other counting
-  alike_step none = alike_either (is_ended s.phase) alike_14 alike_lost
-  alike_step (some bytes) = alike_either (is_ended s.phase) alike_14 (alike_read (read_bucket bytes))
+  alike_step None = alike_either (is_ended s.phase) alike_14 alike_lost
+  alike_step (Some bytes) = alike_either (is_ended s.phase) alike_14 (alike_read (read_bucket bytes))
 
 pub counts_unread : CountsUnread
 unfolding other

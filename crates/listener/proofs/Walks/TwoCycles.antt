@@ -6,7 +6,7 @@ use mathlib.Core.Logic.{⊎_elim}
 use Prim.Native.Nat.{ℕ, ◌+◌, ◌-◌, ◌≤◌, ◌<◌, max}
 use native.Mathlib.Nat.{zero-add}
 use native.Mathlib.Omega.{arith}
-use mathlib.Core.Option.{some}
+use Rattle.std.specs.Prelude.{Some}
 use mathlib.Core.List.{List}
 use lib.Dec.{ltb}
 use borrow.Author.Tests.{lt-ltb, le-ltb}
@@ -59,7 +59,7 @@ module _ {sent : ℕ → List ℕ} {t t' : Plan} (s : Sends sent t t') where
   unfolding bucket_on
   on_new x h = rw (le-ltb x (cycle_size t) h)
 
-  read_on : (x : ℕ) → x < both → read_bucket (sent x) ≡ some (bucket_on x)
+  read_on : (x : ℕ) → x < both → read_bucket (sent x) ≡ Some (bucket_on x)
   unfolding bucket_at
   read_on x h =
       ⊎_elim
@@ -67,8 +67,8 @@ module _ {sent : ℕ → List ℕ} {t t' : Plan} (s : Sends sent t t') where
       let y : ℕ = x - cycle_size t in
       let e : cycle_size t + y ≡ x = omega arith in
       ap (λ z. read_bucket (sent z)) (sym e) ∙
-      (ap read_bucket (s.new y (omega arith)) ∙ (s.reads'.read y (omega arith) ∙ ap some (sym (on_new x l)))))
-      (λ (l : x < cycle_size t). ap read_bucket (s.old x l) ∙ (s.reads.read x l ∙ ap some (sym (on_old x l))))
+      (ap read_bucket (s.new y (omega arith)) ∙ (s.reads'.read y (omega arith) ∙ ap Some (sym (on_new x l)))))
+      (λ (l : x < cycle_size t). ap read_bucket (s.old x l) ∙ (s.reads.read x l ∙ ap Some (sym (on_old x l))))
       (le_or_lt (cycle_size t) x)
 
   pub airs : Airs sent (cycle_size t) (cycle_size t') bucket_on

@@ -3,7 +3,7 @@
 use mathlib.Core.Path.{◌≡◌, refl, sym, ◌∙◌, ap, subst}
 use Prim.Native.Nat.{ℕ, zero, suc, ◌+◌, ◌≤◌, ◌<◌}
 use mathlib.Core.Bool.{Bool, true, false, true≢false}
-use mathlib.Core.Option.{Option, none, some}
+use Rattle.std.specs.Prelude.{Option, None, Some}
 use mathlib.Core.List.{List, [], ◌∷◌, ◌++◌, append-nil, append_assoc}
 use native.Mathlib.Nat.{zero-add}
 use native.Mathlib.Omega.{arith}
@@ -130,13 +130,13 @@ no_loss sent strays tag t m =
 pub record Walked (last u tag m h : ℕ) (e : End) (z : ℕ) (got : List Line) (log : List Taken) : Type 0 where
   pub heard_most_lem : heard_in log ≤ h
   pub unrefused : refused_before_end log ≡ false
-  pub come : h ≤ m → end_of log ≡ some e
-  pub end_is : (e' : End) → end_of log ≡ some e' → e' ≡ e
-  pub lines_are : (e' : End) → end_of log ≡ some e' → lines_got log ≡ got
+  pub come : h ≤ m → end_of log ≡ Some e
+  pub end_is : (e' : End) → end_of log ≡ Some e' → e' ≡ e
+  pub lines_are : (e' : End) → end_of log ≡ Some e' → lines_got log ≡ got
   pub heard_own : (listener_after (start tag) log).heard ≡ heard_in log
   pub elapsed_own : (listener_after (start tag) log).elapsed ≡ elapsed_in log
   pub in_time : u + elapsed_in log ≤ last
-  pub ends_at : (e' : End) → end_of log ≡ some e' → u + elapsed_in log ≡ z + 1
+  pub ends_at : (e' : End) → end_of log ≡ Some e' → u + elapsed_in log ≡ z + 1
   pub after_end : every (λ x. refused_by14 x.outcome.answer) (drop (heard_in log) log) ≡ true
   pub unchanged : listener_after (start tag) log ≡ listener_after (start tag) (until_end log)
 
@@ -169,12 +169,12 @@ module _ (sent strays : ℕ → List ℕ) (tag : ℕ) (on : Stretch sent) (u h :
     unlost : lost_in marked ≡ 0
     unlost = none_lost sent strays (start tag) (at (on.base + u)) m
 
-    ended : (e' : End) → end_of (steps marked) ≡ some e' → EndsAt Right 1 (on.base + u) [] e' marked
+    ended : (e' : End) → end_of (steps marked) ≡ Some e' → EndsAt Right 1 (on.base + u) [] e' marked
     unfolding start
     ended = told.ends [] (record { place_is = refl; end_is = refl; lines_are = refl })
 
-    come : h ≤ m → (o : Option End) → end_of (steps marked) ≡ o → end_of (steps marked) ≡ some e
-    come long none c =
+    come : h ≤ m → (o : Option End) → end_of (steps marked) ≡ o → end_of (steps marked) ≡ Some e
+    come long None c =
         absurd
         (omega (
           arith,
@@ -183,7 +183,7 @@ module _ (sent strays : ℕ → List ℕ) (tag : ℕ) (on : Stretch sent) (u h :
           length-replicate m false,
           unlost,
         ))
-    come long (some e') c = c ∙ ap some (ended e' c).right.end_is
+    come long (Some e') c = c ∙ ap Some (ended e' c).right.end_is
 
     most : heard_in (steps marked) ≤ h
     most = omega (arith, told.heard_most_lem, unlost)

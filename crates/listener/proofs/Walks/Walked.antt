@@ -4,7 +4,7 @@
 use mathlib.Core.Path.{◌≡◌, refl, sym, ◌∙◌, ap, subst}
 use Prim.Native.Nat.{ℕ, suc, ◌+◌, ◌≤◌, ◌<◌}
 use mathlib.Core.Bool.{Bool, true, false}
-use mathlib.Core.Option.{Option, some}
+use Rattle.std.specs.Prelude.{Option, Some}
 use mathlib.Core.List.{List, [], ◌∷◌, ◌++◌, append_assoc}
 use native.Mathlib.Nat.{add_assoc}
 use native.Mathlib.Omega.{arith}
@@ -27,7 +27,7 @@ use Rattle.listener.proofs.Walks.WalkedSteps.{Rule, Followed, stays, followed_no
 
 -- the lines that an answer names
 pub named_lines :
-    (bytes : List ℕ) (b : Bucket) (s : Listener) (a : Answer) (first count : ℕ) → read_bucket bytes ≡ some b →
+    (bytes : List ℕ) (b : Bucket) (s : Listener) (a : Answer) (first count : ℕ) → read_bucket bytes ≡ Some b →
     named bytes (stepped s a first count) ≡ lines_at b first count
 unfolding named stepped lines_at
 named_lines bytes b s a first count r = rw r
@@ -35,7 +35,7 @@ named_lines bytes b s a first count r = rw r
 -- an answer that is an end
 pub record Ends (e : End) (a : Answer) : Type 0 where
   pub until : (y : Taken) (later : List Taken) → up_to a y later ≡ y ∷ []
-  pub end : (later : Option End) → end_by a later ≡ some e
+  pub end : (later : Option End) → end_by a later ≡ Some e
   pub fine : is_refused a ≡ false
   pub no_doze : doze_of a ≡ 0
   pub away : (x : ℕ) → onward (at x) a ≡ anywhere
@@ -86,7 +86,7 @@ module _ (sent strays : ℕ → List ℕ) (tag : ℕ) (Right : Rule) (limit span
   followed_end :
       (last x : ℕ) (s : Listener) (marks : List Bool) (e : End) (a : Answer) (first count : ℕ) (b : Bucket) →
       Ends e a → step s (sent x) ≡ stepped (ended s (heard_with s) (elapsed_with s)) a first count →
-      read_bucket (sent x) ≡ some b → x < last →
+      read_bucket (sent x) ≡ Some b → x < last →
       Followed Right limit span last s x 1 e x (lines_at b first count) (marked_from sent strays s (at x) (false ∷ marks))
   unfolding stepped ended
   followed_end last x s marks e a first count b ends is reads inside =
@@ -109,7 +109,7 @@ module _ (sent strays : ℕ → List ℕ) (tag : ℕ) (Right : Rule) (limit span
   -- a step that dozes
   followed_hop :
       (last x : ℕ) (s : Listener) (marks : List Bool) (h d : ℕ) (next : Phase) (e : End) (z first count : ℕ) (b : Bucket) (got : List Line) →
-      step s (sent x) ≡ stepped (dozing s b d next) (Doze d) first count → read_bucket (sent x) ≡ some b →
+      step s (sent x) ≡ stepped (dozing s b d next) (Doze d) first count → read_bucket (sent x) ≡ Some b →
       Followed Right limit span last (dozing s b d next) (x + d) h e z got (marked_from sent strays (dozing s b d next) (at (x + d)) marks) →
       Followed Right limit span last s x (suc h) e z (lines_at b first count ++ got) (marked_from sent strays s (at x) (false ∷ marks))
   unfolding stepped dozing

@@ -5,7 +5,7 @@
 use mathlib.Core.Path.{◌≡◌, refl, sym, ◌∙◌, ap, subst}
 use Prim.Native.Nat.{ℕ, suc, ◌+◌, ◌*◌, ◌≤◌, ◌<◌}
 use mathlib.Core.Bool.{Bool, true, false}
-use mathlib.Core.Option.{none, some}
+use Rattle.std.specs.Prelude.{None, Some}
 use mathlib.Core.List.{List, [], ◌∷◌, ◌++◌}
 use native.Mathlib.Nat.{add-mul}
 use native.Mathlib.Omega.{arith}
@@ -44,9 +44,9 @@ pub record Followed
     : Type 0 where
   pub heard_most_lem : heard_in (steps log) ≤ h + lost_in log * limit
   pub unrefused : refused_before_end (steps log) ≡ false
-  pub not_ended : end_of (steps log) ≡ none → length log < h + lost_in log * limit
+  pub not_ended : end_of (steps log) ≡ None → length log < h + lost_in log * limit
   pub ends :
-      (held : List Line) → Right z e (held ++ got) → (e' : End) → end_of (steps log) ≡ some e' →
+      (held : List Line) → Right z e (held ++ got) → (e' : End) → end_of (steps log) ≡ Some e' →
       EndsAt Right s.doze x held e' log
   pub heard_own : s.heard ≤ count_most → (listener_after s (steps log)).heard ≡ stopped (s.heard + heard_in (steps log))
   pub elapsed_own :
@@ -147,10 +147,10 @@ time_sum :
     x + (c + g) < last + (a + q) * span + c
 time_sum a q span last last' x d c g before step = rw (add-mul a q span) (omega arith)
 
-no_end : (e : End) → none ≡ some e → ⊥
+no_end : (e : End) → None ≡ Some e → ⊥
 no_end e c = let z : ◌≡◌ {A = ℕ} 0 1 = cc in omega arith
 
-some_end : {e : End} → some e ≡ none → ⊥
+some_end : {e : End} → Some e ≡ None → ⊥
 some_end c = let z : ◌≡◌ {A = ℕ} 0 1 = cc in omega arith
 
 module _ (Right : Rule) (limit span : ℕ) where
@@ -175,7 +175,7 @@ module _ (Right : Rule) (limit span : ℕ) where
   -- the hearing whose first step, y, is its end
   pub followed_last :
       (last : ℕ) (s : Listener) (x : ℕ) (e : End) (got : List Line) (y : Taken) (rest : List Marked) →
-      until_end (y ∷ steps rest) ≡ y ∷ [] → end_of (y ∷ steps rest) ≡ some e → is_refused y.outcome.answer ≡ false →
+      until_end (y ∷ steps rest) ≡ y ∷ [] → end_of (y ∷ steps rest) ≡ Some e → is_refused y.outcome.answer ≡ false →
       doze_of y.outcome.answer ≡ 0 → Stays y.outcome.listener (steps rest) →
       y.outcome.listener ≡ ended s (heard_with s) (elapsed_with s) → named y.bytes y.outcome ≡ got → x < last →
       Followed Right limit span last s x 1 e x got (record { mark = false; taken = y } ∷ rest)
@@ -202,7 +202,7 @@ module _ (Right : Rule) (limit span : ℕ) where
         unchanged = rw until after;
       }
     where
-      same_end : {e₁ e₂ : End} → some e₁ ≡ some e₂ → e₁ ≡ e₂
+      same_end : {e₁ e₂ : End} → Some e₁ ≡ Some e₂ → e₁ ≡ e₂
       same_end c = cc
 
   -- the hearing whose first step, y, dozes by d, of a bucket or a lost one

@@ -2,7 +2,7 @@
 -- public ones cite Listener and Lookup.
 -- Assumes nothing.
 use Rattle.std.specs.Prelude.{ℕ, ◌+◌, ◌*◌, ◌/◌, ◌≤◌, ◌<◌, ◌%◌, ◌≡◌, not, List, [], ◌++◌, leb, ltb, length, drop}
-use Rattle.std.proofs.Math.Option.{none}
+use Rattle.std.specs.Prelude.{None}
 use Rattle.columns.specs.Lists.{pick}
 use Rattle.buckets.specs.Lengths.{bucket_length, line_columns_width, line_length, lines_start}
 use Rattle.buckets.specs.declared.Line.{Line}
@@ -73,6 +73,6 @@ lines_in image x first count = ended_lines count (drop (lines_start + line_colum
 
 abbrev pub concluded : ℕ → Finish → Outcome
 concluded room (found s got) =
-    pick (ltb room (line_length * length got)) (refuse 7 0) (outcome none (found s got))
-concluded room (absent s) = outcome none (absent s)
+    pick (ltb room (line_length * length got)) (refuse 7 0) (outcome None (found s got))
+concluded room (absent s) = outcome None (absent s)
 concluded room (refused number place) = refuse number place

@@ -2,7 +2,7 @@
 -- Assumes nothing.
 use Prim.Native.Nat.{ℕ}
 use mathlib.Core.Path.{◌≡◌, sym}
-use mathlib.Core.Option.{some}
+use Rattle.std.specs.Prelude.{Some}
 use mathlib.Core.List.{List, []}
 use borrow.Author.Rules.{rules}
 use Rattle.columns.proofs.Rows.{◌▹◌, ◌▹₃◌, ◌▹₇◌, ◌▹₈◌}
@@ -23,9 +23,9 @@ use Rattle.buckets.proofs.reader.read_data.Statement.{statement}
 use Rattle.buckets.proofs.reader.read_data.Tie as tie
 
 -- the whole answer
-answer : (h : Head) (f c : ℕ) (s : List ℕ) (ls : List Line) (r : Tags) (x : IndexItems) → read_lines c s ≡ some ls
-    → r ≡ held_tags (some ls) → x ≡ held_index [] []
-    → record { kind = Data; head = h; follow_on = f; index = x; lines = c; tags = r.tags } ≡ as_reading (some (bucket_with h (data_body f ls)))
+answer : (h : Head) (f c : ℕ) (s : List ℕ) (ls : List Line) (r : Tags) (x : IndexItems) → read_lines c s ≡ Some ls
+    → r ≡ held_tags (Some ls) → x ≡ held_index [] []
+    → record { kind = Data; head = h; follow_on = f; index = x; lines = c; tags = r.tags } ≡ as_reading (Some (bucket_with h (data_body f ls)))
 unfolding read_lines bucket_with head_of
 answer h f c s ls r x lines held empty =
     let count = items_count read_line_columns (λ m l. l.tag) line_columns_width c s ls lines in

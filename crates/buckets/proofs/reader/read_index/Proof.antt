@@ -2,7 +2,7 @@
 -- Assumes nothing.
 use Prim.Native.Nat.{ℕ, suc}
 use mathlib.Core.Path.{◌≡◌, sym, ◌∙◌}
-use mathlib.Core.Option.{Option, some}
+use Rattle.std.specs.Prelude.{Option, Some}
 use mathlib.Core.List.{List}
 use borrow.Author.Rules.{rules}
 use Rattle.columns.proofs.Rows.{◌▹◌, ◌▹₃◌, ◌▹₇◌}
@@ -27,12 +27,12 @@ behind_counts h k c s =
     and_then (read_pairs h.to_cycle k (columns pairs_start pairs_width s))
     (λ ps.
     and_then (read_entries h.to_cycle c (columns entries_start entries_width s))
-    (λ es. some (bucket_with h (index_body ps es))))
+    (λ es. Some (bucket_with h (index_body ps es))))
 
 -- the whole answer
 answer : (h : Head) (n k c : ℕ) (s t : List ℕ) (ps : List Pair) (es : List Entry) (p : Pairs) (e : Entries) {z : Reading}
-    → z ≡ index_reading h k p c e → read_pairs n k s ≡ some ps → p ≡ held_pairs (some ps) → read_entries n c t ≡ some es
-    → e ≡ held_entries (some es) → z ≡ as_reading (some (bucket_with h (index_body ps es)))
+    → z ≡ index_reading h k p c e → read_pairs n k s ≡ Some ps → p ≡ held_pairs (Some ps) → read_entries n c t ≡ Some es
+    → e ≡ held_entries (Some es) → z ≡ as_reading (Some (bucket_with h (index_body ps es)))
 unfolding read_pairs read_entries bucket_with head_of held_index index_reading
 answer h n k c s t ps es p e is pairs p_held entries e_held =
     let pair_count = items_count (read_pair n) (λ i p. suc i) entry_width k s ps pairs in

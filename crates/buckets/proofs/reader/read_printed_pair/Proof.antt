@@ -2,7 +2,7 @@
 -- Assumes nothing.
 use Prim.Native.Nat.{ℕ}
 use mathlib.Core.Path.{◌≡◌}
-use mathlib.Core.Option.{Option}
+use Rattle.std.specs.Prelude.{Option}
 use borrow.Author.Rules.{rules}
 use Rattle.columns.proofs.Rows.{◌▹◌, ◌▹₄◌}
 use Rattle.buckets.specs.declared.reader.EntryRead.{EntryRead}

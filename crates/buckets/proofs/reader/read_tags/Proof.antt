@@ -3,7 +3,7 @@
 use Prim.Native.Nat.{ℕ, ◌+◌, ◌-◌, ◌*◌, ◌≤◌, ◌<◌}
 use mathlib.Core.Path.{◌≡◌, ap}
 use mathlib.Core.Bool.{true}
-use mathlib.Core.Option.{none}
+use Rattle.std.specs.Prelude.{None}
 use mathlib.Core.List.{List}
 use native.Mathlib.Omega.{arith}
 use lib.ListN.{take, drop, set, length-take, length-drop}
@@ -39,7 +39,7 @@ next_line c s tags m i x so h few read other =
     (λ xs count held k.
     array (filled_more (λ (y : Line). y.tag) bucket_lines_most xs l (ap (λ (r : Tags). r.tags) held) count (omega arith) k)))
 
-no_line : (m : ℕ) (s : List ℕ) (x : ℕ) → x ≡ tag_or_misprint (read_line_columns m s) → x ≡ 18446744073709551615 → read_line_columns m s ≡ none
+no_line : (m : ℕ) (s : List ℕ) (x : ℕ) → x ≡ tag_or_misprint (read_line_columns m s) → x ≡ 18446744073709551615 → read_line_columns m s ≡ None
 no_line m s x read is = tag_none _ (line_columns_tag_small m s) read is
 
 abbrev invariant-loop-i : tie.invariant-loop-i

@@ -3,7 +3,7 @@
 use Prim.Native.Nat.{ℕ, ◌+◌, ◌-◌, ◌*◌, ◌≤◌, ◌<◌}
 use mathlib.Core.Path.{◌≡◌, refl, ◌∙◌, sym, ap}
 use mathlib.Core.Bool.{Bool, true}
-use mathlib.Core.Option.{none}
+use Rattle.std.specs.Prelude.{None}
 use mathlib.Core.List.{List, [], ◌++◌}
 use native.Mathlib.Omega.{arith}
 use lib.ListN.{length, take, drop, get_or}
@@ -28,7 +28,7 @@ use Rattle.buckets.proofs.writer.write_lines.Tie as tie
 
 -- s is a list of at most as many lines as a bucket has, which all read, without leading zeros where `plain` says so
 record Printed (s : List ℕ) (plain : Bool) : Type 0 where
-  reads : misprint_from 0 (cut_lines s) ≡ none
+  reads : misprint_from 0 (cut_lines s) ≡ None
   fit : every fits (list_lines s) ≡ true
   no_zeros : plain ≡ true → PlainList s
   count : length s ≡ length (list_lines s) * line_length

@@ -3,7 +3,7 @@
 -- Assumes nothing.
 use mathlib.Core.Path.{◌≡◌, refl, sym, ap, ◌∙◌, subst}
 use mathlib.Core.Bool.{true}
-use mathlib.Core.Option.{none}
+use Rattle.std.specs.Prelude.{None}
 use mathlib.Core.List.{List}
 use Prim.Native.Nat.{ℕ, suc, ◌+◌, ◌*◌, ◌≤◌}
 use native.Mathlib.Numerals.{add-one}
@@ -95,7 +95,7 @@ module _ (c : tie.Else-not-places_for) where
   long : line_length * s.args.lines + line_length ≤ length (bytes s)
   long = let h = places_fit (bytes s) (suc s.args.lines) place_for in omega (arith, h)
 
-  free : (change s).own.holds ≡ none
+  free : (change s).own.holds ≡ None
   unfolding arrival
   free = place_left (bytes s) s.args.lines c.if-lines-eq-LINES_MOST.false place_for
 

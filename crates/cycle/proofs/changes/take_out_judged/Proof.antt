@@ -3,7 +3,7 @@
 -- Assumes nothing.
 use mathlib.Core.Path.{◌≡◌, refl, sym, ap, ◌∙◌, subst}
 use mathlib.Core.Bool.{true}
-use mathlib.Core.Option.{none}
+use Rattle.std.specs.Prelude.{None}
 use mathlib.Core.List.{List}
 use Prim.Native.Nat.{ℕ, ◌+◌, ◌-◌, ◌*◌, ◌≤◌, ◌<◌}
 use native.Mathlib.Omega.{arith}
@@ -115,7 +115,7 @@ module _ (c : tie.Else-place-lines) where
       let s = start1 c in
       equal_found (line s) (former s) s.args.lines (known s).listed (place c.before) (found c.before) inside
 
-  free : (change (start1 c)).own.holds ≡ none
+  free : (change (start1 c)).own.holds ≡ None
   unfolding departure
   free = line_present (line (start1 c)) (former (start1 c)) there
 

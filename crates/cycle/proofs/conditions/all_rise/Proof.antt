@@ -3,7 +3,7 @@
 -- Assumes nothing.
 use mathlib.Core.Path.{◌≡◌, refl, sym, ap, ◌∙◌}
 use mathlib.Core.Bool.{Bool, true, false, true≢false}
-use mathlib.Core.Option.{some}
+use Rattle.std.specs.Prelude.{Some}
 use mathlib.Core.List.{List}
 use Prim.Native.Nat.{ℕ, ◌+◌, ◌-◌, ◌*◌, ◌≤◌}
 use native.Mathlib.Omega.{arith}
@@ -57,7 +57,7 @@ tag_told true s e n =
 tag_told false s e n =
     let found = tag_found (read_line s) e n in
     let read = ap taken found.1 in
-    let is : some (spelled s) ≡ some found.0 = sym (reads_line s (line_reads s read)) ∙ found.1 in
+    let is : Some (spelled s) ≡ Some found.0 = sym (reads_line s (line_reads s read)) ∙ found.1 in
     record {
       tag_is = let spelt : found.0 ≡ spelled s = cc in found.2 ∙ ap (λ k. k.tag) spelt;
       reads = read;

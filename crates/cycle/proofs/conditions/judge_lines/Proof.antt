@@ -2,7 +2,7 @@
 -- Assumes nothing.
 use mathlib.Core.Path.{◌≡◌, sym, ap, ◌∙◌}
 use mathlib.Core.Bool.{true≢false}
-use mathlib.Core.Option.{none, some}
+use Rattle.std.specs.Prelude.{None, Some}
 use mathlib.Core.List.{List}
 use Prim.Native.Nat.{ℕ}
 use native.Mathlib.Omega.{arith}
@@ -20,7 +20,7 @@ start c = c.before.before.before.before.before.before
 abbrev bytes : tie.Start → List ℕ
 bytes s = s.args.list.now
 
-printed : (c : tie.Else-misprint-lines) → misprint_from 0 (cut_lines (bytes (start c.before))) ≡ none
+printed : (c : tie.Else-misprint-lines) → misprint_from 0 (cut_lines (bytes (start c.before))) ≡ None
 printed c =
     let s = start c.before in
     let list = bytes s in
@@ -32,7 +32,7 @@ returns_3 : tie.Need-returns-then-misprint-lines
 returns_3 c =
     let s = start c.before in
     let told = c.before.first_misprint-misprint.ensures in
-    place_found s.args.lines (misprint_from 0 (cut_lines (bytes s))) (omega (arith, told, c.if-misprint-lines.true)) ∙ ap some (sym told)
+    place_found s.args.lines (misprint_from 0 (cut_lines (bytes s))) (omega (arith, told, c.if-misprint-lines.true)) ∙ ap Some (sym told)
 
 returns_4 : tie.Need-returns-then-fall-lines
 returns_4 c =
@@ -40,7 +40,7 @@ returns_4 c =
     let s = start met.before in
     let told = c.before.first_fall-fall.ensures in (
       printed met,
-      place_found s.args.lines (fall_from 0 0 (list_lines (bytes s))) (omega (arith, told, c.if-fall-lines.true)) ∙ ap some (sym told),
+      place_found s.args.lines (fall_from 0 0 (list_lines (bytes s))) (omega (arith, told, c.if-fall-lines.true)) ∙ ap Some (sym told),
     )
 
 returns_5 : tie.Need-returns

@@ -2,7 +2,7 @@
 -- Assumes nothing.
 use mathlib.Core.Path.{◌≡◌, sym, ap, subst, ◌∙◌}
 use mathlib.Core.Bool.{true, false, true≢false}
-use mathlib.Core.Option.{some}
+use Rattle.std.specs.Prelude.{Some}
 use mathlib.Core.List.{List}
 use Prim.Native.Nat.{ℕ, ◌/◌, ◌<◌}
 use native.Mathlib.Omega.{arith}
@@ -62,7 +62,7 @@ lines_told c e = subst (LinesTold (bytes (start3 c))) e c.judge_lines-told.ensur
 -- what a refusal answers
 refuses :
     (s : tie.Start) {r : ListJudged} {number place : ℕ} → (r.judged ≡ Refused number place) × (r.plain ≡ false) →
-    first_refusal (conditions (set s) (bytes s) s.args.room) ≡ some (refusal number place) →
+    first_refusal (conditions (set s) (bytes s) s.args.room) ≡ Some (refusal number place) →
     (Judging.numbers r.judged ≡ Judging.numbers (Judging.judge (set s) (bytes s) s.args.room)) ×
     (r.plain ≡ true → PlainList (bytes s))
 refuses s told e = (

@@ -2,7 +2,7 @@
 -- Assumes nothing.
 use mathlib.Core.Path.{◌≡◌, sym, ap, ◌∙◌}
 use mathlib.Core.List.{[]}
-use mathlib.Core.Option.{none}
+use Rattle.std.specs.Prelude.{None}
 use native.Mathlib.Omega.{arith}
 use borrow.Author.Rules.{rules}
 use Rattle.cycle.specs.Tree.{Plan}
@@ -32,7 +32,7 @@ made c = c.in-Cycle.sized
 
 passed :
     (c : tie.In-Cycle) →
-    (first_refusal (size_conditions (planned (call c).before)) ≡ none) × (whole (call c).before ≡ made c)
+    (first_refusal (size_conditions (planned (call c).before)) ≡ None) × (whole (call c).before ≡ made c)
 passed c =
     judged_cycle (first_refusal (size_conditions (planned (call c).before))) (whole (call c).before) (made c)
     (sym (call c).judge_figures-judged.ensures ∙ c.in-Cycle.is)
