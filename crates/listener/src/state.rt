@@ -4,48 +4,40 @@ ghost use Rattle.listener.specs.State.{phase_number, phase_of, saved, restored};
 
 use super::{Listener, Phase};
 
-// The number of what is awaited.
-fn phase_number(phase: Phase) -> u64
-    ensures { result ≡ phase_number phase }
-{
-    match phase {
-        Phase::TuneIn => 0,
-        Phase::Index => 1,
-        Phase::Either => 2,
-        Phase::Data => 3,
-        Phase::Ended => 4,
+// What is awaited, as a number.
+impl From<Phase> for u64 {
+    ghost from_gives = { λ phase x. x ≡ phase_number phase };
+
+    fn from(phase: Phase) -> u64 {
+        phase as u64
     }
 }
 
-// What is awaited, by its number.
-fn phase_of(x: u64) -> Phase
-    ensures { result ≡ phase_of x }
-{
-    if x == 0 {
-        return Phase::TuneIn;
+// What is awaited, by its number; any other number is that of an ended listener.
+impl From<u64> for Phase {
+    ghost from_gives = { λ x phase. phase ≡ phase_of x };
+
+    #[tactic(auto, unfolding(crate::specs::State::phase_of))]
+    fn from(x: u64) -> Phase {
+        match x {
+            0 => Phase::TuneIn,
+            1 => Phase::Index,
+            2 => Phase::Either,
+            3 => Phase::Data,
+            _ => Phase::Ended,
+        }
     }
-    if x == 1 {
-        return Phase::Index;
-    }
-    if x == 2 {
-        return Phase::Either;
-    }
-    if x == 3 {
-        return Phase::Data;
-    }
-    Phase::Ended
 }
 
 impl Listener {
     // Tag, what is awaited, due, cycle, passed, doze, heard and elapsed.
+    #[tactic(auto, unfolding(crate::specs::State::saved))]
     pub fn saved(self) -> [u64; 8]
         ensures { result ≡ saved self }
     {
-        let phase = self.phase;
-        let awaited = phase_number(phase);
         [
             self.tag,
-            awaited,
+            u64::from(self.phase),
             self.due,
             self.cycle,
             self.passed,
@@ -56,19 +48,20 @@ impl Listener {
     }
 
     // The listener of a saved state. Any content is taken.
+    #[tactic(auto, unfolding(crate::specs::State::restored))]
     pub fn restored(a: [u64; 8]) -> Listener
         ensures { result ≡ restored a }
     {
-        let phase = phase_of(a[1]);
+        let [tag, phase, due, cycle, passed, doze, heard, elapsed] = a;
         Listener {
-            tag: a[0],
-            phase: phase,
-            due: a[2],
-            cycle: a[3],
-            passed: a[4],
-            doze: a[5],
-            heard: a[6],
-            elapsed: a[7],
+            tag,
+            phase: Phase::from(phase),
+            due,
+            cycle,
+            passed,
+            doze,
+            heard,
+            elapsed,
         }
     }
 }
