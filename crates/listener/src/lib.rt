@@ -3,11 +3,14 @@
 
 mod choose;
 mod hearing;
+mod image;
 pub mod lookup;
 pub mod mean;
 pub mod run;
 mod state;
 mod step;
+
+pub use image::Image;
 
 // What a listener awaits: its tune-in bucket, an index bucket, either kind, a data bucket, or nothing any more.
 #[derive(Clone, Copy)]

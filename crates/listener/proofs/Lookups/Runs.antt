@@ -16,7 +16,7 @@ use Rattle.listener.specs.Listener.{start, step, named, is_ended}
 use Rattle.cycle.specs.Cycle.{bucket_at}
 use Rattle.listener.specs.Started.{after}
 use Rattle.listener.specs.Lookup.{Finish, found, after_answer, run_budget, run, whole_run}
-use Rattle.listener.specs.Inner.OnRun.{WasHeard, heard_next, run_on, Begins}
+use Rattle.listener.specs.Inner.OnRun.{WasHeard, heard_at, heard_next, run_on, Begins}
 use Rattle.listener.specs.declared.Listener.{Listener}
 use Rattle.listener.specs.declared.Answer.{Answer}
 use Rattle.listener.specs.declared.Answer.TheVariants.{Doze, Found, Absent, Refused}
@@ -41,18 +41,18 @@ pub record SoFar (image : List ℕ) (count : ℕ) (goal : Finish) (h : Heard) (l
 
 module _ (image : List ℕ) (count : ℕ) where
   pub at_start :
-      (tag t : ℕ) {s : Listener} {r : Stepped} → s ≡ start tag → r ≡ step s (bucket_at image t) → t < count →
-      SoFar image count (whole_run image count tag t) (record { x = t; step = r }) 0
+      (tag t : ℕ) {s : Listener} {h : Heard} → s ≡ start tag → h ≡ heard_at image t s → t < count →
+      SoFar image count (whole_run image count tag t) h 0
   unfolding whole_run
-  at_start tag t {s} {r} e k h =
-      let is : r ≡ step (start tag) (bucket_at image t) = k ∙ ap (λ z. step z (bucket_at image t)) e in
-      record {
-        heard = record { tag = tag; given = []; is = is; inside = h };
+  at_start tag t {s} {h} e k inside =
+      subst (λ z. SoFar image count (whole_run image count tag t) z 0) (sym (k ∙ ap (heard_at image t) e))
+      (record {
+        heard = record { tag = tag; given = []; is = refl; inside = inside };
         got = [];
         counted = refl;
-        rest = run_on_lem image count tag [] t [] ∙ ap (λ z. run_on image count (record { x = t; step = z }) []) (sym is);
+        rest = run_on_lem image count tag [] t [];
         few = omega arith;
-      }
+      })
 
   -- the rest of a run, at the bucket heard that it starts from
   unfoldable pub at_heard : {h : Heard} → WasHeard image count h → SoFar image count (run_on image count h []) h 0

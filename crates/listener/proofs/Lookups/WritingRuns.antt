@@ -13,9 +13,10 @@ use Rattle.buckets.specs.ListLine.{print_line}
 use Rattle.buckets.proofs.ListLines.{length_print_line}
 use Rattle.listener.specs.Listener.{named}
 use Rattle.cycle.specs.Cycle.{bucket_at}
-use Rattle.listener.specs.Lookup.{Finish, run_budget, run}
+use Rattle.listener.specs.Lookup.{Finish, run_budget, run, got_by}
 use Rattle.listener.specs.Inner.OnRun.{WasHeard, heard_next, run_on, FoundWithin, lines_in}
-use Rattle.listener.specs.declared.Answer.TheVariants.{Doze}
+use Rattle.listener.specs.declared.Answer.{Answer}
+use Rattle.listener.specs.declared.Answer.TheVariants.{Doze, Found, Absent, Refused}
 use Rattle.listener.specs.declared.hearing.Heard.{Heard}
 use Rattle.listener.proofs.Lookups.CopiedLines.{named_stand}
 use Rattle.listener.proofs.Lookups.Runs.{listener_at, SoFar, at_heard, got_with, counted_with, after_step, onward, longer_after, longer}
@@ -85,3 +86,25 @@ module _ {image : List ℕ} {count : ℕ} {goal : Finish} {out₀ out : List ℕ
   written_onward d a next l k =
       rw next
       (record { so_far = onward t.written.so_far d a; kept = l ∙ t.written.kept; wrote = wrote_with k })
+
+  -- where the run does not doze on, it finds, and all its lines stand at the front
+  pub wrote_at_end :
+      {out' : List ℕ} → ((d : ℕ) → h.step.answer ≡ Doze d → ⊥) →
+      out' ≡ put out (line_length * lines) (lines_in image h.x h.step.first h.step.count) →
+      out' ≡ put out₀ 0 (joined print_line (got_by goal))
+  wrote_at_end awake k =
+      wrote_with k ∙ ap (λ got. put out₀ 0 (joined print_line got)) (sym (all_got h.step.answer refl))
+    where
+      all_got : (a : Answer) → h.step.answer ≡ a → got_by goal ≡ got_with t.written.so_far
+      all_got (Doze d) e = absurd (awake d e)
+      all_got Found e = ap got_by (after_step t.written.so_far e)
+      all_got Absent e =
+          let a = after_step t.written.so_far e in
+          let f = t.finds.is in
+          let z : ◌≡◌ {A = ℕ} 0 1 = cc in
+          absurd (omega arith)
+      all_got (Refused number) e =
+          let a = after_step t.written.so_far e in
+          let f = t.finds.is in
+          let z : ◌≡◌ {A = ℕ} 0 1 = cc in
+          absurd (omega arith)

@@ -31,10 +31,13 @@ pub record WasHeard (image : List ℕ) (count : ℕ) (h : Heard) : Type 0 where
   pub is : h.step ≡ step (after (start tag) given) (bucket_at image h.x)
   pub inside : h.x < count
 
+-- the bucket at x as a listener hears it
+abbrev pub heard_at : List ℕ → ℕ → Listener → Heard
+heard_at image x l = record { x = x; step = step l (bucket_at image x) }
+
 -- the bucket heard after a doze by d
 unfoldable pub heard_next : List ℕ → ℕ → Heard → ℕ → Heard
-heard_next image count h d =
-    let x : ℕ = (h.x + d) % count in record { x = x; step = step h.step.listener (bucket_at image x) }
+heard_next image count h d = heard_at image ((h.x + d) % count) h.step.listener
 
 -- the run on from a bucket heard, `got` being the lines named before it
 unfoldable pub run_on : List ℕ → ℕ → Heard → List Line → Finish
