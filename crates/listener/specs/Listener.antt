@@ -7,6 +7,9 @@ use Rattle.columns.specs.Lists.{pick, only, last_or}
 use Rattle.buckets.specs.declared.Line.{Line}
 use Rattle.buckets.specs.Bucket.{Pair, Entry, Body, index_body, data_body, Bucket, cycle_length, read_bucket}
 use Rattle.buckets.specs.BucketLines.{lines_read}
+use Rattle.cycle.specs.Refusals.{number}
+use Rattle.cycle.specs.declared.Reason.{Reason}
+use Rattle.cycle.specs.declared.Reason.TheVariants.{BucketMisprinted, NotAwaited, PastNextCycle, ListenerEnded}
 use Rattle.listener.specs.declared.Phase.{Phase}
 use Rattle.listener.specs.declared.Phase.TheVariants.{TuneIn, Index, Either, Data, Ended}
 use Rattle.listener.specs.declared.Listener.{Listener}
@@ -20,7 +23,7 @@ abbrev pub numbers : Answer → List ℕ
 numbers (Doze d) = 1 ∷ d ∷ 0 ∷ []
 numbers Found = 2 ∷ 0 ∷ 0 ∷ []
 numbers Absent = 3 ∷ 0 ∷ 0 ∷ []
-numbers (Refused number) = 4 ∷ number ∷ 0 ∷ []
+numbers (Refused reason) = 4 ∷ number reason ∷ 0 ∷ []
 
 -- the numbers that a step hands back beside the next listener: its answer's, the first matching line, how many match
 unfoldable pub step_numbers : Stepped → List ℕ
@@ -159,11 +162,11 @@ stepped s a first count = record { listener = s; answer = a; first = first; coun
 
 -- "14 hands it back unchanged"
 unfoldable pub refused_ended : Listener → Stepped
-refused_ended s = stepped s (Refused 14) 0 0
+refused_ended s = stepped s (Refused ListenerEnded) 0 0
 
 -- "After a step's 8, 9 or 10 the listener handed back is ended, and the counts it carries do not include that bucket"
-unfoldable pub refused : Listener → ℕ → Stepped
-refused s number = stepped (ended s s.heard s.elapsed) (Refused number) 0 0
+unfoldable pub refused : Listener → Reason → Stepped
+refused s reason = stepped (ended s s.heard s.elapsed) (Refused reason) 0 0
 
 -- document 02, C-16: "A count that would pass 4,294,967,295 stops there."
 abbrev pub count_most : ℕ
@@ -213,17 +216,17 @@ dozing s b d awaits =
 
 abbrev pub decided : Listener → Bucket → Choice → Stepped
 decided s b (dozes d awaits first count) =
-    pick (past_next_cycle s b d) (refused s 10) (stepped (dozing s b d awaits) (Doze d) first count)
+    pick (past_next_cycle s b d) (refused s PastNextCycle) (stepped (dozing s b d awaits) (Doze d) first count)
 decided s b (finds first count) = stepped (ended s (heard_with s) (elapsed_with s)) Found first count
 decided s b misses = stepped (ended s (heard_with s) (elapsed_with s)) Absent 0 0
 
 -- a well printed bucket: 9, then the rules, then 10
 unfoldable pub heed : Listener → Bucket → Stepped
-heed s b = pick (awaited s b) (decided s b (choice s.phase s.tag b)) (refused s 9)
+heed s b = pick (awaited s b) (decided s b (choice s.phase s.tag b)) (refused s NotAwaited)
 
 -- 8: "bucket not 240 bytes, or misprinted"
 abbrev pub heed_read : Listener → Option Bucket → Stepped
-heed_read s None = refused s 8
+heed_read s None = refused s BucketMisprinted
 heed_read s (Some b) = heed s b
 
 -- "A step: 14, 8, 9, 10." 14: "bucket given to an ended listener"

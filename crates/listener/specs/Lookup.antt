@@ -1,12 +1,15 @@
 -- Document 01, "The listener", second paragraph: a lookup, with the conditions 11, 12, the steps' own and 7 in that order.
 -- Assumes nothing.
 use Rattle.std.specs.Prelude.{ℕ, zero, suc, ◌+◌, ◌*◌, ◌/◌, ◌%◌, List, [], ◌∷◌, ◌++◌, leb, length}
-use Rattle.std.specs.Prelude.{Option, None, Some}
+use Rattle.std.specs.Prelude.{Option, None, Some, Result, Ok, Err}
 use Rattle.columns.specs.Lists.{joined}
 use Rattle.buckets.specs.Lengths.{bucket_length, line_length}
 use Rattle.buckets.specs.declared.Line.{Line}
 use Rattle.buckets.specs.ListLine.{print_line}
-use Rattle.cycle.specs.Refusals.{Refusal, Condition, row, row_at, first_refusal}
+use Rattle.cycle.specs.Refusals.{number, refusal, Condition, row, row_at, first_refusal}
+use Rattle.cycle.specs.declared.Refusal.{Refusal}
+use Rattle.cycle.specs.declared.Reason.{Reason}
+use Rattle.cycle.specs.declared.Reason.TheVariants.{BucketMisprinted, PastNextCycle, TuneInOut}
 use Rattle.cycle.specs.Building.{buffer_too_short}
 use Rattle.cycle.specs.ReadingBack.{image_length_out}
 use Rattle.listener.specs.Listener.{start, step, named}
@@ -27,7 +30,7 @@ use Rattle.listener.specs.declared.Looked.TheVariants
 pub data Finish : Type 0 where
   found : Listener → List Line → Finish
   absent : Listener → Finish
-  refused : ℕ → ℕ → Finish
+  refused : Reason → ℕ → Finish
 
 -- what follows the answer to the bucket at x: after a doze the run goes on, over the image "repeated by its own count of
 -- buckets whatever N is printed"
@@ -35,7 +38,7 @@ abbrev pub after_answer : (ℕ → Listener → List Line → Finish) → ℕ �
 after_answer go_on count x got s (Doze d) = go_on ((x + d) % count) s got
 after_answer go_on count x got s Found = found s got
 after_answer go_on count x got s Absent = absent s
-after_answer go_on count x got s (Refused number) = refused number x
+after_answer go_on count x got s (Refused reason) = refused reason x
 
 -- the run from the bucket at x on, `got` being the lines named before, in at most `budget` steps; `spent` says how it ends
 -- where these are spent
@@ -51,7 +54,7 @@ abbrev pub run_budget : ℕ
 run_budget = 200000
 
 abbrev pub run : List ℕ → ℕ → ℕ → ℕ → Listener → List Line → Finish
-run = run_else (refused 10)
+run = run_else (refused PastNextCycle)
 
 -- the run of a listener started with the tag, from bucket t of an image of `count` buckets on
 unfoldable pub whole_run : List ℕ → ℕ → ℕ → ℕ → Finish
@@ -61,19 +64,23 @@ whole_run image count tag t = run image count run_budget t (start tag) []
 abbrev pub got_by : Finish → List Line
 got_by (found s got) = got
 got_by (absent s) = []
-got_by (refused number place) = []
+got_by (refused reason place) = []
 
 -- ---- the conditions
 
 -- 12: "tune-in at or past the image's bucket count"
 abbrev pub tune_in_out : List ℕ → ℕ → Condition
-tune_in_out image t = row 12 (leb (length image / bucket_length) t)
+tune_in_out image t = row TuneInOut (leb (length image / bucket_length) t)
 
 -- "the steps' own", by which the run ended; "in a lookup's 8 to 10 the image position of the bucket just heard"
 abbrev pub step_refused : Finish → Condition
-step_refused (found s got) = row_at 0 None
-step_refused (absent s) = row_at 0 None
-step_refused (refused number place) = row_at number (Some place)
+step_refused (found s got) = row_at BucketMisprinted None
+step_refused (absent s) = row_at BucketMisprinted None
+step_refused (refused reason place) = row_at reason (Some place)
+
+-- those that are known before a bucket is heard: 11, 12
+unfoldable pub tune_in_conditions : List ℕ → ℕ → List Condition
+tune_in_conditions image t = image_length_out image ∷ tune_in_out image t ∷ []
 
 -- those of a run, which has no buffer: 11, 12, the steps' own
 unfoldable pub run_conditions : List ℕ → ℕ → Finish → List Condition
@@ -90,7 +97,7 @@ conditions image t room f =
 -- ---- a run's outcome
 
 abbrev pub refused_or : Option Refusal → Finish → Finish
-refused_or (Some r) f = refused r.number r.place
+refused_or (Some r) f = refused r.reason r.place
 refused_or None f = f
 
 unfoldable pub run_over : List ℕ → ℕ → ℕ → Finish
@@ -99,46 +106,46 @@ run_over image tag t =
     refused_or (first_refusal (run_conditions image t f)) f
 
 -- how it ends as the code answers it: the lines by their number
-abbrev pub as_ending : Finish → Ending
-as_ending (found s got) = ending.Found s (length got)
-as_ending (absent s) = ending.Absent s
-as_ending (refused number place) = ending.Refused number place
+abbrev pub as_ending : Finish → Result Ending Refusal
+as_ending (found s got) = Ok (ending.Found s (length got))
+as_ending (absent s) = Ok (ending.Absent s)
+as_ending (refused reason place) = Err (refusal reason place)
 
 -- the numbers that this answer stands for: refusal number (0: none), place, end (1 found, 2 absent, 0 refused), number of lines;
 -- then the listener's state, unless refused
-abbrev pub ending_numbers : Ending → List ℕ
-ending_numbers (ending.Found s lines) = 0 ∷ 0 ∷ 1 ∷ lines ∷ saved s
-ending_numbers (ending.Absent s) = 0 ∷ 0 ∷ 2 ∷ 0 ∷ saved s
-ending_numbers (ending.Refused number place) = number ∷ place ∷ 0 ∷ 0 ∷ []
+abbrev pub ending_numbers : Result Ending Refusal → List ℕ
+ending_numbers (Ok (ending.Found s lines)) = 0 ∷ 0 ∷ 1 ∷ lines ∷ saved s
+ending_numbers (Ok (ending.Absent s)) = 0 ∷ 0 ∷ 2 ∷ 0 ∷ saved s
+ending_numbers (Err r) = number r.reason ∷ r.place ∷ 0 ∷ 0 ∷ []
 
 -- ---- the lookup
 
 -- what a lookup answers, and the bytes that it writes at the front of the lent buffer
 pub record Outcome : Type 0 where
-  pub answer : Looked
+  pub answer : Result Looked Refusal
   pub output : List ℕ
 
 -- the numbers that an answer stands for: refusal number (0: none), place, end (1 found, 2 absent, 0 refused), heard,
 -- elapsed, number of lines ("every count in that result 0")
-abbrev pub numbers : Looked → List ℕ
-numbers (TheVariants.Found heard elapsed lines) = 0 ∷ 0 ∷ 1 ∷ heard ∷ elapsed ∷ lines ∷ []
-numbers (TheVariants.Absent heard elapsed) = 0 ∷ 0 ∷ 2 ∷ heard ∷ elapsed ∷ 0 ∷ []
-numbers (TheVariants.Refused number place) = number ∷ place ∷ 0 ∷ 0 ∷ 0 ∷ 0 ∷ []
+abbrev pub numbers : Result Looked Refusal → List ℕ
+numbers (Ok (TheVariants.Found heard elapsed lines)) = 0 ∷ 0 ∷ 1 ∷ heard ∷ elapsed ∷ lines ∷ []
+numbers (Ok (TheVariants.Absent heard elapsed)) = 0 ∷ 0 ∷ 2 ∷ heard ∷ elapsed ∷ 0 ∷ []
+numbers (Err r) = number r.reason ∷ r.place ∷ 0 ∷ 0 ∷ 0 ∷ 0 ∷ []
 
-unfoldable pub refuse : ℕ → ℕ → Outcome
-refuse number place = record { answer = TheVariants.Refused number place; output = [] }
+unfoldable pub refuse : Refusal → Outcome
+refuse r = record { answer = Err r; output = [] }
 
 -- "On found it writes the matching lines to a lent buffer, each as a 27-byte list line, and returns heard, elapsed and the
 -- number of lines."; "On absent it writes nothing and returns 0 lines"
 abbrev pub outcome : Option Refusal → Finish → Outcome
-outcome (Some r) f = refuse r.number r.place
+outcome (Some r) f = refuse r
 outcome None (found s got) =
     record {
-      answer = TheVariants.Found s.heard s.elapsed (length got);
+      answer = Ok (TheVariants.Found s.heard s.elapsed (length got));
       output = joined print_line got;
     }
-outcome None (absent s) = record { answer = TheVariants.Absent s.heard s.elapsed; output = [] }
-outcome None (refused number place) = refuse number place
+outcome None (absent s) = record { answer = Ok (TheVariants.Absent s.heard s.elapsed); output = [] }
+outcome None (refused reason place) = refuse (refusal reason place)
 
 -- a lookup with a buffer that has room for `room` bytes
 unfoldable pub lookup : List ℕ → ℕ → ℕ → ℕ → Outcome

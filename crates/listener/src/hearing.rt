@@ -3,7 +3,8 @@ ghost use Rattle.std.specs.Prelude.{◌≡◌, ◌≤◌, ◌<◌};
 ghost use Rattle.buckets.specs.Lengths.{buckets_most};
 ghost use Rattle.listener.specs.Inner.OnRun.{heard_at, heard_next, RanFrom};
 
-use super::{Answer, Image, Listener, Stepped};
+use super::{Answer, Ending, Image, Listener, Stepped};
+use cycle::Refusal;
 
 // A bucket that a run heard: its place in the image, and what its step handed back.
 #[derive(Clone, Copy)]
@@ -12,21 +13,11 @@ pub struct Heard {
     pub step: Stepped,
 }
 
-// What stopped a run.
-#[derive(Clone, Copy)]
-pub enum Stop {
-    Found,
-    Absent,
-    Refused(u64),
-}
-
-// A run to its end: what stopped it, the bucket heard last, the number of lines got, and the bucket heard that they are written
-// from: the first whose lines are named, or the last one if there is none.
+// A run that came to its end, and the bucket heard that its lines are written from: the first whose lines are named, or the last
+// one if there is none.
 #[derive(Clone, Copy)]
 pub struct Ran {
-    pub stop: Stop,
-    pub last: Heard,
-    pub lines: u64,
+    pub ending: Ending,
     pub from: Heard,
 }
 
@@ -51,30 +42,25 @@ impl Image<'_> {
     }
 
     // The run from bucket t on to its end, of a listener started with the tag. No steps are counted: 10 ends it.
-    pub fn hear_to_end(&self, tag: u64, t: u64) -> Ran
+    pub fn hear_to_end(&self, tag: u64, t: u64) -> Result<Ran, Refusal>
         requires { t < self.now.count }
         ensures { RanFrom self.now.bytes.now self.now.count tag t result }
     {
         let mut h = self.hear(t, Listener::new(tag));
         let mut from = h;
         let mut lines = 0;
-        let stop = loop {
+        let ending = loop {
             lines += h.step.count;
             match h.step.answer {
                 Answer::Doze(d) => h = self.hear_next(h, d),
-                Answer::Found => break Stop::Found,
-                Answer::Absent => break Stop::Absent,
-                Answer::Refused(number) => break Stop::Refused(number),
+                Answer::Found => break Ending::Found(h.step.listener, lines),
+                Answer::Absent => break Ending::Absent(h.step.listener),
+                Answer::Refused(reason) => return Err(Refusal { reason, place: h.x }),
             }
             if lines == 0 {
                 from = h;
             }
         };
-        Ran {
-            stop,
-            last: h,
-            lines,
-            from,
-        }
+        Ok(Ran { ending, from })
     }
 }

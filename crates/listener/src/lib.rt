@@ -12,6 +12,8 @@ mod step;
 
 pub use image::Image;
 
+use cycle::Reason;
+
 // What a listener awaits: its tune-in bucket, an index bucket, either kind, a data bucket, or nothing any more.
 #[derive(Clone, Copy)]
 pub enum Phase {
@@ -43,13 +45,13 @@ pub struct Listener {
     elapsed: u64,
 }
 
-// A listener's answer to one bucket: doze by a distance, found, absent, refused by a number.
+// A listener's answer to one bucket: doze by a distance, found, absent, refused for a reason, which has its number.
 #[derive(Clone, Copy)]
 pub enum Answer {
     Doze(u64),
     Found,
     Absent,
-    Refused(u64),
+    Refused(Reason),
 }
 
 // What a step hands back: the next listener, the answer, and which lines of the bucket match.
@@ -61,16 +63,14 @@ pub struct Stepped {
     pub count: u64,
 }
 
-// How a run of a listener over an image ends: found with the listener and the number of lines got, absent with the listener, or
-// a refusal's number and place.
+// How a run of a listener over an image ends: found with the listener and the number of lines got, or absent with the listener.
 #[derive(Clone, Copy)]
 pub enum Ending {
     Found(Listener, u64),
     Absent(Listener),
-    Refused(u64, u64),
 }
 
-// What a lookup answers: found or absent with heard and elapsed, or a refusal's number and place.
+// What a lookup answers: found or absent, with heard and elapsed.
 #[derive(Clone, Copy)]
 pub enum Looked {
     Found {
@@ -82,7 +82,6 @@ pub enum Looked {
         heard: u64,
         elapsed: u64,
     },
-    Refused(u64, u64),
 }
 
 // A mean wait: the sum of elapsed, the number of hearings added, and the sum divided by it, with the remainder.

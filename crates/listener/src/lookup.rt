@@ -3,12 +3,13 @@ ghost use Rattle.std.specs.Prelude.{◌≡◌, [], ◌+◌, ◌*◌, ◌<◌, �
 ghost use Rattle.columns.specs.Lists.{put, joined};
 ghost use Rattle.buckets.specs.Lengths.{bucket_length, buckets_most, bucket_lines_most, line_length};
 ghost use Rattle.buckets.specs.ListLine.{print_line};
-ghost use Rattle.listener.specs.Lookup.{numbers, lookup, got_by};
+ghost use Rattle.listener.specs.Lookup.{lookup, got_by};
 ghost use Rattle.listener.specs.Inner.OnRun.{WasHeard, run_on, FoundWithin, lines_in};
 
-use super::hearing::{Heard, Stop};
-use super::{Answer, Image, Listener, Looked};
+use super::hearing::Heard;
+use super::{Answer, Ending, Image, Listener, Looked};
 use buckets::lines::copy_lines;
+use cycle::{Reason, Refusal};
 
 impl Image<'_> {
     // The lines that a step on bucket x names, behind those already in out.
@@ -49,40 +50,27 @@ impl Image<'_> {
 }
 
 // Looks a tag up in an image, tuning in at bucket t, and writes the matching lines to out if it finds some.
-pub fn lookup(image: &[u8], tag: u64, t: u64, out: &mut [u8]) -> Looked
-    ensures { (numbers result ≡ numbers (lookup image.now tag t (length out.old)).answer) ×
-        (out.new ≡
-        put out.old 0 (lookup image.now tag t (length out.old)).output) }
+pub fn lookup(image: &[u8], tag: u64, t: u64, out: &mut [u8]) -> Result<Looked, Refusal>
+    ensures answer { result ≡ (lookup image.now tag t (length out.old)).answer }
+    ensures output { out.new ≡ put out.old 0 (lookup image.now tag t (length out.old)).output }
 {
-    let Some(image) = Image::new(image) else {
-        return Looked::Refused(11, 0);
-    };
-    if image.count <= t {
-        return Looked::Refused(12, 0);
-    }
-    let ran = image.hear_to_end(tag, t);
-    let last = ran.last;
-    let r = last.step;
-    let l = r.listener;
-    let lines = ran.lines;
-    let stop = ran.stop;
-    match stop {
-        Stop::Found => {
+    let image = Image::tuned_in(image, t)?;
+    let ran = image.hear_to_end(tag, t)?;
+    match ran.ending {
+        Ending::Found(l, lines) => {
             if ((out.len() / Listener::LINE) as u64) < lines {
-                return Looked::Refused(7, 0);
+                return Err(Reason::BufferTooShort.into());
             }
-            let from = ran.from;
-            image.write_found(from, out);
-            Looked::Found {
+            image.write_found(ran.from, out);
+            Ok(Looked::Found {
                 heard: l.heard(),
                 elapsed: l.elapsed(),
-                lines: lines,
-            }
+                lines,
+            })
         }
-        Stop::Absent => Looked::Absent {
+        Ending::Absent(l) => Ok(Looked::Absent {
             heard: l.heard(),
             elapsed: l.elapsed(),
-        },
-        Stop::Refused(number) => Looked::Refused(number, last.x),
+        }),
     }
 }

@@ -124,13 +124,13 @@ impl Listener {
     }
 
     // The refusal by 8, 9 or 10: the bucket is not counted.
-    fn refused(self, number: u64) -> Stepped
-        ensures { result ≡ refused self number }
+    fn refused(self, reason: Reason) -> Stepped
+        ensures { result ≡ refused self reason }
     {
         let listener = self.ended(self.heard, self.elapsed);
         Stepped {
             listener: listener,
-            answer: Answer::Refused(number),
+            answer: Answer::Refused(reason),
             first: 0,
             count: 0,
         }
@@ -192,7 +192,7 @@ impl Listener {
             return self.dozing(h, h.position + d, self.passed, d, awaits, first, count);
         }
         if 1 <= self.passed {
-            return self.refused(10);
+            return self.refused(Reason::PastNextCycle);
         }
         self.dozing(h, 0, self.passed + 1, d, awaits, first, count)
     }
@@ -281,7 +281,7 @@ impl Listener {
         ensures { result ≡ heed self (bucket_with h (index_of x)) }
     {
         if !self.awaits(true, h) {
-            return self.refused(9);
+            return self.refused(Reason::NotAwaited);
         }
         let phase = self.phase;
         if is_tune_in(phase) {
@@ -297,7 +297,7 @@ impl Listener {
         ensures { result ≡ heed self (bucket_with h (data_body follow_on (tagged_lines count tags))) }
     {
         if !self.awaits(false, h) {
-            return self.refused(9);
+            return self.refused(Reason::NotAwaited);
         }
         let phase = self.phase;
         if is_tune_in(phase) {
@@ -322,7 +322,7 @@ impl Listener {
                 let tags = r.tags;
                 self.take_data(head, r.follow_on, r.lines, tags)
             }
-            Kind::Misprinted => self.refused(8),
+            Kind::Misprinted => self.refused(Reason::BucketMisprinted),
         }
     }
 
@@ -332,7 +332,7 @@ impl Listener {
     {
         Stepped {
             listener: self,
-            answer: Answer::Refused(14),
+            answer: Answer::Refused(Reason::ListenerEnded),
             first: 0,
             count: 0,
         }

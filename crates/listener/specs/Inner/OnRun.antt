@@ -2,12 +2,11 @@
 -- public ones cite Listener and Lookup.
 -- Assumes nothing.
 use Rattle.std.specs.Prelude.{ℕ, ◌+◌, ◌*◌, ◌/◌, ◌≤◌, ◌<◌, ◌%◌, ◌≡◌, not, List, [], ◌++◌, leb, ltb, length, drop}
-use Rattle.std.specs.Prelude.{None}
+use Rattle.std.specs.Prelude.{None, Result, Ok, Err}
 use Rattle.columns.specs.Lists.{pick}
 use Rattle.buckets.specs.Lengths.{bucket_length, line_columns_width, line_length, lines_start}
 use Rattle.buckets.specs.declared.Line.{Line}
 use Rattle.buckets.specs.ListLine.{ended_lines}
-use Rattle.cycle.specs.ReadingBack.{whole_buckets}
 use Rattle.listener.specs.Listener.{start, step, named}
 use Rattle.cycle.specs.Cycle.{bucket_at}
 use Rattle.listener.specs.Lookup.{Finish, run_budget, run, after_answer, found, absent, refused, whole_run, as_ending, Outcome, refuse, outcome}
@@ -15,14 +14,9 @@ use Rattle.listener.specs.Started.{after}
 use Rattle.listener.specs.declared.Listener.{Listener}
 use Rattle.listener.specs.declared.hearing.Heard.{Heard}
 use Rattle.listener.specs.declared.hearing.Ran.{Ran}
-use Rattle.listener.specs.declared.hearing.Stop.{Stop}
-use Rattle.listener.specs.declared.hearing.Stop.TheVariants as stop
-use Rattle.listener.specs.declared.Ending.{Ending}
-use Rattle.listener.specs.declared.Ending.TheVariants as ending
-
--- 11 or 12 of a run over len bytes from bucket t on, 0 if neither holds
-unfoldable pub refusal_of : ℕ → ℕ → ℕ
-refusal_of len t = pick (not (whole_buckets len)) 11 (pick (leb (len / bucket_length) t) 12 0)
+use Rattle.cycle.specs.Refusals.{refusal}
+use Rattle.cycle.specs.declared.Refusal.{Refusal}
+use Rattle.cycle.specs.declared.Reason.TheVariants.{BufferTooShort}
 
 -- a bucket of the image that a started listener heard
 pub record WasHeard (image : List ℕ) (count : ℕ) (h : Heard) : Type 0 where
@@ -50,16 +44,11 @@ pub record Begins (image : List ℕ) (count : ℕ) (goal : Finish) (h : Heard) :
   pub heard : WasHeard image count h
   pub all : goal ≡ run_on image count h []
 
--- how a run ends by what stopped it, the bucket heard last and the number of lines
-abbrev pub ending_by : Stop → Heard → ℕ → Ending
-ending_by stop.Found h lines = ending.Found h.step.listener lines
-ending_by stop.Absent h lines = ending.Absent h.step.listener
-ending_by (stop.Refused number) h lines = ending.Refused number h.x
-
--- a run to its end
-pub record RanFrom (image : List ℕ) (count tag t : ℕ) (r : Ran) : Type 0 where
-  pub begins : Begins image count (whole_run image count tag t) r.from
-  pub ends : ending_by r.stop r.last r.lines ≡ as_ending (whole_run image count tag t)
+-- a run to its end, or the refusal that ended it
+abbrev pub RanFrom : List ℕ → ℕ → ℕ → ℕ → Result Ran Refusal → Type 0
+RanFrom image count tag t (Ok r) =
+    Begins image count (whole_run image count tag t) r.from × (as_ending (whole_run image count tag t) ≡ Ok r.ending)
+RanFrom image count tag t (Err r) = as_ending (whole_run image count tag t) ≡ Err r
 
 -- it finds lines that a buffer has room for
 pub record FoundWithin (f : Finish) (room : ℕ) : Type 0 where
@@ -76,6 +65,6 @@ lines_in image x first count = ended_lines count (drop (lines_start + line_colum
 
 abbrev pub concluded : ℕ → Finish → Outcome
 concluded room (found s got) =
-    pick (ltb room (line_length * length got)) (refuse 7 0) (outcome None (found s got))
+    pick (ltb room (line_length * length got)) (refuse (refusal BufferTooShort 0)) (outcome None (found s got))
 concluded room (absent s) = outcome None (absent s)
-concluded room (refused number place) = refuse number place
+concluded room (refused reason place) = refuse (refusal reason place)
