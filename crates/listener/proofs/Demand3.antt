@@ -4,7 +4,7 @@ use mathlib.Core.Path.{◌≡◌, sym, ◌∙◌, ap, subst}
 use mathlib.Core.Logic.{⊎_elim}
 use Prim.Native.Nat.{ℕ, zero, suc, ◌+◌, ◌*◌, ◌/◌, ◌%◌, ◌≤◌, ◌<◌}
 use mathlib.Core.Bool.{true, false, not}
-use Rattle.std.specs.Prelude.{Some}
+use Rattle.std.specs.Prelude.{None, Some, Ok, Err}
 use mathlib.Core.List.{List, []}
 use native.Mathlib.Nat.{add_comm, mod-eq_of_lt, mod_self, mod-lt, mod-add-mod}
 use native.Mathlib.Numerals.{add-one}
@@ -23,7 +23,9 @@ use Rattle.cycle.proofs.Basics.Ranges.{le_or_lt}
 use Rattle.listener.specs.Listener.{start}
 use Rattle.listener.specs.Hearing.{Taken, hearing, repeated, End, found, absent, end_of, refused_before_end, lines_got, listener_after}
 use Rattle.listener.specs.Lookup
-use Rattle.listener.specs.Lookup.{Finish, run, run_budget, whole_run, lookup}
+use Rattle.cycle.specs.Refusals.{refusal, first_refusal}
+use Rattle.cycle.specs.declared.Reason.TheVariants.{PastNextCycle, BufferTooShort}
+use Rattle.listener.specs.Lookup.{run, run_budget, tune_in_conditions, whole_run, lookup}
 use Rattle.listener.specs.Inner.OnRun.{concluded}
 use Rattle.listener.specs.Demand3.{Looks, Demand3, EveryHearing}
 use Rattle.listener.specs.OnAir.{Sending, Accepted, image_of, Air, AirPlace, behind, place_at, on_air, Demand3OnAir, Hears}
@@ -31,7 +33,7 @@ use Rattle.listener.specs.declared.Listener.{Listener}
 use Rattle.listener.specs.declared.Looked.TheVariants
 use Rattle.listener.proofs.Lookups.RunHearings.{finish, runs_hearing}
 use Rattle.listener.proofs.Lookups.EnoughSteps.{never_spent}
-use Rattle.listener.proofs.Lookups.LookupOutcomes.{lookup_by_tests}
+use Rattle.listener.proofs.Lookups.LookupOutcomes.{looks_up}
 use Rattle.listener.proofs.Lookups.Images.{image_whole, image_count, BuiltCycle, built_cycle}
 use Rattle.listener.proofs.OnAir.{demand_3_on_air}
 
@@ -69,10 +71,10 @@ module _ (c : Sending) (some : 0 < c.n) where
 
 -- 11 and 12 do not hold
 pub past_tests :
-    (c tune space : ℕ) (f : Finish) → whole_buckets c ≡ true → tune < c / 240 →
-    concluded space (pick (not (whole_buckets c)) (Lookup.refused 11 0) (pick (leb (c / 240) tune) (Lookup.refused 12 0) f)) ≡
-    concluded space f
-past_tests c tune space f w l = rw (w, lt-leb (c / 240) tune l)
+    (image : List ℕ) (tune : ℕ) → whole_buckets (length image) ≡ true → tune < length image / 240 →
+    first_refusal (tune_in_conditions image tune) ≡ None
+unfolding tune_in_conditions
+past_tests image tune w l = rw (w, lt-leb (length image / 240) tune l) refl
 
 -- the run beside a hearing that comes to its end
 pub run_beside :
@@ -83,7 +85,7 @@ pub run_beside :
     finish e (listener_after (start tag) (hearing (repeated image n) strays tag tune m)) (lines_got (hearing (repeated image n) strays tag tune m))
 unfolding whole_run hearing
 run_beside image n tag tune m strays e early end fine =
-    sym (never_spent image n tag tune (Lookup.refused 10) m) ∙
+    sym (never_spent image n tag tune (Lookup.refused PastNextCycle) m) ∙
     (ap (λ b. run image n b tune (start tag) []) (add_comm run_budget m) ∙
     (ap (λ x. run image n (m + run_budget) x (start tag) []) (sym (mod-eq_of_lt early)) ∙
     runs_hearing image n strays m run_budget (start tag) tune e [] end fine))
@@ -94,17 +96,17 @@ module _ (space : ℕ) (l : Listener) (got : List Line) where
   pub concluded_found :
       {h e : ℕ} → l.heard ≡ h → l.elapsed ≡ e → 27 * length got ≤ space →
       concluded space (Lookup.found l got) ≡
-      record { answer = TheVariants.Found h e (length got); output = joined print_line got }
+      record { answer = Ok (TheVariants.Found h e (length got)); output = joined print_line got }
   concluded_found heard elapsed room = rw (le-ltb space (27 * length got) room, heard, elapsed)
 
   pub concluded_short :
-      space < 27 * length got → concluded space (Lookup.found l got) ≡ record { answer = TheVariants.Refused 7 0; output = [] }
+      space < 27 * length got → concluded space (Lookup.found l got) ≡ record { answer = Err (refusal BufferTooShort 0); output = [] }
   unfolding Lookup.refuse
   concluded_short room = rw (lt-ltb space (27 * length got) room)
 
 pub concluded_absent :
     (space : ℕ) (l : Listener) {h e : ℕ} → l.heard ≡ h → l.elapsed ≡ e →
-    concluded space (Lookup.absent l) ≡ record { answer = TheVariants.Absent h e; output = [] }
+    concluded space (Lookup.absent l) ≡ record { answer = Ok (TheVariants.Absent h e); output = [] }
 concluded_absent space l heard elapsed = rw (heard, elapsed)
 
 -- an outcome, by its numbers and its bytes
@@ -140,12 +142,12 @@ module _ (c : Sending) (accepted : Accepted c) (tag tune : ℕ) (early : tune < 
   unfolding log
   looked space e ended =
       let long : length (image_of c) / 240 ≡ c.n = image_count (image_of c) (cycle_size t) (cycle_bucket t) built.reads ∙ sym built.size_is in
-      lookup_by_tests (image_of c) tag tune space ∙
-      (past_tests (length (image_of c)) tune space (whole_run (image_of c) (length (image_of c) / 240) tag tune)
-      (image_whole (image_of c) (cycle_size t) (cycle_bucket t) built.reads (omega (arith, built.size_is))) (rw long early) ∙
+      looks_up (image_of c) tag tune space
+      (past_tests (image_of c) tune
+      (image_whole (image_of c) (cycle_size t) (cycle_bucket t) built.reads (omega (arith, built.size_is))) (rw long early)) ∙
       ap (concluded space)
       (ap (λ z. whole_run (image_of c) z tag tune) long ∙
-      run_beside (image_of c) c.n tag tune m strays e early ended told.unrefused))
+      run_beside (image_of c) c.n tag tune m strays e early ended told.unrefused)
 
   pub of_cycle : Demand3 c.settings c.list (image_of c) c.n tag tune m log
   of_cycle =

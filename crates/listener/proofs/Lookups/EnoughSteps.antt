@@ -7,6 +7,7 @@ use native.Mathlib.Omega.{arith}
 use Rattle.buckets.specs.Lengths.{buckets_most}
 use Rattle.buckets.specs.Bucket.{Bucket}
 use Rattle.buckets.specs.declared.Line.{Line}
+use Rattle.cycle.specs.declared.Reason.TheVariants.{PastNextCycle}
 use Rattle.listener.specs.Listener.{start, step, named}
 use Rattle.cycle.specs.Cycle.{bucket_at}
 use Rattle.listener.specs.Lookup.{Finish, refused, after_answer, run_budget, run, run_else}
@@ -92,4 +93,4 @@ run_on_lem image count tag given x got =
     let e : run_budget + 1 ≡ suc run_budget = omega arith in
     sym
     (subst (λ z. run image count z x s got ≡ run image count run_budget x s got) e
-    (enough_started image count (refused 10) run_budget 1 tag given x got budget_enough))
+    (enough_started image count (refused PastNextCycle) run_budget 1 tag given x got budget_enough))

@@ -7,6 +7,7 @@ use Prim.Native.Nat.{ℕ, suc, ◌+◌, ◌≤◌, ◌<◌}
 use native.Mathlib.Omega.{arith}
 use borrow.Author.Tests.{not-true, not-false}
 use Rattle.buckets.specs.Bucket.{Bucket, read_bucket}
+use Rattle.cycle.specs.declared.Reason.TheVariants.{NotAwaited}
 use Rattle.listener.specs.Listener.{dozes, count_most, stopped, heard_with, elapsed_with, letter_awaited, place_awaited, awaited, body_choice, choice, decided, stepped, refused, refused_ended, is_ended, heed, heed_read, step, starts_over, lost}
 use Rattle.listener.specs.Inner.OnReading.{is_tune_in}
 use Rattle.listener.specs.declared.Phase.{Phase}
@@ -82,13 +83,13 @@ heed_later s b h = by_phase s.phase refl
     by_phase Ended e k =
         absurd (true≢false (sym h ∙ ap (λ p. letter_awaited p b.body && place_awaited p s b) e))
 
-heed_other : (s : Listener) (b : Bucket) → awaited s b ≡ false → heed s b ≡ refused s 9
+heed_other : (s : Listener) (b : Bucket) → awaited s b ≡ false → heed s b ≡ refused s NotAwaited
 unfolding heed
 heed_other s b h = rw h
 
 -- the same by what the code tested
 module _ (s : Listener) (b : Bucket) {as_awaited : Bool} (tested : as_awaited ≡ awaited s b) {r : Stepped} where
-  pub heeds_not : not as_awaited ≡ true → r ≡ refused s 9 → r ≡ heed s b
+  pub heeds_not : not as_awaited ≡ true → r ≡ refused s NotAwaited → r ≡ heed s b
   heeds_not e is = is ∙ sym (heed_other s b (sym tested ∙ not-true as_awaited e))
 
   module _ (e : not as_awaited ≡ false) {tuning : Bool} (phase : tuning ≡ is_tune_in s.phase) where

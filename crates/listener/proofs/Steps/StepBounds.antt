@@ -17,6 +17,8 @@ use Rattle.buckets.specs.Bucket.{Pair, Entry, Body, index_body, data_body, Bucke
 use Rattle.buckets.proofs.Good.{Good, GoodBody, bucket_good, pair_fits_lem, entry_fits_lem}
 use Rattle.buckets.proofs.Buckets.{print_of_read_bucket}
 use Rattle.buckets.specs.BucketLines.{body_lines, lines_read}
+use Rattle.cycle.specs.declared.Reason.{Reason}
+use Rattle.cycle.specs.declared.Reason.TheVariants.{BucketMisprinted, NotAwaited, PastNextCycle}
 use Rattle.listener.specs.Listener.{Choice, dozes, finds, misses, entry_choice, tag_below, later_choice, at_most, index_choice, before, matching, last_is, data_choice, body_choice, choice, is_ended, stepped, refused, refused_ended, decided, awaited, past_next_cycle, heed, heed_read, step, named}
 use Rattle.listener.specs.declared.Phase.{Phase}
 use Rattle.listener.specs.declared.Phase.TheVariants.{TuneIn, Index, Either, Data, Ended}
@@ -143,9 +145,9 @@ either_step : (n : ℕ) (b : Bool) {x y : Stepped} → Within n x → Within n y
 either_step n true h g = h
 either_step n false h g = g
 
-within_refused : (n : ℕ) (s : Listener) (number : ℕ) → Within n (refused s number)
+within_refused : (n : ℕ) (s : Listener) (reason : Reason) → Within n (refused s reason)
 unfolding refused stepped
-within_refused n s number = record { lines = omega arith; near = omega arith }
+within_refused n s reason = record { lines = omega arith; near = omega arith }
 
 within_ended : (n : ℕ) (s : Listener) → Within n (refused_ended s)
 unfolding refused_ended stepped
@@ -155,7 +157,7 @@ within_decided :
     (n : ℕ) (s : Listener) (b : Bucket) (c : Choice) → Good b → Bounded b.to_cycle n c → Within n (decided s b c)
 unfolding stepped
 within_decided n s b (dozes d p i k) g h =
-    either_step n (past_next_cycle s b d) (within_refused n s 10)
+    either_step n (past_next_cycle s b d) (within_refused n s PastNextCycle)
     (record { lines = h.1; near = omega (arith, h.0.near, g.short_cycle) })
 within_decided n s b (finds i k) g h = record { lines = h; near = omega arith }
 within_decided n s b misses g h = record { lines = omega arith; near = omega arith }
@@ -164,13 +166,13 @@ within_read :
     (s : Listener) (bytes : List ℕ) (o : Option Bucket) → read_bucket bytes ≡ o →
     Within (length (lines_read o)) (heed_read s o)
 unfolding heed
-within_read s bytes None e = within_refused 0 s 8
+within_read s bytes None e = within_refused 0 s BucketMisprinted
 within_read s bytes (Some b) e =
     let n = length (body_lines b.body) in
     let g = bucket_good b (print_of_read_bucket bytes e).1 in
     either_step n (awaited s b)
     (within_decided n s b (choice s.phase s.tag b) g (bounded_choice b g s.tag s.phase))
-    (within_refused n s 9)
+    (within_refused n s NotAwaited)
 
 module _ (s : Listener) (bytes : List ℕ) where
   pub within_step : Within (length (lines_read (read_bucket bytes))) (step s bytes)

@@ -17,6 +17,8 @@ use Rattle.buckets.specs.Bucket.{Bucket, cycle_length, read_bucket}
 use Rattle.buckets.proofs.Good.{Good, bucket_good}
 use Rattle.buckets.proofs.Buckets.{print_of_read_bucket}
 use Rattle.buckets.specs.BucketLines.{body_lines}
+use Rattle.cycle.specs.declared.Reason.{Reason}
+use Rattle.cycle.specs.declared.Reason.TheVariants.{BucketMisprinted, NotAwaited, PastNextCycle}
 use Rattle.listener.specs.Listener.{Choice, dozes, finds, misses, step, choice, is_ended, awaited, letter_awaited, due_at, place_awaited, ended, stepped, refused, refused_ended, heard_with, elapsed_with, reaches_start, due_with, passed_with, past_next_cycle, dozing, decided, heed, heed_read}
 use Rattle.listener.specs.Started.{after, Limits}
 use Rattle.listener.specs.declared.Phase.{Phase}
@@ -124,9 +126,9 @@ either_way :
 either_way x y true f g = f refl
 either_way x y false f g = g refl
 
-leaves_refused : {t : Bucket} (s : Listener) (number : ℕ) → Limits s → Leaves t s (refused s number)
+leaves_refused : {t : Bucket} (s : Listener) (reason : Reason) → Limits s → Leaves t s (refused s reason)
 unfolding refused stepped ended
-leaves_refused s number l =
+leaves_refused s reason l =
     stops
     (record {
       over_is = refl;
@@ -259,8 +261,8 @@ module _ (t : Bucket) (s : Listener) (b : Bucket) (good : Good b) (k : Takes t s
 
   leaves_decided : (n : ℕ) (c : Choice) → Bounded b.to_cycle n c → Leaves t s (decided s b c)
   leaves_decided n (dozes d next first count) h =
-      either_way (refused s 10) (stepped (dozing s b d next) (Doze d) first count) (past_next_cycle s b d)
-      (λ e. leaves_refused s 10 limited)
+      either_way (refused s PastNextCycle) (stepped (dozing s b d next) (Doze d) first count) (past_next_cycle s b d)
+      (λ e. leaves_refused s PastNextCycle limited)
       (leaves_dozing d next first count h.0)
   leaves_decided n (finds first count) h = leaves_ended Found first count refl
   leaves_decided n misses h = leaves_ended Absent 0 0 refl
@@ -274,14 +276,14 @@ module _ (t : Bucket) (s : Listener) (bytes : List ℕ) (l : Limits s) where
   leaves_heed b e takes =
       let g = bucket_good b (print_of_read_bucket bytes e).1 in
       let c = choice s.phase s.tag b in
-      either_way (decided s b c) (refused s 9) (awaited s b)
+      either_way (decided s b c) (refused s NotAwaited) (awaited s b)
       (λ h. leaves_decided t s b g (takes h) (length (body_lines b.body)) c (bounded_choice b g s.tag s.phase))
-      (λ h. leaves_refused s 9 l)
+      (λ h. leaves_refused s NotAwaited l)
 
   leaves_read :
       (o : Option Bucket) → read_bucket bytes ≡ o →
       ((b : Bucket) → read_bucket bytes ≡ Some b → awaited s b ≡ true → Takes t s b) → Leaves t s (heed_read s o)
-  leaves_read None e takes = leaves_refused s 8 l
+  leaves_read None e takes = leaves_refused s BucketMisprinted l
   leaves_read (Some b) e takes = leaves_heed b e (takes b e)
 
   -- what a listener leaves that has not ended and takes every bucket that 9 lets pass

@@ -7,6 +7,10 @@ use mathlib.Core.List.{List}
 use lib.Dec.{eqb}
 use lib.ListN.{get_or, drop}
 use Rattle.columns.specs.Lists.{pick}
+use Rattle.std.specs.Prelude.{Result, Ok, Err}
+use Rattle.cycle.specs.Refusals.{refusal}
+use Rattle.cycle.specs.declared.Refusal.{Refusal}
+use Rattle.cycle.proofs.Basics.Telling.{reason_by, reason_back}
 use Rattle.listener.specs.Listener.{stepped, step_numbers}
 use Rattle.listener.specs.Lookup
 use Rattle.listener.specs.declared.Listener.{Listener}
@@ -26,7 +30,7 @@ use Rattle.listener.proofs.Steps.SavedStates.{restored_saved}
 unfoldable answer_by : List ℕ → Answer
 answer_by a =
     pick (eqb (get_or a 0 0) 1) (Doze (get_or a 1 0))
-    (pick (eqb (get_or a 0 0) 2) Found (pick (eqb (get_or a 0 0) 3) Absent (Refused (get_or a 1 0))))
+    (pick (eqb (get_or a 0 0) 2) Found (pick (eqb (get_or a 0 0) 3) Absent (Refused (reason_by (get_or a 1 0)))))
 
 unfoldable stepped_by : Listener → List ℕ → Stepped
 stepped_by l a = stepped l (answer_by a) (get_or a 3 0) (get_or a 4 0)
@@ -38,7 +42,7 @@ unfolding answer_by stepped_by step_numbers stepped
 by_answer l first count (Doze d) = refl
 by_answer l first count Found = refl
 by_answer l first count Absent = refl
-by_answer l first count (Refused number) = refl
+by_answer l first count (Refused reason) = ap (λ r. stepped l (Refused r) first count) (reason_back reason)
 
 step_back : (r : Stepped) → stepped_by r.listener (step_numbers r) ≡ r
 unfolding stepped
@@ -53,32 +57,34 @@ step_tells e = (ap (λ z. z.listener) e, ap step_numbers e)
 
 -- ---- a lookup
 
-unfoldable looked_by : List ℕ → Looked
+unfoldable looked_by : List ℕ → Result Looked Refusal
 looked_by a =
-    pick (eqb (get_or a 2 0) 1) (looked.Found (get_or a 3 0) (get_or a 4 0) (get_or a 5 0))
-    (pick (eqb (get_or a 2 0) 2) (looked.Absent (get_or a 3 0) (get_or a 4 0)) (looked.Refused (get_or a 0 0) (get_or a 1 0)))
+    pick (eqb (get_or a 2 0) 1) (Ok (looked.Found (get_or a 3 0) (get_or a 4 0) (get_or a 5 0)))
+    (pick (eqb (get_or a 2 0) 2) (Ok (looked.Absent (get_or a 3 0) (get_or a 4 0)))
+    (Err (refusal (reason_by (get_or a 0 0)) (get_or a 1 0))))
 
-looked_back : (a : Looked) → looked_by (Lookup.numbers a) ≡ a
+looked_back : (a : Result Looked Refusal) → looked_by (Lookup.numbers a) ≡ a
 unfolding looked_by
-looked_back (looked.Found heard elapsed lines) = refl
-looked_back (looked.Absent heard elapsed) = refl
-looked_back (looked.Refused number place) = refl
+looked_back (Ok (looked.Found heard elapsed lines)) = refl
+looked_back (Ok (looked.Absent heard elapsed)) = refl
+looked_back (Err r) = ap (λ z. Err (refusal z r.place)) (reason_back r.reason)
 
-pub looked_told : (a b : Looked) → Lookup.numbers a ≡ Lookup.numbers b → a ≡ b
+pub looked_told : (a b : Result Looked Refusal) → Lookup.numbers a ≡ Lookup.numbers b → a ≡ b
 looked_told a b e = sym (looked_back a) ∙ (ap looked_by e ∙ looked_back b)
 
 -- ---- a run
 
-unfoldable ending_by : List ℕ → Ending
+unfoldable ending_by : List ℕ → Result Ending Refusal
 ending_by a =
-    pick (eqb (get_or a 2 0) 1) (ending.Found (restored (drop 4 a)) (get_or a 3 0))
-    (pick (eqb (get_or a 2 0) 2) (ending.Absent (restored (drop 4 a))) (ending.Refused (get_or a 0 0) (get_or a 1 0)))
+    pick (eqb (get_or a 2 0) 1) (Ok (ending.Found (restored (drop 4 a)) (get_or a 3 0)))
+    (pick (eqb (get_or a 2 0) 2) (Ok (ending.Absent (restored (drop 4 a))))
+    (Err (refusal (reason_by (get_or a 0 0)) (get_or a 1 0))))
 
-ending_back : (e : Ending) → ending_by (Lookup.ending_numbers e) ≡ e
+ending_back : (e : Result Ending Refusal) → ending_by (Lookup.ending_numbers e) ≡ e
 unfolding ending_by
-ending_back (ending.Found s lines) = ap (λ z. ending.Found z lines) (restored_saved s)
-ending_back (ending.Absent s) = ap ending.Absent (restored_saved s)
-ending_back (ending.Refused number place) = refl
+ending_back (Ok (ending.Found s lines)) = ap (λ z. Ok (ending.Found z lines)) (restored_saved s)
+ending_back (Ok (ending.Absent s)) = ap (λ z. Ok (ending.Absent z)) (restored_saved s)
+ending_back (Err r) = ap (λ z. Err (refusal z r.place)) (reason_back r.reason)
 
-pub ending_told : (a b : Ending) → Lookup.ending_numbers a ≡ Lookup.ending_numbers b → a ≡ b
+pub ending_told : (a b : Result Ending Refusal) → Lookup.ending_numbers a ≡ Lookup.ending_numbers b → a ≡ b
 ending_told a b e = sym (ending_back a) ∙ (ap ending_by e ∙ ending_back b)

@@ -8,6 +8,8 @@ use Prim.Native.Nat.{ℕ, ◌≤◌}
 use native.Mathlib.Omega.{arith}
 use Rattle.columns.specs.Lists.{pick}
 use Rattle.buckets.specs.Bucket.{Bucket, read_bucket}
+use Rattle.cycle.specs.declared.Reason.{Reason}
+use Rattle.cycle.specs.declared.Reason.TheVariants.{BucketMisprinted, NotAwaited, PastNextCycle}
 use Rattle.listener.specs.Listener.{step_numbers, start, Choice, dozes, finds, misses, choice, letter_awaited, place_awaited, awaited, is_ended, count_most, ended, stepped, refused_ended, refused, heard_with, elapsed_with, passed_with, past_next_cycle, dozing, decided, heed, heed_read, step, counting, starts_over, lost}
 use Rattle.listener.specs.Started.{handed_in, after_all, answers_to, CountsStop, CountsUnread, StartsOver}
 use Rattle.listener.specs.declared.Phase.{Phase}
@@ -30,9 +32,9 @@ keeps_either x y true f g = f
 keeps_either x y false f g = g
 
 module _ (s : Listener) (k : Keeps s) where
-  keeps_refused : (number : ℕ) → Keeps (refused s number).listener
+  keeps_refused : (reason : Reason) → Keeps (refused s reason).listener
   unfolding refused stepped ended
-  keeps_refused number = record { heard = k.heard; elapsed = k.elapsed }
+  keeps_refused reason = record { heard = k.heard; elapsed = k.elapsed }
 
   keeps_14 : Keeps (refused_ended s).listener
   unfolding refused_ended stepped
@@ -48,17 +50,17 @@ module _ (s : Listener) (k : Keeps s) where
 
   keeps_decided : (b : Bucket) (c : Choice) → Keeps (decided s b c).listener
   keeps_decided b (dozes d next first count) =
-      keeps_either (refused s 10) (stepped (dozing s b d next) (Doze d) first count) (past_next_cycle s b d) (keeps_refused 10)
+      keeps_either (refused s PastNextCycle) (stepped (dozing s b d next) (Doze d) first count) (past_next_cycle s b d) (keeps_refused PastNextCycle)
       (keeps_dozing b d next first count)
   keeps_decided b (finds first count) = keeps_ended Found first count
   keeps_decided b misses = keeps_ended Absent 0 0
 
   keeps_read : (o : Option Bucket) → Keeps (heed_read s o).listener
   unfolding heed
-  keeps_read None = keeps_refused 8
+  keeps_read None = keeps_refused BucketMisprinted
   keeps_read (Some b) =
-      keeps_either (decided s b (choice s.phase s.tag b)) (refused s 9) (awaited s b)
-      (keeps_decided b (choice s.phase s.tag b)) (keeps_refused 9)
+      keeps_either (decided s b (choice s.phase s.tag b)) (refused s NotAwaited) (awaited s b)
+      (keeps_decided b (choice s.phase s.tag b)) (keeps_refused NotAwaited)
 
   keeps_lost : Keeps (stepped (starts_over s) (Doze 1) 0 0).listener
   unfolding stepped starts_over counting
@@ -97,9 +99,9 @@ module _ (s : Listener) (heard elapsed : ℕ) where
   unfoldable other : Listener
   other = counting s heard elapsed
 
-  alike_refused : (number : ℕ) → Alike (refused other number) (refused s number)
+  alike_refused : (reason : Reason) → Alike (refused other reason) (refused s reason)
   unfolding other counting refused stepped ended step_numbers
-  alike_refused number = record { numbers = refl; uncounted = refl }
+  alike_refused reason = record { numbers = refl; uncounted = refl }
 
   alike_14 : Alike (refused_ended other) (refused_ended s)
   unfolding other counting refused_ended stepped step_numbers
@@ -120,7 +122,7 @@ module _ (s : Listener) (heard elapsed : ℕ) where
   alike_decided : (b : Bucket) (c : Choice) → Alike (decided other b c) (decided s b c)
   unfolding other counting past_next_cycle
   alike_decided b (dozes d next first count) =
-      alike_either (past_next_cycle s b d) (alike_refused 10) (alike_dozing b d next first count)
+      alike_either (past_next_cycle s b d) (alike_refused PastNextCycle) (alike_dozing b d next first count)
   alike_decided b (finds first count) = alike_ended Found first count
   alike_decided b misses = alike_ended Absent 0 0
 
@@ -139,10 +141,10 @@ module _ (s : Listener) (heard elapsed : ℕ) where
   unfolding heed other counting
   alike_heed b =
       rw (same_awaited b)
-      (alike_either (awaited s b) (alike_decided b (choice s.phase s.tag b)) (alike_refused 9))
+      (alike_either (awaited s b) (alike_decided b (choice s.phase s.tag b)) (alike_refused NotAwaited))
 
   alike_read : (o : Option Bucket) → Alike (heed_read other o) (heed_read s o)
-  alike_read None = alike_refused 8
+  alike_read None = alike_refused BucketMisprinted
   alike_read (Some b) = alike_heed b
 
   alike_lost : Alike (stepped (starts_over other) (Doze 1) 0 0) (stepped (starts_over s) (Doze 1) 0 0)
