@@ -6,4 +6,3 @@ pub mod Powers
 pub mod Filled
 pub mod Deciding
 pub mod Conditions
-pub mod Telling

@@ -10,3 +10,5 @@ pub mod ChangeAnswers
 pub mod MovedLines
 pub mod ComingAndGoing
 pub mod Skips
+pub mod Arriving
+pub mod Departing

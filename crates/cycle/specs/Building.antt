@@ -1,15 +1,16 @@
 -- Document 01, "Refused inputs": building, with the conditions 1 to 7 in that order.
 -- Assumes nothing.
 use Rattle.std.specs.Prelude.{ℕ, ◌-◌, min, max, Bool, ◌&&◌, not, List, [], ◌∷◌, leb, ltb, eqb, length}
-use Rattle.std.specs.Prelude.{Option, None, Some}
+use Rattle.std.specs.Prelude.{Option, None, Some, Result, Ok, Err}
 use Rattle.columns.specs.Lists.{pick}
 use Rattle.buckets.specs.Lengths.{buckets_most}
 use Rattle.buckets.specs.ListLine.{cut_lines, list_lines, whole_lines, misprint_from, fall_from}
-use Rattle.cycle.specs.Refusals.{Refusal, Condition, row, row_at, first_refusal}
-use Rattle.cycle.specs.Tree.{Settings, Plan, plan}
+use Rattle.cycle.specs.Refusals.{Condition, row, row_at, first_refusal, numbers_of}
+use Rattle.cycle.specs.Tree.{Plan, plan}
 use Rattle.cycle.specs.Cycle.{cycle_size, image_length, image}
-use Rattle.cycle.specs.declared.Built.{Built}
-use Rattle.cycle.specs.declared.Built.TheVariants.{Cycle, Refused}
+use Rattle.cycle.specs.declared.Settings.{Settings}
+use Rattle.cycle.specs.declared.Reason.TheVariants.{SettingsOut, LengthOut, LineMisprinted, TagFalls, CopiesOut, CycleTooLong, BufferTooShort}
+use Rattle.cycle.specs.declared.Refusal.{Refusal}
 
 -- ---- the conditions
 
@@ -25,31 +26,31 @@ copies_fit t =
 
 -- 1: "n, p or layout outside its range"
 abbrev pub settings_out : Settings → Condition
-settings_out s = row 1 (not (settings_fit s))
+settings_out s = row SettingsOut (not (settings_fit s))
 
 -- 2: "list length no multiple of 27, or over 40,000 lines"
 abbrev pub list_length_out : List ℕ → Condition
-list_length_out list = row 2 (not (whole_lines (length list)))
+list_length_out list = row LengthOut (not (whole_lines (length list)))
 
 -- 3: "line misprinted; place: first such line"
 abbrev pub line_misprinted : List ℕ → Condition
-line_misprinted list = row_at 3 (misprint_from 0 (cut_lines list))
+line_misprinted list = row_at LineMisprinted (misprint_from 0 (cut_lines list))
 
 -- 4: "tag falls; place: first such line"
 abbrev pub tag_falls : List ℕ → Condition
-tag_falls list = row_at 4 (fall_from 0 0 (list_lines list))
+tag_falls list = row_at TagFalls (fall_from 0 0 (list_lines list))
 
 -- 5: "copies outside its range"
 abbrev pub copies_out : Plan → Condition
-copies_out t = row 5 (not (copies_fit t))
+copies_out t = row CopiesOut (not (copies_fit t))
 
 -- 6: "over 99,999 buckets"
 abbrev pub cycle_too_long : Plan → Condition
-cycle_too_long t = row 6 (ltb buckets_most (cycle_size t))
+cycle_too_long t = row CycleTooLong (ltb buckets_most (cycle_size t))
 
 -- 7: "output buffer too short", which has room for `room` bytes where `needed` are to be written
 abbrev pub buffer_too_short : ℕ → ℕ → Condition
-buffer_too_short room needed = row 7 (ltb room needed)
+buffer_too_short room needed = row BufferTooShort (ltb room needed)
 
 -- "Building tests 1 to 7 in that order, each over the whole list."
 unfoldable pub conditions : Settings → List ℕ → ℕ → List Condition
@@ -67,18 +68,17 @@ conditions s list room =
 
 -- what building answers, and the bytes that it writes at the front of the lent buffer
 pub record Outcome : Type 0 where
-  pub answer : Built
+  pub answer : Result ℕ Refusal
   pub output : List ℕ
 
 -- the numbers that an answer stands for: refusal number (0: none) and place, and N; a refusal has no count
-abbrev pub numbers : Built → List ℕ
-numbers (Cycle n) = 0 ∷ 0 ∷ n ∷ []
-numbers (Refused number place) = number ∷ place ∷ []
+abbrev pub numbers : Result ℕ Refusal → List ℕ
+numbers = numbers_of (λ n. n ∷ [])
 
 -- a refusal writes nothing; "Building returns N"
 abbrev pub outcome : Option Refusal → Plan → Outcome
-outcome (Some r) t = record { answer = Refused r.number r.place; output = [] }
-outcome None t = record { answer = Cycle (cycle_size t); output = image t }
+outcome (Some r) t = record { answer = Err r; output = [] }
+outcome None t = record { answer = Ok (cycle_size t); output = image t }
 
 -- building from a list's bytes
 unfoldable pub build : Settings → List ℕ → ℕ → Outcome

@@ -2,20 +2,21 @@
 -- the changed list's cycle is built in another.
 -- Assumes nothing.
 use Rattle.std.specs.Prelude.{◌≡◌, ℕ, suc, ◌*◌, Bool, ◌&&◌, ◌||◌, not, List, [], ◌∷◌, ◌++◌, leb, ltb, eqb, length, take}
-use Rattle.std.specs.Prelude.{Option, None, Some}
+use Rattle.std.specs.Prelude.{Option, None, Some, Result, Ok, Err}
 use Rattle.columns.specs.Lists.{pick, joined, any, onto}
 use Rattle.columns.specs.PrintedNumbers.{blanks}
 use Rattle.buckets.specs.declared.Line.{Line}
 use Rattle.buckets.specs.Lengths.{line_length, lines_most}
 use Rattle.buckets.specs.ListLine.{spelled, taken, read_line, cut_lines, list_lines, few_lines}
-use Rattle.cycle.specs.Refusals.{Refusal, Condition, row, row_at, first_refusal}
-use Rattle.cycle.specs.Tree.{Settings, Plan, plan}
+use Rattle.cycle.specs.Refusals.{Condition, row, row_at, first_refusal, numbers_of}
+use Rattle.cycle.specs.Tree.{Plan, plan}
 use Rattle.cycle.specs.Cycle.{cycle_size}
 use Rattle.cycle.specs.Building.{settings_out, line_misprinted, tag_falls, build}
 use Rattle.cycle.specs.Judging.{plan_conditions}
 use Rattle.cycle.specs.declared.Counts.{Counts}
-use Rattle.cycle.specs.declared.Changed.{Changed}
-use Rattle.cycle.specs.declared.Changed.TheVariants.{Cycle, Refused}
+use Rattle.cycle.specs.declared.Settings.{Settings}
+use Rattle.cycle.specs.declared.Reason.TheVariants.{LengthOut, LineMisprinted, NotInList, NoPlace}
+use Rattle.cycle.specs.declared.Refusal.{Refusal}
 
 -- ---- a list's lines, changed
 
@@ -53,23 +54,23 @@ places_for buffer lines = leb (line_length * lines) (length buffer)
 
 -- 2: "over 40,000 lines"; "a number that the buffer cannot hold is 2"
 abbrev pub number_out : List ℕ → ℕ → Condition
-number_out buffer lines = row 2 (not (few_lines lines && places_for buffer lines))
+number_out buffer lines = row LengthOut (not (few_lines lines && places_for buffer lines))
 
 -- "and so is a given line not 27 bytes long"
 abbrev pub given_length_out : List ℕ → Condition
-given_length_out given = row 2 (not (eqb (length given) line_length))
+given_length_out given = row LengthOut (not (eqb (length given) line_length))
 
 -- "A misprint in the given line is 3 with the number of lines in the list as its place, after the list's own lines."
 abbrev pub given_misprinted : ℕ → List ℕ → Condition
-given_misprinted lines given = row_at 3 (pick (taken (read_line given)) None (Some lines))
+given_misprinted lines given = row_at LineMisprinted (pick (taken (read_line given)) None (Some lines))
 
 -- 15: "the line to take out is not in the list"
 unfoldable pub not_in_list : List ℕ → List ℕ → Condition
-not_in_list given list = row 15 (not (any (equals given) (cut_lines list)))
+not_in_list given list = row NotInList (not (any (equals given) (cut_lines list)))
 
 -- 16: "the list has 40,000 lines or its buffer no place for one more"
 unfoldable pub no_place : List ℕ → ℕ → Condition
-no_place buffer lines = row 16 (eqb lines lines_most || not (places_for buffer (suc lines)))
+no_place buffer lines = row NoPlace (eqb lines lines_most || not (places_for buffer (suc lines)))
 
 -- 3 and 4, of a list of so many lines and a given line
 unfoldable pub line_conditions : List ℕ → ℕ → List ℕ → List Condition
@@ -115,7 +116,7 @@ conditions s buffer lines given c room =
 
 -- what a call answers, and the bytes that it writes at the front of the list's buffer and of the cycle's
 pub record Outcome : Type 0 where
-  pub answer : Changed
+  pub answer : Result Counts Refusal
   pub list : List ℕ
   pub cycle : List ℕ
 
@@ -124,25 +125,24 @@ unfoldable pub counts : Plan → Counts
 counts t = record { lines = length t.lines; d = t.d; k = t.k; n = cycle_size t }
 
 -- the numbers that an answer stands for: refusal number (0: none) and place, and the counts; a refusal has none
-abbrev pub numbers : Changed → List ℕ
-numbers (Cycle c) = 0 ∷ 0 ∷ c.lines ∷ c.d ∷ c.k ∷ c.n ∷ []
-numbers (Refused number place) = number ∷ place ∷ []
+abbrev pub numbers : Result Counts Refusal → List ℕ
+numbers = numbers_of (λ c. c.lines ∷ c.d ∷ c.k ∷ c.n ∷ [])
 
 -- a refusal comes "before anything is changed"; else the image is what building the changed list gives
 abbrev pub outcome : Option Refusal → Settings → Change → ℕ → Outcome
-outcome (Some r) s c room = record { answer = Refused r.number r.place; list = []; cycle = [] }
+outcome (Some r) s c room = record { answer = Err r; list = []; cycle = [] }
 outcome None s c room =
     record {
-      answer = Cycle (counts (plan s (list_lines c.list)));
+      answer = Ok (counts (plan s (list_lines c.list)));
       list = c.list ++ c.behind;
       cycle = (build s c.list room).output;
     }
 
--- An answer, and the list's buffer and the cycle's, each before the call and after it, meet an outcome: the answer has its
--- numbers, a buffer begins with its bytes, and behind them every byte stays. Of a refusal these are no bytes, so all stay.
-abbrev pub Meets : Outcome → Changed → List ℕ → List ℕ → List ℕ → List ℕ → Type 0
+-- An answer, and the list's buffer and the cycle's, each before the call and after it, meet an outcome: the answer is its
+-- own, a buffer begins with its bytes, and behind them every byte stays. Of a refusal these are no bytes, so all stay.
+abbrev pub Meets : Outcome → Result Counts Refusal → List ℕ → List ℕ → List ℕ → List ℕ → Type 0
 Meets o r list list_after cycle cycle_after =
-    (numbers r ≡ numbers o.answer) × (list_after ≡ onto o.list list) × (cycle_after ≡ onto o.cycle cycle)
+    (r ≡ o.answer) × (list_after ≡ onto o.list list) × (cycle_after ≡ onto o.cycle cycle)
 
 -- a change of the list that lies in `buffer`, `lines` lines long, by the given line, its cycle's buffer having room for `room`
 -- bytes

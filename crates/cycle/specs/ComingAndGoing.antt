@@ -2,30 +2,28 @@
 -- and lent buffers.
 -- Assumes nothing.
 use Rattle.std.specs.Prelude.{◌≡◌, ℕ, suc, ◌*◌, true, false, List, [], ◌∷◌, ◌++◌, leb, ltb, eqb, drop}
-use Rattle.std.specs.Prelude.{None}
+use Rattle.std.specs.Prelude.{None, Ok, Err}
 use Rattle.columns.specs.Lists.{every, any, onto}
 use Rattle.columns.specs.PrintedNumbers.{blanks}
 use Rattle.buckets.specs.declared.Line.{Line}
 use Rattle.buckets.specs.Lengths.{line_length}
 use Rattle.buckets.specs.ListLine.{spelled, cut_lines, list_lines}
-use Rattle.cycle.specs.Refusals.{first_refusal}
-use Rattle.cycle.specs.Tree.{Settings}
+use Rattle.cycle.specs.Refusals.{refusal, first_refusal}
 use Rattle.cycle.specs.Building as building
 use Rattle.cycle.specs.Building.{build}
 use Rattle.cycle.specs.Judging.{judge}
 use Rattle.cycle.specs.Changes.{same_numbers, equals, list_in, given_conditions, Change, arrival, departure, conditions, Outcome, change, arrive, take_out}
 use Rattle.cycle.specs.declared.Figures.{Figures}
 use Rattle.cycle.specs.declared.Counts.{Counts}
-use Rattle.cycle.specs.declared.Built.TheVariants as Built
-use Rattle.cycle.specs.declared.Judged.TheVariants as Judged
-use Rattle.cycle.specs.declared.Changed.TheVariants.{Cycle, Refused}
+use Rattle.cycle.specs.declared.Settings.{Settings}
+use Rattle.cycle.specs.declared.Reason.TheVariants.{NoPlace}
 
 -- ---- "D, k, N and the image .. equal what building the changed list afresh gives"
 
 -- judging the list for building gives these counts
 pub record JudgedAs (s : Settings) (list : List ℕ) (room : ℕ) (x : Counts) : Type 0 where
   pub figures : Figures
-  pub judged : judge s list room ≡ Judged.Cycle figures
+  pub judged : judge s list room ≡ Ok figures
   pub lines_are : figures.lines ≡ x.lines
   pub d_is : figures.d ≡ x.d
   pub k_is : figures.k ≡ x.k
@@ -34,7 +32,7 @@ pub record JudgedAs (s : Settings) (list : List ℕ) (room : ℕ) (x : Counts) :
 -- a change with these counts
 pub record Kept (s : Settings) (buffer : List ℕ) (c : Change) (room : ℕ) (o : Outcome) (x : Counts) : Type 0 where
   -- N, D and k are those of building the changed list
-  pub built : (build s c.list room).answer ≡ Built.Cycle x.n
+  pub built : (build s c.list room).answer ≡ Ok x.n
   pub judged_as : JudgedAs s c.list room x
   -- and so is the image
   pub image : o.cycle ≡ (build s c.list room).output
@@ -48,7 +46,7 @@ pub record UpToDate (s : Settings) (buffer : List ℕ) (lines : ℕ) (given : Li
       first_refusal (conditions s buffer lines given c room) ≡ first_refusal (building.conditions s c.list room)
   -- and where it is not refused, all is kept up to date
   pub kept :
-      (x : Counts) → (change s buffer lines given c room).answer ≡ Cycle x →
+      (x : Counts) → (change s buffer lines given c room).answer ≡ Ok x →
       Kept s buffer c room (change s buffer lines given c room) x
 
 -- ---- where a line goes, and which one
@@ -92,13 +90,13 @@ pub record ComingAndGoing : Type 0 where
   -- "A new line goes, bytes as given, behind all lines of its tag"
   pub goes_behind :
       (s : Settings) (buffer : List ℕ) (lines : ℕ) (given : List ℕ) (room : ℕ) (x : Counts) →
-      (arrive s buffer lines given room).answer ≡ Cycle x →
+      (arrive s buffer lines given room).answer ≡ Ok x →
       PutBehind given (cut_lines (list_in buffer lines)) (cut_lines (list_in (onto (arrive s buffer lines given room).list buffer) x.lines))
       × (x.lines ≡ suc lines)
   -- "a line taken out is the first whose four numbers equal those of the one given"
   pub first_goes :
       (s : Settings) (buffer : List ℕ) (lines : ℕ) (given : List ℕ) (room : ℕ) (x : Counts) →
-      (take_out s buffer lines given room).answer ≡ Cycle x →
+      (take_out s buffer lines given room).answer ≡ Ok x →
       FirstGone given (cut_lines (list_in buffer lines)) (cut_lines (list_in (onto (take_out s buffer lines given room).list buffer) x.lines))
       × (suc x.lines ≡ lines)
   -- a line that arrives and is taken out, none equal to it having been there, leaves the former list's bytes with 27 blanks
@@ -106,8 +104,8 @@ pub record ComingAndGoing : Type 0 where
   pub come_and_go :
       (s t : Settings) (buffer : List ℕ) (lines : ℕ) (given : List ℕ) (room other : ℕ) (x y : Counts) →
       let there : List ℕ = onto (arrive s buffer lines given room).list buffer in
-      (arrive s buffer lines given room).answer ≡ Cycle x →
-      (take_out t there x.lines given other).answer ≡ Cycle y →
+      (arrive s buffer lines given room).answer ≡ Ok x →
+      (take_out t there x.lines given other).answer ≡ Ok y →
       any (equals given) (cut_lines (list_in buffer lines)) ≡ false →
       (onto (take_out t there x.lines given other).list there ≡ onto (list_in buffer lines ++ blanks line_length) buffer)
       × (y.lines ≡ lines)
@@ -115,8 +113,8 @@ pub record ComingAndGoing : Type 0 where
   pub go_and_come :
       (s t : Settings) (buffer : List ℕ) (lines : ℕ) (given : List ℕ) (room other : ℕ) (x y : Counts) →
       let there : List ℕ = onto (take_out s buffer lines given room).list buffer in
-      (take_out s buffer lines given room).answer ≡ Cycle x →
-      (arrive t there x.lines given other).answer ≡ Cycle y →
+      (take_out s buffer lines given room).answer ≡ Ok x →
+      (arrive t there x.lines given other).answer ≡ Ok y →
       MovedBehind (spelled given) (list_lines (list_in buffer lines))
       (list_lines (list_in (onto (arrive t there x.lines given other).list there) y.lines))
       × (y.lines ≡ lines)
@@ -124,6 +122,6 @@ pub record ComingAndGoing : Type 0 where
   pub freed_place_serves :
       (s t : Settings) (buffer : List ℕ) (lines : ℕ) (given next : List ℕ) (room other : ℕ) (x : Counts) →
       let there : List ℕ = onto (take_out s buffer lines given room).list buffer in
-      (take_out s buffer lines given room).answer ≡ Cycle x →
-      ((place : ℕ) → (arrive t there x.lines next other).answer ≡ Refused 16 place → ⊥) ×
+      (take_out s buffer lines given room).answer ≡ Ok x →
+      ((place : ℕ) → (arrive t there x.lines next other).answer ≡ Err (refusal NoPlace place) → ⊥) ×
       (drop (line_length * lines) (onto (arrive t there x.lines next other).list there) ≡ drop (line_length * lines) buffer)

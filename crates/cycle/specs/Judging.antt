@@ -2,17 +2,17 @@
 -- Nothing is written.
 -- Assumes nothing.
 use Rattle.std.specs.Prelude.{ℕ, zero, suc, ◌+◌, ◌-◌, ◌*◌, ◌^◌, max, List, [], ◌∷◌, eqb, length}
-use Rattle.std.specs.Prelude.{Option, None, Some}
+use Rattle.std.specs.Prelude.{Result}
 use Rattle.columns.specs.Lists.{pick, up}
 use Rattle.buckets.specs.ListLine.{list_lines}
-use Rattle.cycle.specs.Refusals.{Refusal, Condition, first_refusal}
-use Rattle.cycle.specs.Tree.{Settings, Plan, plan}
+use Rattle.cycle.specs.Refusals.{Condition, first_refusal, outcome, numbers_of}
+use Rattle.cycle.specs.Tree.{Plan, plan}
 use Rattle.cycle.specs.Layouts.{Slot, subtree}
 use Rattle.cycle.specs.Cycle.{cycle_size, image_length}
 use Rattle.cycle.specs.Building.{copies_out, cycle_too_long, buffer_too_short, conditions}
 use Rattle.cycle.specs.declared.Figures.{Figures}
-use Rattle.cycle.specs.declared.Judged.{Judged}
-use Rattle.cycle.specs.declared.Judged.TheVariants.{Cycle, Refused}
+use Rattle.cycle.specs.declared.Settings.{Settings}
+use Rattle.cycle.specs.declared.Refusal.{Refusal}
 
 -- ---- the sizes of a segment's tree
 
@@ -57,19 +57,14 @@ figures_of t =
     }
 
 -- the numbers that an answer stands for: refusal number (0: none) and place, and the figures; a refusal has none
-abbrev pub numbers : Judged → List ℕ
-numbers (Cycle f) =
-    0 ∷ 0 ∷ f.n ∷ f.p ∷ f.layout ∷ f.copies ∷ f.lines ∷ f.d ∷ f.k ∷ f.size ∷ f.span ∷ f.full ∷ f.last ∷ []
-numbers (Refused number place) = number ∷ place ∷ []
-
--- a refusal, else the figures
-abbrev pub judged : Option Refusal → Figures → Judged
-judged (Some r) f = Refused r.number r.place
-judged None f = Cycle f
+abbrev pub numbers : Result Figures Refusal → List ℕ
+numbers =
+    numbers_of
+    (λ f. f.n ∷ f.p ∷ f.layout ∷ f.copies ∷ f.lines ∷ f.d ∷ f.k ∷ f.size ∷ f.span ∷ f.full ∷ f.last ∷ [])
 
 -- a list and settings judged, for a buffer with room for `room` bytes
-unfoldable pub judge : Settings → List ℕ → ℕ → Judged
-judge s list room = judged (first_refusal (conditions s list room)) (figures_of (plan s (list_lines list)))
+unfoldable pub judge : Settings → List ℕ → ℕ → Result Figures Refusal
+judge s list room = outcome (first_refusal (conditions s list room)) (figures_of (plan s (list_lines list)))
 
 -- ---- those of the conditions that look at no line
 

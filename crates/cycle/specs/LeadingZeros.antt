@@ -6,7 +6,7 @@ use Rattle.std.specs.Prelude.{None}
 use Rattle.columns.specs.Lists.{joined}
 use Rattle.buckets.specs.Lengths.{line_length}
 use Rattle.buckets.specs.ListLine.{print_line, list_lines, blanked_list}
-use Rattle.cycle.specs.Tree.{Settings}
+use Rattle.cycle.specs.declared.Settings.{Settings}
 use Rattle.cycle.specs.Building.{build, line_misprinted}
 use Rattle.cycle.specs.ReadingBack.{handed, read_back, Builds}
 

@@ -2,23 +2,24 @@
 -- agree with what building a list of that many lines gives.
 -- Assumes nothing.
 use Rattle.std.specs.Prelude.{◌≡◌, ℕ, ◌+◌, ◌*◌, ◌≤◌, ◌<◌, min, max, not, List, [], ◌∷◌, length}
-use Rattle.std.specs.Prelude.{Option, None, Some}
+use Rattle.std.specs.Prelude.{None, Result, Ok}
 use Rattle.buckets.specs.Lengths.{line_length}
 use Rattle.buckets.specs.ListLine.{list_lines, few_lines}
-use Rattle.cycle.specs.Refusals.{Refusal, Condition, row, first_refusal}
-use Rattle.cycle.specs.Tree.{Settings, Plan, plan_for, plan}
+use Rattle.cycle.specs.Refusals.{Condition, row, first_refusal, outcome, numbers_of}
+use Rattle.cycle.specs.Tree.{Plan, plan_for, plan}
 use Rattle.cycle.specs.Cycle.{cycle_size, image_length}
 use Rattle.cycle.specs.Building as building
 use Rattle.cycle.specs.Building.{settings_out, line_misprinted, tag_falls, copies_out, cycle_too_long, build}
 use Rattle.cycle.specs.declared.Dimensions.{Dimensions}
-use Rattle.cycle.specs.declared.Sized.{Sized}
-use Rattle.cycle.specs.declared.Sized.TheVariants.{Cycle, Refused}
+use Rattle.cycle.specs.declared.Settings.{Settings}
+use Rattle.cycle.specs.declared.Reason.TheVariants.{LengthOut}
+use Rattle.cycle.specs.declared.Refusal.{Refusal}
 
 -- ---- the conditions
 
 -- "with 2 for the line count alone": "over 40,000 lines"
 abbrev pub too_many_lines : ℕ → Condition
-too_many_lines c = row 2 (not (few_lines c))
+too_many_lines c = row LengthOut (not (few_lines c))
 
 -- "1, 2, 5 and 6 are given as there", in building's order
 unfoldable pub conditions : Settings → ℕ → List Condition
@@ -39,16 +40,11 @@ dimensions t c =
     record { k = t.k; d = t.d; n = cycle_size t; bytes = image_length t; heard = heard_most t.k (min c t.d) }
 
 -- the numbers that an answer stands for: refusal number (0: none) and place, and the figures; a refusal has none
-abbrev pub numbers : Sized → List ℕ
-numbers (Cycle f) = 0 ∷ 0 ∷ f.k ∷ f.d ∷ f.n ∷ f.bytes ∷ f.heard ∷ []
-numbers (Refused number place) = number ∷ place ∷ []
-
-abbrev pub outcome : Option Refusal → Dimensions → Sized
-outcome (Some r) f = Refused r.number r.place
-outcome None f = Cycle f
+abbrev pub numbers : Result Dimensions Refusal → List ℕ
+numbers = numbers_of (λ f. f.k ∷ f.d ∷ f.n ∷ f.bytes ∷ f.heard ∷ [])
 
 -- "From a number of lines, the settings and a number C": lines is the one, c the other
-unfoldable pub size : Settings → ℕ → ℕ → Sized
+unfoldable pub size : Settings → ℕ → ℕ → Result Dimensions Refusal
 size s lines c = outcome (first_refusal (conditions s lines)) (dimensions (plan_for s lines []) c)
 
 -- ---- "The figures agree with what building a list of that many lines gives, and 1, 2, 5 and 6 are given as there"
@@ -71,12 +67,12 @@ pub record Agrees (s : Settings) (lines c : ℕ) (list : List ℕ) (room : ℕ) 
       (number place : ℕ) → built s list room ≡ number ∷ place ∷ [] → (number ≡ 7 → ⊥) →
       numbers (size s lines c) ≡ number ∷ place ∷ []
   -- 7 exactly where the image's bytes do not fit
-  pub too_short : (f : Dimensions) → size s lines c ≡ Cycle f → room < f.bytes → built s list room ≡ 7 ∷ 0 ∷ []
+  pub too_short : (f : Dimensions) → size s lines c ≡ Ok f → room < f.bytes → built s list room ≡ 7 ∷ 0 ∷ []
   -- "The figures agree": N, the image's bytes, k and D
-  pub built_size : (f : Dimensions) → size s lines c ≡ Cycle f → f.bytes ≤ room → built s list room ≡ 0 ∷ 0 ∷ f.n ∷ []
-  pub built_bytes : (f : Dimensions) → size s lines c ≡ Cycle f → f.bytes ≤ room → length (build s list room).output ≡ f.bytes
-  pub levels_agree : (f : Dimensions) → size s lines c ≡ Cycle f → (plan s (list_lines list)).k ≡ f.k
-  pub data_agree : (f : Dimensions) → size s lines c ≡ Cycle f → (plan s (list_lines list)).d ≡ f.d
+  pub built_size : (f : Dimensions) → size s lines c ≡ Ok f → f.bytes ≤ room → built s list room ≡ 0 ∷ 0 ∷ f.n ∷ []
+  pub built_bytes : (f : Dimensions) → size s lines c ≡ Ok f → f.bytes ≤ room → length (build s list room).output ≡ f.bytes
+  pub levels_agree : (f : Dimensions) → size s lines c ≡ Ok f → (plan s (list_lines list)).k ≡ f.k
+  pub data_agree : (f : Dimensions) → size s lines c ≡ Ok f → (plan s (list_lines list)).d ≡ f.d
 
 -- whatever the settings, the number of lines and C, for every such list and every buffer
 abbrev pub EverySize : Type 0

@@ -5,7 +5,8 @@ use Rattle.columns.specs.Lists.{joined}
 use Rattle.columns.specs.PrintedNumbers.{blanks}
 use Rattle.buckets.specs.Lengths.{line_length, bucket_length}
 use Rattle.buckets.specs.ListLine.{print_line, list_lines}
-use Rattle.cycle.specs.Tree.{Settings, settings}
+use Rattle.cycle.specs.Tree.{settings}
+use Rattle.cycle.specs.declared.Settings.{Settings}
 use Rattle.cycle.specs.Changes.{Outcome, numbers, arrive, take_out}
 
 -- a line of this tag and weighing number, tare and material code 0

@@ -3,14 +3,9 @@
 use Rattle.std.specs.Prelude.{ℕ, zero, suc, ◌+◌, ◌-◌, ◌*◌, ◌/◌, ◌^◌, min, List, [], ◌∷◌, map, leb, length, take, drop, get_or}
 use Rattle.columns.specs.Lists.{joined, last_or, range, least, up}
 use Rattle.buckets.specs.declared.Line.{Line}
+use Rattle.cycle.specs.declared.Settings.{Settings}
 
 -- "Settings: n entries for an index bucket (2 to 8), p lines for a data bucket (1 to 8), layout 1 or 2, and copies."
-pub record Settings : Type 0 where
-  pub n : ℕ
-  pub p : ℕ
-  pub layout : ℕ
-  pub copies : ℕ
-
 abbrev pub settings : ℕ → ℕ → ℕ → ℕ → Settings
 settings n p layout copies = record { n = n; p = p; layout = layout; copies = copies }
 

@@ -2,18 +2,19 @@
 -- places of its buckets. No hearing is run to tell it; that hearings take as long is stated in `Mean` of `listener`.
 -- Assumes nothing.
 use Rattle.std.specs.Prelude.{ℕ, ◌+◌, ◌-◌, ◌*◌, ◌/◌, Bool, List, [], ◌∷◌, eqb, length, get_or}
-use Rattle.std.specs.Prelude.{Option, None, Some}
+use Rattle.std.specs.Prelude.{Result}
 use Rattle.columns.specs.Lists.{pick, any, only, last_or, range, least}
 use Rattle.buckets.specs.declared.Line.{Line}
 use Rattle.buckets.specs.ListLine.{list_lines}
-use Rattle.cycle.specs.Refusals.{Refusal, Condition, row, first_refusal}
-use Rattle.cycle.specs.Tree.{Settings, Plan, plan, lines_of}
+use Rattle.cycle.specs.Refusals.{Condition, row, first_refusal, outcome, numbers_of}
+use Rattle.cycle.specs.Tree.{Plan, plan, lines_of}
 use Rattle.cycle.specs.Layouts.{slot, slots}
 use Rattle.cycle.specs.Cycle.{first_place, cycle_size}
 use Rattle.cycle.specs.Building.{settings_out, list_length_out, line_misprinted, tag_falls, copies_out, cycle_too_long}
 use Rattle.cycle.specs.declared.WaitSum.{WaitSum}
-use Rattle.cycle.specs.declared.Waited.{Waited}
-use Rattle.cycle.specs.declared.Waited.TheVariants.{Sum, Refused}
+use Rattle.cycle.specs.declared.Settings.{Settings}
+use Rattle.cycle.specs.declared.Reason.TheVariants.{NoLine}
+use Rattle.cycle.specs.declared.Refusal.{Refusal}
 
 -- ---- the tags
 
@@ -35,7 +36,7 @@ total f (x ∷ xs) = f x + total f xs
 
 -- 17: "the list has no line"
 abbrev pub no_line : List ℕ → Condition
-no_line list = row 17 (eqb (length (list_lines list)) 0)
+no_line list = row NoLine (eqb (length (list_lines list)) 0)
 
 -- as in building, without a buffer; 17 "comes after 6"
 unfoldable pub conditions : Settings → List ℕ → List Condition
@@ -89,13 +90,8 @@ wait_sum t =
     }
 
 -- the numbers that an answer stands for: refusal number (0: none) and place, and the three; a refusal has none
-abbrev pub numbers : Waited → List ℕ
-numbers (Sum w) = 0 ∷ 0 ∷ w.n ∷ w.tags ∷ w.sum ∷ []
-numbers (Refused number place) = number ∷ place ∷ []
+abbrev pub numbers : Result WaitSum Refusal → List ℕ
+numbers = numbers_of (λ w. w.n ∷ w.tags ∷ w.sum ∷ [])
 
-abbrev pub outcome : Option Refusal → WaitSum → Waited
-outcome (Some r) w = Refused r.number r.place
-outcome None w = Sum w
-
-unfoldable pub waits : Settings → List ℕ → Waited
+unfoldable pub waits : Settings → List ℕ → Result WaitSum Refusal
 waits s list = outcome (first_refusal (conditions s list)) (wait_sum (plan s (list_lines list)))

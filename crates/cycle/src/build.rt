@@ -4,7 +4,7 @@ ghost use Rattle.columns.specs.Lists.{onto};
 ghost use Rattle.buckets.specs.Lengths.{tag_width, bucket_length};
 ghost use Rattle.buckets.specs.Bucket.{follow_on};
 ghost use Rattle.buckets.specs.Inner.Columns.{PlainList};
-ghost use Rattle.cycle.specs.Tree.{settings, children};
+ghost use Rattle.cycle.specs.Tree.{children};
 ghost use Rattle.cycle.specs.Building;
 ghost use Rattle.cycle.specs.Layouts.{slot};
 ghost use Rattle.cycle.specs.Inner.Comparing.{Decides, SameDigits};
@@ -17,7 +17,7 @@ use super::index::{child_count, head_at, print_path_bucket, print_tree_bucket};
 use super::measures::lesser;
 use super::places::data_place;
 use super::segments::{segment_count, segment_of};
-use super::{BUCKET, Built, Figures, Judged, LINE, Segment, Source};
+use super::{BUCKET, Figures, LINE, Refusal, Segment, Settings, Source};
 use buckets::writer::write_data;
 use buckets::{Bucket, Line};
 
@@ -200,21 +200,12 @@ pub(crate) fn write_cycle(image: &mut [u8], list: &[u8], plain: bool, f: Figures
 }
 
 // Builds the cycle of a list into the front of a lent buffer: N, or a refusal, on which no byte is written.
-pub fn build(list: &[u8], n: u64, p: u64, layout: u64, copies: u64, out: &mut [u8]) -> Built
-    ensures { (Building.numbers result ≡
-        Building.numbers (Building.build (settings n p layout copies) list.now (length out.old)).answer) ×
-        (out.new ≡
-        onto (Building.build (settings n p layout copies) list.now (length out.old)).output
-        out.old) }
+pub fn build(list: &[u8], settings: Settings, out: &mut [u8]) -> Result<u64, Refusal>
+    ensures { (result ≡ (Building.build settings list.now (length out.old)).answer) ×
+        (out.new ≡ onto (Building.build settings list.now (length out.old)).output out.old) }
 {
-    let room = out.len() as u64;
-    let told = judge_list(list, n, p, layout, copies, room);
-    let judged = told.judged;
-    match judged {
-        Judged::Refused(number, place) => Built::Refused(number, place),
-        Judged::Cycle(f) => {
-            write_cycle(out, list, told.plain, f);
-            Built::Cycle(f.size)
-        }
-    }
+    let told = judge_list(list, settings, out.len() as u64)?;
+    let f = told.figures;
+    write_cycle(out, list, told.plain, f);
+    Ok(f.size)
 }

@@ -1,85 +1,61 @@
 // The conditions of building, 1 to 7, held against a list and settings; and whether the list is known to have no leading zeros.
-ghost use Rattle.std.specs.Prelude.{◌≡◌, true, false, [], ◌*◌, ◌≤◌, length};
+ghost use Rattle.std.specs.Prelude.{◌≡◌, true, [], ◌∷◌, ◌*◌, ◌≤◌, length, MatchResult};
 ghost use Rattle.std.specs.Prelude.{None};
 ghost use Rattle.buckets.specs.ListLine.{read_line, cut_lines, list_lines, misprint_from, fall_from};
 ghost use Rattle.buckets.specs.Lengths.{line_length, lines_most};
 ghost use Rattle.buckets.specs.Inner.Columns.{read_plain, PlainList};
 ghost use Rattle.buckets.specs.Inner.Held.{tag_or_misprint};
 ghost use Rattle.columns.specs.Lists.{pick};
-ghost use Rattle.cycle.specs.Tree.{settings};
 ghost use Rattle.cycle.specs.Cycle.{cycle_size};
-ghost use Rattle.cycle.specs.Refusals.{first_refusal};
+ghost use Rattle.cycle.specs.Refusals.{first_refusal, outcome};
+ghost use Rattle.cycle.specs.Building.{line_misprinted, tag_falls};
 ghost use Rattle.cycle.specs.Judging;
-ghost use Rattle.cycle.specs.Judging.{judged, plan_conditions};
-ghost use Rattle.cycle.specs.Inner.Held.{plan_of, Shaped, sized, place_or};
-ghost use Rattle.cycle.specs.Inner.ListLines.{LinesTold};
-ghost use Rattle.cycle.specs.declared.Judged.TheVariants.{Refused};
+ghost use Rattle.cycle.specs.Judging.{plan_conditions};
+ghost use Rattle.cycle.specs.Inner.Held.{plan_of, Shaped, sized};
+ghost use Rattle.cycle.specs.Inner.ListLines.{Told};
 
 use super::measures::{figures_of, judge_figures, settings_fit};
-use super::{BUCKET, Figures, Judged, LINE};
+use super::{BUCKET, Figures, LINE, Reason, Refusal, Settings};
 use buckets::Line;
 use buckets::lines::{line_tag, plain_tag, spelled_tag};
 use columns::MISPRINT;
 
-// What judging a list answers, and whether the list is known to have no leading zeros.
+// The figures of a list's cycle, and whether the list is known to have no leading zeros.
 #[derive(Clone, Copy)]
-pub struct ListJudged {
-    pub judged: Judged,
+pub struct ListFigures {
+    pub figures: Figures,
     pub plain: bool,
 }
 
-// What is found of a list's lines: the first misprinted one, the first whose tag falls, or that there is none, and whether they
-// are known to have no leading zeros.
-#[derive(Clone, Copy)]
-pub enum LinesJudged {
-    Misprinted(u64),
-    Falls(u64),
-    Passed(bool),
-}
-
-fn refused(number: u64, place: u64) -> ListJudged
-    ensures { (result.judged ≡ Refused number place) × (result.plain ≡ false) }
-{
-    ListJudged {
-        judged: Judged::Refused(number, place),
-        plain: false,
-    }
-}
-
-// The first misprinted line, or the number of lines if there is none.
-fn first_misprint(list: &[u8], lines: u64) -> u64
+// The first misprinted line.
+pub fn first_misprint(list: &[u8], lines: u64) -> Option<u64>
     requires { (length list.now ≡ line_length * lines) × (lines ≤ lines_most) }
-    ensures { result ≡ place_or lines (misprint_from 0 (cut_lines list.now)) }
+    ensures { result ≡ misprint_from 0 (cut_lines list.now) }
 {
-    let mut i = 0;
-    while i < lines {
+    for i in 0..lines {
         let at = (LINE * i) as usize;
         let to = at + Line::LENGTH;
         if line_tag(&list[at..to]) == MISPRINT {
-            return i;
+            return Some(i);
         }
-        i += 1;
     }
-    lines
+    None
 }
 
-// The first line whose tag falls, or the number of lines if there is none.
-fn first_fall(list: &[u8], lines: u64) -> u64
+// The first line whose tag falls.
+fn first_fall(list: &[u8], lines: u64) -> Option<u64>
     requires { (length list.now ≡ line_length * lines) × (lines ≤ lines_most) }
-    ensures { result ≡ place_or lines (fall_from 0 0 (list_lines list.now)) }
+    ensures { result ≡ fall_from 0 0 (list_lines list.now) }
 {
     let mut last = 0;
-    let mut i = 0;
-    while i < lines {
-        let at = (LINE * i) as usize;
-        let tag = spelled_tag(list, at);
+    for i in 0..lines {
+        let tag = spelled_tag(list, (LINE * i) as usize);
         if tag < last {
-            return i;
+            return Some(i);
         }
         last = tag;
-        i += 1;
     }
-    lines
+    None
 }
 
 // The tag of the list line that part is, or MISPRINT; where `plain` says so, only of a line without leading zeros.
@@ -119,71 +95,62 @@ fn all_rise(list: &[u8], lines: u64, plain: bool) -> bool
 }
 
 // Conditions 5, 6 and 7 of figures and a buffer's room; and the figures with N.
-pub fn judge_room(f: Figures, room: u64) -> Judged
+pub fn judge_room(f: Figures, room: u64) -> Result<Figures, Refusal>
     requires { Shaped f }
-    ensures { result ≡ judged (first_refusal (plan_conditions (plan_of f []) room)) (sized f (cycle_size (plan_of f []))) }
+    ensures { result ≡ outcome (first_refusal (plan_conditions (plan_of f []) room)) (sized f (cycle_size (plan_of f []))) }
 {
-    let judged = judge_figures(f);
-    match judged {
-        Judged::Refused(number, place) => Judged::Refused(number, place),
-        Judged::Cycle(sized) => {
-            if room < BUCKET * sized.size {
-                return Judged::Refused(7, 0);
-            }
-            Judged::Cycle(sized)
-        }
+    let sized = judge_figures(f)?;
+    if room < BUCKET * sized.size {
+        return Err(Refusal::from(Reason::BufferTooShort));
     }
+    Ok(sized)
 }
 
 // A list's lines held against 3 and 4: the first that is refused, or whether they are known to have no leading zeros.
-pub fn judge_lines(list: &[u8], lines: u64) -> LinesJudged
+pub fn judge_lines(list: &[u8], lines: u64) -> Result<bool, Refusal>
     requires { (length list.now ≡ line_length * lines) × (lines ≤ lines_most) }
-    ensures { LinesTold list.now result }
+    ensures { Told (line_misprinted list.now ∷ tag_falls list.now ∷ []) list.now result }
 {
     if all_rise(list, lines, true) {
-        return LinesJudged::Passed(true);
+        return Ok(true);
     }
     if all_rise(list, lines, false) {
-        return LinesJudged::Passed(false);
+        return Ok(false);
     }
-    let misprint = first_misprint(list, lines);
-    if misprint < lines {
-        return LinesJudged::Misprinted(misprint);
+    if let Some(place) = first_misprint(list, lines) {
+        return Err(Refusal {
+            reason: Reason::LineMisprinted,
+            place,
+        });
     }
-    let fall = first_fall(list, lines);
-    if fall < lines {
-        return LinesJudged::Falls(fall);
+    if let Some(place) = first_fall(list, lines) {
+        return Err(Refusal {
+            reason: Reason::TagFalls,
+            place,
+        });
     }
-    LinesJudged::Passed(false)
+    Ok(false)
 }
 
-// Judges a list and settings by the conditions of building, for a buffer with this room: the figures of the cycle, or a refusal;
-// and whether the list is known to have no leading zeros.
-pub fn judge_list(list: &[u8], n: u64, p: u64, layout: u64, copies: u64, room: u64) -> ListJudged
-    ensures { (Judging.numbers result.judged ≡ Judging.numbers (Judging.judge (settings n p layout copies) list.now room)) ×
-        (result.plain ≡ true → PlainList list.now) }
+// Judges a list and settings by the conditions of building, for a buffer with this room: the figures of the cycle, and whether
+// the list is known to have no leading zeros; or a refusal.
+pub fn judge_list(list: &[u8], settings: Settings, room: u64) -> Result<ListFigures, Refusal>
+    ensures { MatchResult result
+        (λ told. (Judging.judge settings list.now room ≡ Ok told.figures) × (told.plain ≡ true → PlainList list.now))
+        (λ refusal. Judging.judge settings list.now room ≡ Err refusal) }
 {
-    if !settings_fit(n, p, layout) {
-        return refused(1, 0);
+    if !settings_fit(settings) {
+        return Err(Refusal::from(Reason::SettingsOut));
     }
     let length = list.len();
     if length % Line::LENGTH != 0 {
-        return refused(2, 0);
+        return Err(Refusal::from(Reason::LengthOut));
     }
     let lines = (length / Line::LENGTH) as u64;
     if Line::LINES_MOST < lines {
-        return refused(2, 0);
+        return Err(Refusal::from(Reason::LengthOut));
     }
-    let told = judge_lines(list, lines);
-    match told {
-        LinesJudged::Misprinted(place) => refused(3, place),
-        LinesJudged::Falls(place) => refused(4, place),
-        LinesJudged::Passed(plain) => {
-            let judged = judge_room(figures_of(n, p, layout, copies, lines), room);
-            ListJudged {
-                judged: judged,
-                plain: plain,
-            }
-        }
-    }
+    let plain = judge_lines(list, lines)?;
+    let figures = judge_room(figures_of(settings, lines), room)?;
+    Ok(ListFigures { figures, plain })
 }

@@ -6,8 +6,8 @@
 //
 //   judge      a list and settings judged, and the figures of their cycle: Judging.judge
 //   conditions conditions 1 to 7, in order, and whether the list is known to have no leading zeros: Building.conditions. Laws:
-//              Building. For each condition its function, its row and its law, as 4, falling tags: first_fall, Building.tag_falls,
-//              refused_4
+//              Building. For each condition its function, its row and its law, as 5, copies: copies_fit, Building.copies_out,
+//              refused_5
 //   measures   data buckets, levels, subtrees, paths and N by arithmetic: Tree.plan, Cycle.cycle_size. Laws: Trees, Sequences
 //   size       a cycle's dimensions from a number of lines, before there is a list: Size.size. Laws: Building
 //   segments   the segments of a cycle and where each stands: Layouts.slots. Laws: Segmenting
@@ -25,6 +25,9 @@
 // Figures, Segment and Source are what these files hand on; specs/Inner says what each stands for.
 #![tactic(auto)]
 
+ghost use Rattle.std.specs.Prelude.{◌≡◌};
+ghost use Rattle.cycle.specs.Refusals.{number, refusal};
+
 pub mod build;
 pub mod changes;
 mod conditions;
@@ -38,17 +41,76 @@ pub mod size;
 pub mod waits;
 
 use buckets::{Bucket, Line};
+use std::error::Error;
+use std::fmt;
 
 // The bytes of a list line and of a bucket, counted as the figures are.
 const LINE: u64 = Line::LENGTH as u64;
 
 const BUCKET: u64 = Bucket::LENGTH as u64;
 
-// What judging answers: the figures of the cycle, or a refusal's number and place.
-#[derive(Clone, Copy)]
-pub enum Judged {
-    Cycle(Figures),
-    Refused(u64, u64),
+// Why a call is refused. The discriminants are the numbers of the table of refusals.
+#[derive(Clone, Copy, Debug, PartialEq, Eq)]
+pub enum Reason {
+    SettingsOut = 1,
+    LengthOut = 2,
+    LineMisprinted = 3,
+    TagFalls = 4,
+    CopiesOut = 5,
+    CycleTooLong = 6,
+    BufferTooShort = 7,
+    BucketMisprinted = 8,
+    NotAwaited = 9,
+    PastNextCycle = 10,
+    ImageLengthOut = 11,
+    TuneInOut = 12,
+    NoListBuilds = 13,
+    ListenerEnded = 14,
+    NotInList = 15,
+    NoPlace = 16,
+    NoLine = 17,
+}
+
+// A refusal: why, and the place where, 0 where none is named.
+#[derive(Clone, Copy, Debug, PartialEq, Eq)]
+pub struct Refusal {
+    pub reason: Reason,
+    pub place: u64,
+}
+
+impl Refusal {
+    // Its number in the table of refusals.
+    pub fn number(self) -> u64
+        ensures { result ≡ number self.reason }
+    {
+        self.reason as u64
+    }
+}
+
+// Without a place.
+impl From<Reason> for Refusal {
+    ghost from_gives = { λ reason r. r ≡ refusal reason 0 };
+
+    fn from(reason: Reason) -> Refusal {
+        Refusal { reason, place: 0 }
+    }
+}
+
+impl fmt::Display for Refusal {
+    fn fmt<W: fmt::Write>(&self, f: &mut fmt::Formatter<W>) -> fmt::Result {
+        write!(f, "refused by {}, place {}", self.number(), self.place)
+    }
+}
+
+impl Error for Refusal {}
+
+// Settings: n entries for an index bucket, p lines for a data bucket, the layout, and copies.
+#[derive(Clone, Copy, Debug, PartialEq, Eq)]
+pub struct Settings {
+    pub n: u64,
+    pub p: u64,
+    pub layout: u64,
+    pub copies: u64,
 }
 
 // The dimensions of a cycle: index levels, data buckets, N, the bytes of its image, and the most buckets that a display hears.
@@ -61,20 +123,6 @@ pub struct Dimensions {
     pub heard: u64,
 }
 
-// What sizing answers: the dimensions of the cycle, or a refusal's number and place.
-#[derive(Clone, Copy)]
-pub enum Sized {
-    Cycle(Dimensions),
-    Refused(u64, u64),
-}
-
-// What building answers: the cycle's number of buckets, or a refusal's number and place.
-#[derive(Clone, Copy)]
-pub enum Built {
-    Cycle(u64),
-    Refused(u64, u64),
-}
-
 // The number of lines of a changed list, its data buckets, index levels and N.
 #[derive(Clone, Copy)]
 pub struct Counts {
@@ -84,33 +132,12 @@ pub struct Counts {
     pub n: u64,
 }
 
-// What a change of a list answers: its counts now, or a refusal's number and place.
-#[derive(Clone, Copy)]
-pub enum Changed {
-    Cycle(Counts),
-    Refused(u64, u64),
-}
-
 // N, the number of different tags of a list, and their waits over all tune-ins, added.
 #[derive(Clone, Copy)]
 pub struct WaitSum {
     pub n: u64,
     pub tags: u64,
     pub sum: u64,
-}
-
-// What adding the waits of a list's tags answers: their sum, or a refusal's number and place.
-#[derive(Clone, Copy)]
-pub enum Waited {
-    Sum(WaitSum),
-    Refused(u64, u64),
-}
-
-// What reading back answers: the list's number of lines, or a refusal's number and place.
-#[derive(Clone, Copy)]
-pub enum ReadBack {
-    Lines(u64),
-    Refused(u64, u64),
 }
 
 // Settings, a list's number of lines, and what follows from them. A height counts levels above the data buckets.

@@ -3,16 +3,16 @@ ghost use Rattle.std.specs.Prelude.{◌≡◌, true, [], ◌+◌, ◌*◌, ◌^�
 ghost use Rattle.columns.specs.Lists;
 ghost use Rattle.columns.specs.Lists.{joined, range};
 ghost use Rattle.buckets.specs.Lengths.{lines_most, entries_most};
-ghost use Rattle.cycle.specs.Tree.{settings, levels_most, levels};
+ghost use Rattle.cycle.specs.Tree.{levels_most, levels};
 ghost use Rattle.cycle.specs.Layouts.{path};
 ghost use Rattle.cycle.specs.Cycle.{cycle_size};
-ghost use Rattle.cycle.specs.Refusals.{first_refusal};
+ghost use Rattle.cycle.specs.Refusals.{first_refusal, outcome};
 ghost use Rattle.cycle.specs.Building.{settings_fit, copies_fit};
-ghost use Rattle.cycle.specs.Judging.{judged, size_conditions, full_size, tree_at, tree_height, last_place};
+ghost use Rattle.cycle.specs.Judging.{size_conditions, full_size, tree_at, tree_height, last_place};
 ghost use Rattle.cycle.specs.Inner.Held.{plan_of, span_most, Shaped, InTree, Trees, sized};
 ghost use Rattle.cycle.specs.Inner.Settings.{SettingsFit, Figured};
 
-use super::{Figures, Judged};
+use super::{Figures, Reason, Refusal, Settings};
 use buckets::Bucket;
 use columns;
 
@@ -71,32 +71,25 @@ pub fn full_size(n: u64, h: usize) -> u64
 }
 
 // Whether n, p and layout are within their ranges.
-pub fn settings_fit(n: u64, p: u64, layout: u64) -> bool
-    ensures { result ≡ settings_fit (settings n p layout 0) }
+#[tactic(auto, unfolding(crate::specs::Building::settings_fit))]
+pub fn settings_fit(settings: Settings) -> bool
+    ensures { result ≡ settings_fit settings }
 {
-    if n < 2 {
-        return false;
-    }
-    if 8 < n {
-        return false;
-    }
-    if p < 1 {
-        return false;
-    }
-    if 8 < p {
-        return false;
-    }
-    if layout < 1 {
-        return false;
-    }
-    layout <= 2
+    let Settings { n, p, layout, .. } = settings;
+    2 <= n && n <= 8 && 1 <= p && p <= 8 && 1 <= layout && layout <= 2
 }
 
 // The figures of settings within their ranges and of a number of lines, N left 0.
-pub fn figures_of(n: u64, p: u64, layout: u64, copies: u64, lines: u64) -> Figures
-    requires { SettingsFit (settings n p layout copies) × (lines ≤ lines_most) }
-    ensures { Figured (settings n p layout copies) result × (result.lines ≡ lines) }
+pub fn figures_of(settings: Settings, lines: u64) -> Figures
+    requires { SettingsFit settings × (lines ≤ lines_most) }
+    ensures { Figured settings result × (result.lines ≡ lines) }
 {
+    let Settings {
+        n,
+        p,
+        layout,
+        copies,
+    } = settings;
     let d = up(lines, p);
     Figures {
         n,
@@ -255,16 +248,16 @@ pub fn with_size(f: Figures) -> Figures
 }
 
 // Conditions 5 and 6 of figures, which look at no list; and the figures with N.
-pub fn judge_figures(f: Figures) -> Judged
+pub fn judge_figures(f: Figures) -> Result<Figures, Refusal>
     requires { Shaped f }
-    ensures { result ≡ judged (first_refusal (size_conditions (plan_of f []))) (sized f (cycle_size (plan_of f []))) }
+    ensures { result ≡ outcome (first_refusal (size_conditions (plan_of f []))) (sized f (cycle_size (plan_of f []))) }
 {
     if !copies_fit(f) {
-        return Judged::Refused(5, 0);
+        return Err(Refusal::from(Reason::CopiesOut));
     }
     let sized = with_size(f);
     if Bucket::BUCKETS_MOST < sized.size {
-        return Judged::Refused(6, 0);
+        return Err(Refusal::from(Reason::CycleTooLong));
     }
-    Judged::Cycle(sized)
+    Ok(sized)
 }

@@ -3,7 +3,6 @@ ghost use Rattle.std.specs.Prelude.{◌≡◌, ◌&&◌, [], eqb, ◌+◌, ◌-�
 ghost use Rattle.columns.specs.Lists.{put, onto};
 ghost use Rattle.buckets.specs.Lengths.{line_length, bucket_length, buckets_most};
 ghost use Rattle.cycle.specs.Tree.{settings, children, last_tag};
-ghost use Rattle.cycle.specs.ReadingBack;
 ghost use Rattle.cycle.specs.ReadingBack.{read_back};
 ghost use Rattle.cycle.specs.Cycle.{first_place};
 ghost use Rattle.cycle.specs.Judging.{tree_at};
@@ -16,7 +15,7 @@ use super::index::{child_count, head_at, print_path_bucket, print_tree_bucket};
 use super::measures::{copies_fit, figures_of, lesser, settings_fit, with_size};
 use super::places::data_place;
 use super::segments::{segment_count, segment_of};
-use super::{BUCKET, Figures, LINE, ReadBack, Segment, Source};
+use super::{BUCKET, Figures, LINE, Reason, Refusal, Segment, Settings, Source};
 use buckets::lines::{copy_lines, spelled_tag};
 use buckets::reader::read_bucket;
 use buckets::{Bucket, Head, Kind, Line};
@@ -361,7 +360,7 @@ fn write_list(out: &mut [u8], image: &[u8], f: Figures)
 }
 
 // Conditions 13 and 7, and then the list.
-fn hand_out(image: &[u8], f: Figures, out: &mut [u8]) -> ReadBack
+fn hand_out(image: &[u8], f: Figures, out: &mut [u8]) -> Result<u64, Refusal>
     requires { Shaped f ×
         (1 ≤ length image.now) ×
         (length image.now % bucket_length ≡ 0) ×
@@ -374,49 +373,46 @@ fn hand_out(image: &[u8], f: Figures, out: &mut [u8]) -> ReadBack
         out.old) }
 {
     if !copies_fit(f) {
-        return ReadBack::Refused(13, 0);
+        return Err(Refusal::from(Reason::NoListBuilds));
     }
     let sized = with_size(f);
     let count = (image.len() / Bucket::LENGTH) as u64;
     if sized.size != count {
-        return ReadBack::Refused(13, 0);
+        return Err(Refusal::from(Reason::NoListBuilds));
     }
     if !is_cycle(image, sized) {
-        return ReadBack::Refused(13, 0);
+        return Err(Refusal::from(Reason::NoListBuilds));
     }
     let room = out.len() as u64;
     if room < LINE * sized.lines {
-        return ReadBack::Refused(7, 0);
+        return Err(Refusal::from(Reason::BufferTooShort));
     }
     write_list(out, image, sized);
-    ReadBack::Lines(sized.lines)
+    Ok(sized.lines)
 }
 
 // Writes the list that an image was built from into the front of a lent buffer: its number of lines, or a refusal, on which no
 // byte is written.
-pub fn read_back(image: &[u8], n: u64, p: u64, layout: u64, copies: u64, out: &mut [u8]) -> ReadBack
-    ensures { (ReadingBack.numbers result ≡
-        ReadingBack.numbers (read_back (settings n p layout copies) image.now (length out.old)).answer) ×
-        (out.new ≡
-        onto (read_back (settings n p layout copies) image.now (length out.old)).output
-        out.old) }
+pub fn read_back(image: &[u8], settings: Settings, out: &mut [u8]) -> Result<u64, Refusal>
+    ensures { (result ≡ (read_back settings image.now (length out.old)).answer) ×
+        (out.new ≡ onto (read_back settings image.now (length out.old)).output out.old) }
 {
-    if !settings_fit(n, p, layout) {
-        return ReadBack::Refused(1, 0);
+    if !settings_fit(settings) {
+        return Err(Refusal::from(Reason::SettingsOut));
     }
     let length = image.len();
     if length == 0 {
-        return ReadBack::Refused(11, 0);
+        return Err(Refusal::from(Reason::ImageLengthOut));
     }
     if length % Bucket::LENGTH != 0 {
-        return ReadBack::Refused(11, 0);
+        return Err(Refusal::from(Reason::ImageLengthOut));
     }
     if BUCKETS_MOST < length / Bucket::LENGTH {
-        return ReadBack::Refused(11, 0);
+        return Err(Refusal::from(Reason::ImageLengthOut));
     }
-    let lines = line_count(image, p);
+    let lines = line_count(image, settings.p);
     if Line::LINES_MOST < lines {
-        return ReadBack::Refused(13, 0);
+        return Err(Refusal::from(Reason::NoListBuilds));
     }
-    hand_out(image, figures_of(n, p, layout, copies, lines), out)
+    hand_out(image, figures_of(settings, lines), out)
 }

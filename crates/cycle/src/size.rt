@@ -1,6 +1,6 @@
 // Sizing: the dimensions of a cycle from a number of lines, before any list exists. Nothing is built.
 ghost use Rattle.std.specs.Prelude.{◌≡◌, [], ◌≤◌};
-ghost use Rattle.cycle.specs.Tree.{settings, levels_most};
+ghost use Rattle.cycle.specs.Tree.{levels_most};
 ghost use Rattle.cycle.specs.Size;
 ghost use Rattle.cycle.specs.Size.{heard_most, dimensions};
 ghost use Rattle.cycle.specs.Cycle.{cycle_size};
@@ -8,7 +8,7 @@ ghost use Rattle.cycle.specs.Inner.Held.{plan_of};
 ghost use Rattle.buckets.specs.Lengths.{lines_most, buckets_most};
 
 use super::measures::{figures_of, judge_figures, lesser, settings_fit};
-use super::{BUCKET, Dimensions, Figures, Judged, Sized};
+use super::{BUCKET, Dimensions, Figures, Reason, Refusal, Settings};
 use buckets::Line;
 
 // The most buckets that a display hears in a tree of k levels, for a tag in c data buckets.
@@ -37,18 +37,15 @@ fn dimensions_of(f: Figures, c: u64) -> Dimensions
 }
 
 // The dimensions of the cycle of so many lines under these settings, for a tag in c data buckets; or a refusal.
-pub fn size(lines: u64, n: u64, p: u64, layout: u64, copies: u64, c: u64) -> Sized
-    ensures { Size.numbers result ≡ Size.numbers (Size.size (settings n p layout copies) lines c) }
+pub fn size(lines: u64, settings: Settings, c: u64) -> Result<Dimensions, Refusal>
+    ensures { result ≡ Size.size settings lines c }
 {
-    if !settings_fit(n, p, layout) {
-        return Sized::Refused(1, 0);
+    if !settings_fit(settings) {
+        return Err(Refusal::from(Reason::SettingsOut));
     }
     if Line::LINES_MOST < lines {
-        return Sized::Refused(2, 0);
+        return Err(Refusal::from(Reason::LengthOut));
     }
-    let judged = judge_figures(figures_of(n, p, layout, copies, lines));
-    match judged {
-        Judged::Refused(number, place) => Sized::Refused(number, place),
-        Judged::Cycle(f) => Sized::Cycle(dimensions_of(f, c)),
-    }
+    let f = judge_figures(figures_of(settings, lines))?;
+    Ok(dimensions_of(f, c))
 }

@@ -1,7 +1,6 @@
 // The waits of a list's tags: elapsed over all tune-ins, added, by the places of each tag's buckets. No cycle is built.
 ghost use Rattle.std.specs.Prelude.{◌≡◌, [], ◌≤◌, ◌<◌};
 ghost use Rattle.buckets.specs.ListLine.{list_lines};
-ghost use Rattle.cycle.specs.Tree.{settings};
 ghost use Rattle.cycle.specs.Waits;
 ghost use Rattle.cycle.specs.Waits.{waits_between, wait_sum};
 ghost use Rattle.cycle.specs.Inner.Held.{plan_of, Ready, AcceptedList};
@@ -9,7 +8,7 @@ ghost use Rattle.cycle.specs.Inner.Held.{plan_of, Ready, AcceptedList};
 use super::judge::judge;
 use super::places::{data_place, tag_of};
 use super::segments::segment_start;
-use super::{BUCKET, Figures, Judged, Source, WaitSum, Waited};
+use super::{BUCKET, Figures, Reason, Refusal, Settings, Source, WaitSum};
 use buckets::Bucket;
 
 // A buffer for the longest cycle, for which 7 does not hold.
@@ -55,17 +54,12 @@ fn add_waits(list: &[u8], f: Figures) -> WaitSum
 }
 
 // The waits of a list's tags over all tune-ins, added, with N and the number of different tags; or a refusal.
-pub fn waits(list: &[u8], n: u64, p: u64, layout: u64, copies: u64) -> Waited
-    ensures { Waits.numbers result ≡ Waits.numbers (Waits.waits (settings n p layout copies) list.now) }
+pub fn waits(list: &[u8], settings: Settings) -> Result<WaitSum, Refusal>
+    ensures { result ≡ Waits.waits settings list.now }
 {
-    let judged = judge(list, n, p, layout, copies, ROOM_MOST);
-    match judged {
-        Judged::Refused(number, place) => Waited::Refused(number, place),
-        Judged::Cycle(f) => {
-            if f.lines == 0 {
-                return Waited::Refused(17, 0);
-            }
-            Waited::Sum(add_waits(list, f))
-        }
+    let f = judge(list, settings, ROOM_MOST)?;
+    if f.lines == 0 {
+        return Err(Refusal::from(Reason::NoLine));
     }
+    Ok(add_waits(list, f))
 }

@@ -14,7 +14,8 @@ use Rattle.columns.proofs.Strict.{both}
 use Rattle.buckets.specs.ListLine.{fits, cut_lines, list_lines, whole_lines, misprint_from, fall_from}
 use Rattle.buckets.specs.Bucket.{rising}
 use Rattle.buckets.proofs.Lists.{length_list_lines, print_of_list, none_falls}
-use Rattle.cycle.specs.Tree.{Settings, Plan, data_buckets, levels, plan}
+use Rattle.cycle.specs.Tree.{Plan, data_buckets, levels, plan}
+use Rattle.cycle.specs.declared.Settings.{Settings}
 use Rattle.cycle.specs.Building.{settings_fit, copies_fit}
 use Rattle.cycle.specs.Inner.Held.{InRange}
 use Rattle.cycle.specs.Inner.Settings.{SettingsFit}

@@ -5,7 +5,7 @@ use Prim.Native.Nat.{ℕ, ◌+◌, ◌*◌, ◌/◌, ◌%◌, ◌≤◌, ◌<◌
 use native.Mathlib.Omega.{arith}
 use native.Mathlib.Nat.{div-add-mod'}
 use mathlib.Core.Bool.{true, false, not}
-use Rattle.std.specs.Prelude.{Option, None, Some}
+use Rattle.std.specs.Prelude.{None, Some, Ok, Err}
 use mathlib.Core.List.{List, [], ◌∷◌}
 use lib.Dec.{ltb}
 use lib.ListN.{length}
@@ -14,57 +14,35 @@ use Rattle.columns.specs.Lists.{onto}
 use Rattle.buckets.specs.declared.Line.{Line}
 use Rattle.buckets.specs.ListLine.{cut_lines, list_lines, whole_lines, misprint_from, fall_from}
 use Rattle.buckets.proofs.Lists.{length_list_lines}
-use Rattle.cycle.specs.Tree.{Settings, settings, Plan, plan}
-use Rattle.cycle.specs.Cycle.{cycle_size, image}
-use Rattle.cycle.specs.Refusals.{Refusal, refusal, row, first_refusal}
+use Rattle.cycle.specs.Tree.{Plan, plan}
+use Rattle.cycle.specs.declared.Settings.{Settings}
+use Rattle.cycle.specs.Cycle.{cycle_size, image_length, image}
+use Rattle.cycle.specs.Refusals.{refusal, row, first_refusal, outcome}
 use Rattle.cycle.specs.Building as building
-use Rattle.cycle.specs.Building.{settings_fit, copies_fit, copies_out, cycle_too_long, buffer_too_short, conditions, outcome, build}
-use Rattle.cycle.specs.Judging
-use Rattle.cycle.specs.Judging.{figures_of, judged, judge, size_conditions, plan_conditions}
-use Rattle.cycle.specs.declared.Judged.TheVariants.{Cycle, Refused}
-use Rattle.cycle.specs.declared.Built.TheVariants as Built
+use Rattle.cycle.specs.Building.{settings_fit, copies_fit, line_misprinted, tag_falls, copies_out, cycle_too_long, buffer_too_short, conditions, build}
+use Rattle.cycle.specs.Judging.{figures_of, judge, size_conditions, plan_conditions}
+use Rattle.cycle.specs.declared.Refusal.{Refusal}
 use Rattle.cycle.specs.declared.Figures.{Figures}
 use Rattle.cycle.specs.declared.Source.TheVariants.{List as InList}
 use Rattle.cycle.specs.Inner.Held.{plan_of, sized, Ready, AcceptedList, plan_in, written}
+use Rattle.cycle.specs.declared.Reason.TheVariants.{SettingsOut, LengthOut, CopiesOut, CycleTooLong, BufferTooShort}
 use Rattle.cycle.proofs.Building.Accepted.{Ranged, plan_ranged, whole_lines_lem}
 use Rattle.cycle.proofs.Building.AcceptedPlans.{copies_shape}
 use Rattle.cycle.proofs.Building.AcceptedLists.{size_shape, plan_in_lem, long_in}
 use Rattle.cycle.proofs.Building.Written.{written_all}
-use Rattle.cycle.proofs.Basics.Conditions.{none_holds, test_fails, none_before, first_stands}
+use Rattle.cycle.proofs.Basics.Conditions.{none_holds, test_fails, none_before, first_stands, refused_by, passed_by}
 use Rattle.cycle.proofs.Building.Outcomes.{none_refused}
-use Rattle.cycle.proofs.Building.PlanFigures.{last_shape, sized_figures}
-
--- ---- an answer
-
--- what a refusal judges, and what figures do
-pub judged_refusal :
-    (o : Option Refusal) (g : Figures) (number place : ℕ) → judged o g ≡ Refused number place → o ≡ Some (refusal number place)
-judged_refusal None g number place h = let z : ◌≡◌ {A = ℕ} 0 1 = cc in absurd (omega arith)
-judged_refusal (Some r) g number place h =
-    let n : r.number ≡ number = cc in
-    let p : r.place ≡ place = cc in
-    λ i. Some (refusal (n i) (p i))
-
-pub judged_cycle : (o : Option Refusal) (g f : Figures) → judged o g ≡ Cycle f → (o ≡ None) × (g ≡ f)
-judged_cycle None g f h = (refl, cc)
-judged_cycle (Some r) g f h = let z : ◌≡◌ {A = ℕ} 0 1 = cc in absurd (omega arith)
-
--- and back
-pub refusal_judged :
-    (number place : ℕ) (o : Option Refusal) (g : Figures) → o ≡ Some (refusal number place) → Refused number place ≡ judged o g
-refusal_judged number place o g e = sym (ap (λ r. judged r g) e)
-
-pub cycle_judged : (o : Option Refusal) (g f : Figures) → o ≡ None → f ≡ g → Cycle f ≡ judged o g
-cycle_judged o g f e same = ap Cycle same ∙ sym (ap (λ r. judged r g) e)
+use Rattle.cycle.specs.Inner.Settings.{Figured}
+use Rattle.cycle.proofs.Building.PlanFigures.{last_shape, sized_figures, plan_same}
 
 -- ---- 5 and 6
 
 module _ (t : Plan) where
-  pub refused_5 : copies_fit t ≡ false → first_refusal (size_conditions t) ≡ Some (refusal 5 0)
+  pub refused_5 : copies_fit t ≡ false → first_refusal (size_conditions t) ≡ Some (refusal CopiesOut 0)
   unfolding size_conditions
   refused_5 e = rw e
 
-  pub refused_6 : copies_fit t ≡ true → 99999 < cycle_size t → first_refusal (size_conditions t) ≡ Some (refusal 6 0)
+  pub refused_6 : copies_fit t ≡ true → 99999 < cycle_size t → first_refusal (size_conditions t) ≡ Some (refusal CycleTooLong 0)
   unfolding size_conditions
   refused_6 e l = rw (e, lt-ltb 99999 (cycle_size t) l)
 
@@ -77,7 +55,7 @@ module _ (t : Plan) where
   size_short h =
       let five = none_holds (copies_out t) (cycle_too_long t ∷ []) h in
       let six = none_holds (cycle_too_long t) [] five.others in
-      ltb-false 99999 (cycle_size t) (test_fails 6 (ltb 99999 (cycle_size t)) six.first)
+      ltb-false 99999 (cycle_size t) (test_fails (ltb 99999 (cycle_size t)) six.first)
 
   -- 7 behind them
   module _ (room : ℕ) where
@@ -88,7 +66,7 @@ module _ (t : Plan) where
 
     pub refused_7 :
         first_refusal (size_conditions t) ≡ None → room < 240 * cycle_size t →
-        first_refusal (plan_conditions t room) ≡ Some (refusal 7 0)
+        first_refusal (plan_conditions t room) ≡ Some (refusal BufferTooShort 0)
     unfolding size_conditions plan_conditions
     refused_7 h l =
         none_before (size_conditions t) (buffer_too_short room (240 * cycle_size t) ∷ []) h ∙ rw (lt-ltb room (240 * cycle_size t) l)
@@ -102,27 +80,24 @@ module _ (t : Plan) where
 -- ---- 1 to 4
 
 module _ (s : Settings) (list : List ℕ) (room : ℕ) where
-  pub refused_1 : settings_fit s ≡ false → first_refusal (conditions s list room) ≡ Some (refusal 1 0)
+  pub refused_1 : settings_fit s ≡ false → first_refusal (conditions s list room) ≡ Some (refusal SettingsOut 0)
   unfolding conditions
   refused_1 e = rw e
 
   pub refused_2 :
-      settings_fit s ≡ true → whole_lines (length list) ≡ false → first_refusal (conditions s list room) ≡ Some (refusal 2 0)
+      settings_fit s ≡ true → whole_lines (length list) ≡ false → first_refusal (conditions s list room) ≡ Some (refusal LengthOut 0)
   unfolding conditions
   refused_2 e w = rw (e, w)
 
   module _ (one : settings_fit s ≡ true) (two : whole_lines (length list) ≡ true) where
-    pub refused_3 :
-        (place : ℕ) → misprint_from 0 (cut_lines list) ≡ Some place →
-        first_refusal (conditions s list room) ≡ Some (refusal 3 place)
+    -- 3 and 4
+    pub lines_refused : (r : Refusal) → first_refusal (line_misprinted list ∷ tag_falls list ∷ []) ≡ Some r → first_refusal (conditions s list room) ≡ Some r
     unfolding conditions
-    refused_3 place e = rw (one, two, e)
-
-    pub refused_4 :
-        (place : ℕ) → misprint_from 0 (cut_lines list) ≡ None → fall_from 0 0 (list_lines list) ≡ Some place →
-        first_refusal (conditions s list room) ≡ Some (refusal 4 place)
-    unfolding conditions
-    refused_4 place e f = rw (one, two, e, f)
+    lines_refused r h =
+        let t : Plan = plan s (list_lines list) in
+        rw (one, two)
+        (first_stands (line_misprinted list ∷ tag_falls list ∷ [])
+        (copies_out t ∷ cycle_too_long t ∷ buffer_too_short room (image_length t) ∷ []) r h)
 
     pub passed :
         misprint_from 0 (cut_lines list) ≡ None → fall_from 0 0 (list_lines list) ≡ None →
@@ -131,26 +106,18 @@ module _ (s : Settings) (list : List ℕ) (room : ℕ) where
     passed e f = rw (one, two, e, f)
 
   -- the answers of judging and of building
-  pub judges_refusal :
-      (number place : ℕ) → first_refusal (conditions s list room) ≡ Some (refusal number place) →
-      Judging.numbers (Refused number place) ≡ Judging.numbers (judge s list room)
+  pub judges_refusal : (r : Refusal) → first_refusal (conditions s list room) ≡ Some r → judge s list room ≡ Err r
   unfolding judge
-  judges_refusal number place e = sym (ap (λ o. Judging.numbers (judged o (figures_of (plan s (list_lines list))))) e)
+  judges_refusal r e = ap (λ o. outcome o (figures_of (plan s (list_lines list)))) e
 
   pub builds_refusal :
-      (number place : ℕ) (d : List ℕ) → judge s list room ≡ Refused number place →
-      (building.numbers (Built.Refused number place) ≡ building.numbers (build s list room).answer)
-      × (d ≡ onto (build s list room).output d)
+      (r : Refusal) (d : List ℕ) → judge s list room ≡ Err r →
+      (Err r ≡ (build s list room).answer) × (d ≡ onto (build s list room).output d)
   unfolding judge build onto
-  builds_refusal number place d h =
+  builds_refusal r d h =
       let t : Plan = plan s (list_lines list) in
-      let e = judged_refusal (first_refusal (conditions s list room)) (figures_of t) number place h in
-      (sym (ap (λ o. building.numbers (outcome o t).answer) e), sym (ap (λ o. onto (outcome o t).output d) e))
-
--- 1 does not look at copies
-pub any_copies : (n p layout c d : ℕ) → settings_fit (settings n p layout d) ≡ settings_fit (settings n p layout c)
-unfolding settings_fit
-any_copies n p layout c d = refl
+      let e = refused_by (first_refusal (conditions s list room)) (figures_of t) r h in
+      (sym (ap (λ o. (building.outcome o t).answer) e), sym (ap (λ o. onto (building.outcome o t).output d) e))
 
 module _ (c : ℕ) where
   pub no_multiple : (c % 27 ≡ 0 → ⊥) → whole_lines c ≡ false
@@ -173,7 +140,7 @@ pub same_conditions :
     first_refusal (plan_conditions (plan_of f []) room) ≡ first_refusal (plan_conditions (plan_of f ls) room)
 unfolding plan_conditions
 same_conditions f ls room =
-    ap₂ (λ fit m. first_refusal (row 5 (not fit) ∷ row 6 (ltb 99999 m) ∷ row 7 (ltb room (240 * m)) ∷ []))
+    ap₂ (λ fit m. first_refusal (row CopiesOut (not fit) ∷ row CycleTooLong (ltb 99999 m) ∷ row BufferTooShort (ltb room (240 * m)) ∷ []))
     (copies_shape f [] ls) (size_shape f [] ls)
 
 -- what judging a list comes to where 1 to 4 do not hold
@@ -181,13 +148,25 @@ pub room_judged :
     (f : Figures) (s : Settings) (list : List ℕ) (room : ℕ) →
     first_refusal (conditions s list room) ≡ first_refusal (plan_conditions (plan s (list_lines list)) room) →
     plan_of f (list_lines list) ≡ plan s (list_lines list) → f.lines ≡ length (list_lines list) →
-    judged (first_refusal (plan_conditions (plan_of f []) room)) (sized f (cycle_size (plan_of f []))) ≡ judge s list room
+    outcome (first_refusal (plan_conditions (plan_of f []) room)) (sized f (cycle_size (plan_of f []))) ≡ judge s list room
 unfolding judge
 room_judged f s list room h same e =
     let ls : List Line = list_lines list in
-    ap₂ judged
+    ap₂ outcome
     (same_conditions f ls room ∙ (ap (λ t. first_refusal (plan_conditions t room)) same ∙ sym h))
     (sized_figures f ls e ∙ ap figures_of same)
+
+-- and what figures of its length come to
+pub lines_judged :
+    (s : Settings) (list : List ℕ) (room : ℕ) (f : Figures) → settings_fit s ≡ true → whole_lines (length list) ≡ true →
+    first_refusal (line_misprinted list ∷ tag_falls list ∷ []) ≡ None → Figured s f → f.lines ≡ length list / 27 →
+    outcome (first_refusal (plan_conditions (plan_of f []) room)) (sized f (cycle_size (plan_of f []))) ≡ judge s list room
+lines_judged s list room f one two h g e =
+    let three = none_holds (line_misprinted list) (tag_falls list ∷ []) h in
+    let four = none_holds (tag_falls list) [] three.others in
+    let lines : f.lines ≡ length (list_lines list) = e ∙ sym (length_list_lines list) in
+    room_judged f s list room (passed s list room one two three.first four.first)
+    (plan_same s f (list_lines list) g (sym lines)) lines
 
 -- ---- the figures of a list that is built
 
@@ -226,24 +205,24 @@ module _ (s : Settings) (list : List ℕ) (room : ℕ) (none_of : first_refusal 
   pub figures_built :
       (d : List ℕ) → length d ≡ room →
       let f : Figures = figures_of (plan s (list_lines list)) in
-      (building.numbers (Built.Cycle f.size) ≡ building.numbers (build s list room).answer)
+      (Ok f.size ≡ (build s list room).answer)
       × (written (plan_in f InList list) d 0 f.size ≡ onto (build s list room).output d)
   unfolding figures_of plan_of build image onto plan
   figures_built d e =
       let t : Plan = plan s (list_lines list) in
       let f : Figures = figures_of t in
-      let built = ap (λ o. outcome o t) none_of in (
-        sym (ap (λ o. building.numbers o.answer) built),
+      let built = ap (λ o. building.outcome o t) none_of in (
+        sym (ap (λ o. o.answer) built),
         written_all (plan_in f InList list) f.size (long_in f list figures_sending) d (omega (arith, figures_fit, e))
             ∙ ap (λ u. onto (image u) d) (plan_in_lem f list figures_sending)
             ∙ sym (ap (λ o. onto o.output d) built),
       )
 
 -- the same of the figures that judging answers with
-module _ (s : Settings) (list : List ℕ) (room : ℕ) (f : Figures) (h : judge s list room ≡ Cycle f) where
+module _ (s : Settings) (list : List ℕ) (room : ℕ) (f : Figures) (h : judge s list room ≡ Ok f) where
   none_and_figures : (first_refusal (conditions s list room) ≡ None) × (figures_of (plan s (list_lines list)) ≡ f)
   unfolding judge
-  none_and_figures = judged_cycle (first_refusal (conditions s list room)) (figures_of (plan s (list_lines list))) f h
+  none_and_figures = passed_by (first_refusal (conditions s list room)) (figures_of (plan s (list_lines list))) f h
 
   pub sending_judged : AcceptedList f list × (240 * f.size ≤ room)
   sending_judged =
@@ -253,12 +232,12 @@ module _ (s : Settings) (list : List ℕ) (room : ℕ) (f : Figures) (h : judge 
 
   pub builds_judged :
       (d : List ℕ) → length d ≡ room →
-      (building.numbers (Built.Cycle f.size) ≡ building.numbers (build s list room).answer)
+      (Ok f.size ≡ (build s list room).answer)
       × (written (plan_in f InList list) d 0 f.size ≡ onto (build s list room).output d)
   builds_judged d e =
       let told = none_and_figures in
       subst
       (λ g.
-      (building.numbers (Built.Cycle g.size) ≡ building.numbers (build s list room).answer)
+      (Ok g.size ≡ (build s list room).answer)
       × (written (plan_in g InList list) d 0 g.size ≡ onto (build s list room).output d))
       told.1 (figures_built s list room told.0 d e)

@@ -6,7 +6,7 @@ use mathlib.Core.List.{List}
 use lib.ListN.{length}
 use Rattle.buckets.specs.ListLine.{blanked_list}
 use Rattle.buckets.proofs.BlankedLists.{length_blanked_list, misprints_blanked, lines_blanked}
-use Rattle.cycle.specs.Tree.{Settings}
+use Rattle.cycle.specs.declared.Settings.{Settings}
 use Rattle.cycle.specs.Building.{conditions, build}
 use Rattle.cycle.specs.ReadingBack.{Builds}
 

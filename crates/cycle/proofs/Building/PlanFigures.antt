@@ -6,7 +6,8 @@ use mathlib.Core.List.{List, []}
 use lib.ListN.{length}
 use Rattle.columns.specs.Lists.{up}
 use Rattle.buckets.specs.declared.Line.{Line}
-use Rattle.cycle.specs.Tree.{Settings, data_buckets, levels, plan_for, plan}
+use Rattle.cycle.specs.Tree.{data_buckets, levels, plan_for, plan}
+use Rattle.cycle.specs.declared.Settings.{Settings}
 use Rattle.cycle.specs.Cycle.{cycle_size}
 use Rattle.cycle.specs.Judging.{figures_of}
 use Rattle.cycle.specs.declared.Figures.{Figures}

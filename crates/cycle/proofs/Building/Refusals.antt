@@ -21,7 +21,6 @@ use Rattle.buckets.specs.ListLine.{read_line, spelled, cut_lines, list_lines, ta
 use Rattle.buckets.specs.Inner.Columns.{read_plain, PlainList}
 use Rattle.buckets.specs.Lengths.{tag_width, line_length}
 use Rattle.buckets.proofs.Lists.{length_cut_lines, length_list_lines, cut_at, line_at, plain_list}
-use Rattle.cycle.specs.Inner.Held.{place_or}
 use Rattle.cycle.proofs.ReadingBack.ImageLines.{spelled_front}
 
 pub count_lines : (list : List ℕ) (lines : ℕ) → length list ≡ line_length * lines → length list / line_length ≡ lines
@@ -67,14 +66,14 @@ module _ (list : List ℕ) (lines : ℕ) (whole : length list ≡ line_length * 
     line_read h e = so ∙ rw (cut_here h, e, ← add-one i)
 
     pub line_misprinted_lem :
-        i < lines → read_line (take line_length (drop (line_length * i) list)) ≡ None → i ≡ place_or lines (misprint_from 0 (cut_lines list))
-    line_misprinted_lem h e = let found : misprint_from 0 (cut_lines list) ≡ Some i = so ∙ rw (cut_here h, e) in sym (ap (place_or lines) found)
+        i < lines → read_line (take line_length (drop (line_length * i) list)) ≡ None → Some i ≡ misprint_from 0 (cut_lines list)
+    line_misprinted_lem h e = let found : misprint_from 0 (cut_lines list) ≡ Some i = so ∙ rw (cut_here h, e) in sym found
 
-    pub lines_read_lem : lines ≤ i → lines ≡ place_or lines (misprint_from 0 (cut_lines list))
+    pub lines_read_lem : lines ≤ i → None ≡ misprint_from 0 (cut_lines list)
     lines_read_lem h =
         let found : misprint_from 0 (cut_lines list) ≡ None =
         so ∙ rw (drop_of_length-le (cut_lines list) {i = i} (omega (arith, length_cut_lines list, count_lines list lines whole))) in
-        sym (ap (place_or lines) found)
+        sym found
 
   -- ---- 4
 
@@ -97,39 +96,15 @@ module _ (list : List ℕ) (lines : ℕ) (whole : length list ≡ line_length * 
         so ∙ rw (line_here h, up, e, ← add-one i)
 
     pub tag_falls_lem :
-        i < lines → (x : ℕ) → x ≡ value 0 (take tag_width (drop (line_length * i) list)) → x < m → i ≡ place_or lines (fall_from 0 0 (list_lines list))
+        i < lines → (x : ℕ) → x ≡ value 0 (take tag_width (drop (line_length * i) list)) → x < m → Some i ≡ fall_from 0 0 (list_lines list)
     unfolding spelled
     tag_falls_lem h x e l =
         let down : leb m (value 0 (take tag_width (drop (line_length * i) list))) ≡ false = lt-leb m (value 0 (take tag_width (drop (line_length * i) list))) (omega arith) in
         let found : fall_from 0 0 (list_lines list) ≡ Some i = so ∙ rw (line_here h, down) in
-        sym (ap (place_or lines) found)
+        sym found
 
-    pub tags_rise : lines ≤ i → lines ≡ place_or lines (fall_from 0 0 (list_lines list))
+    pub tags_rise : lines ≤ i → None ≡ fall_from 0 0 (list_lines list)
     tags_rise h =
         let found : fall_from 0 0 (list_lines list) ≡ None =
         so ∙ rw (drop_of_length-le (list_lines list) {i = i} (omega (arith, length_list_lines list, count_lines list lines whole))) in
-        sym (ap (place_or lines) found)
-
--- a place that is found is a line's
-pub no_place_misprint : (i : ℕ) (ss : List (List ℕ)) (lines : ℕ) → i + length ss ≤ lines → lines ≤ place_or lines (misprint_from i ss) → misprint_from i ss ≡ None
-no_place_misprint i [] lines h l = refl
-no_place_misprint i (s ∷ ss) lines h l = go (taken (read_line s)) (no_place_misprint (suc i) ss lines (omega arith)) l
-  where
-    go : (b : Bool) → (lines ≤ place_or lines (misprint_from (suc i) ss) → misprint_from (suc i) ss ≡ None) →
-        lines ≤ place_or lines (pick b (misprint_from (suc i) ss) (Some i)) → pick b (misprint_from (suc i) ss) (Some i) ≡ None
-    go true rec k = rec k
-    go false rec k = absurd (omega arith)
-
-pub no_place_fall : (i m : ℕ) (ls : List Line) (lines : ℕ) → i + length ls ≤ lines → lines ≤ place_or lines (fall_from i m ls) → fall_from i m ls ≡ None
-no_place_fall i m [] lines h l = refl
-no_place_fall i m (x ∷ ls) lines h l = go (leb m x.tag) (no_place_fall (suc i) x.tag ls lines (omega arith)) l
-  where
-    go : (b : Bool) → (lines ≤ place_or lines (fall_from (suc i) x.tag ls) → fall_from (suc i) x.tag ls ≡ None) →
-        lines ≤ place_or lines (pick b (fall_from (suc i) x.tag ls) (Some i)) → pick b (fall_from (suc i) x.tag ls) (Some i) ≡ None
-    go true rec k = rec k
-    go false rec k = absurd (omega arith)
-
--- and it is found
-pub place_found : (lines : ℕ) (o : Option ℕ) → place_or lines o < lines → o ≡ Some (place_or lines o)
-place_found lines None h = absurd (omega arith)
-place_found lines (Some i) h = refl
+        sym found

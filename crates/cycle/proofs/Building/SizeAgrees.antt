@@ -4,7 +4,7 @@ use mathlib.Core.Path.{◌≡◌, refl, sym, ap, subst, ◌∙◌}
 use Prim.Native.Nat.{ℕ, ◌*◌, ◌/◌, ◌%◌, ◌≤◌, ◌<◌, min}
 use native.Mathlib.Omega.{arith}
 use mathlib.Core.Bool.{Bool, true, false, not}
-use Rattle.std.specs.Prelude.{Option, None, Some}
+use Rattle.std.specs.Prelude.{Option, None, Some, Ok}
 use mathlib.Core.List.{List, [], ◌∷◌}
 use lib.Dec.{ltb}
 use lib.ListN.{length}
@@ -13,17 +13,19 @@ use Rattle.columns.specs.Lists.{pick}
 use Rattle.buckets.specs.Lengths.{line_length, bucket_length, buckets_most}
 use Rattle.buckets.specs.ListLine.{list_lines, whole_lines, few_lines}
 use Rattle.buckets.proofs.Lists.{length_list_lines}
-use Rattle.cycle.specs.Refusals.{Refusal, refusal, row, row_at, first_refusal}
-use Rattle.cycle.specs.Tree.{Settings, Plan, plan_for, plan}
+use Rattle.cycle.specs.Refusals.{refusal, row, row_at, first_refusal, outcome}
+use Rattle.cycle.specs.Tree.{Plan, plan_for, plan}
+use Rattle.cycle.specs.declared.Settings.{Settings}
 use Rattle.cycle.specs.Cycle.{cycle_size, image_length}
 use Rattle.cycle.specs.Building as building
 use Rattle.cycle.specs.Building.{settings_fit, copies_fit, build}
 use Rattle.cycle.specs.Judging.{figures_of}
-use Rattle.cycle.specs.Size.{conditions, heard_most, dimensions, numbers, outcome, size, Listed, built, EverySize}
+use Rattle.cycle.specs.Size.{conditions, heard_most, dimensions, numbers, size, Listed, built, EverySize}
 use Rattle.cycle.specs.declared.Dimensions.{Dimensions}
-use Rattle.cycle.specs.declared.Sized.TheVariants.{Cycle}
-use Rattle.cycle.specs.declared.Built.TheVariants as Built
+use Rattle.cycle.specs.declared.Refusal.{Refusal}
 use Rattle.cycle.specs.Inner.Held.{plan_of}
+use Rattle.cycle.specs.declared.Reason.TheVariants.{SettingsOut, LengthOut, LineMisprinted, TagFalls, CopiesOut, CycleTooLong, BufferTooShort}
+use Rattle.cycle.proofs.Basics.Conditions.{passed_by}
 use Rattle.cycle.proofs.Building.AcceptedPlans.{copies_shape}
 use Rattle.cycle.proofs.Building.AcceptedLists.{size_shape}
 use Rattle.cycle.proofs.Building.BuiltImage.{length_image}
@@ -38,13 +40,13 @@ or_last None o = o
 
 -- 7 where the image does not fit
 abbrev lastly : Bool → Option Refusal
-lastly short = pick short (Some (refusal 7 0)) None
+lastly short = pick short (Some (refusal BufferTooShort 0)) None
 
 -- building's conditions are sizing's and then 7, where 3 and 4 do not hold
 in_order :
     (one two five six seven : Bool) →
-    first_refusal (row 1 one ∷ row 2 two ∷ row_at 3 None ∷ row_at 4 None ∷ row 5 five ∷ row 6 six ∷ row 7 seven ∷ []) ≡
-    or_last (first_refusal (row 1 one ∷ row 2 two ∷ row 5 five ∷ row 6 six ∷ [])) (lastly seven)
+    first_refusal (row SettingsOut one ∷ row LengthOut two ∷ row_at LineMisprinted None ∷ row_at TagFalls None ∷ row CopiesOut five ∷ row CycleTooLong six ∷ row BufferTooShort seven ∷ []) ≡
+    or_last (first_refusal (row SettingsOut one ∷ row LengthOut two ∷ row CopiesOut five ∷ row CycleTooLong six ∷ [])) (lastly seven)
 in_order true two five six seven = refl
 in_order false true five six seven = refl
 in_order false false true six seven = refl
@@ -97,13 +99,13 @@ module _ (s : Settings) (lines : ℕ) (list : List ℕ) (l : Listed lines list) 
         let rows : Bool → Option ℕ → Option ℕ → Bool → ℕ → Option Refusal =
         λ two three four copies n.
         first_refusal
-        (row 1 (not (settings_fit s)) ∷
-        row 2 (not two) ∷
-        row_at 3 three ∷
-        row_at 4 four ∷
-        row 5 (not copies) ∷
-        row 6 (ltb buckets_most n) ∷
-        row 7 (ltb room (bucket_length * n)) ∷ []) in
+        (row SettingsOut (not (settings_fit s)) ∷
+        row LengthOut (not two) ∷
+        row_at LineMisprinted three ∷
+        row_at TagFalls four ∷
+        row CopiesOut (not copies) ∷
+        row CycleTooLong (ltb buckets_most n) ∷
+        row BufferTooShort (ltb room (bucket_length * n)) ∷ []) in
         let alike : first_refusal (building.conditions s list room) ≡ rows (few_lines lines) None None (copies_fit t) (cycle_size t) =
         λ i. rows (whole i) (l.printed i) (l.rising i) (copies_alike i) (size_alike i) in
         alike ∙
@@ -118,7 +120,7 @@ module _ (s : Settings) (lines : ℕ) (list : List ℕ) (l : Listed lines list) 
     unfolding seven
     builds_none e fits = refusals ∙ ap (λ o. or_last o seven) e ∙ rw (le-ltb room (image_length t) fits)
 
-    builds_cycle : sizing ≡ None → image_length t ≤ room → (build s list room).answer ≡ Built.Cycle (cycle_size u)
+    builds_cycle : sizing ≡ None → image_length t ≤ room → (build s list room).answer ≡ Ok (cycle_size u)
     unfolding build
     builds_cycle e fits = ap (λ o. (building.outcome o u).answer) (builds_none e fits)
 
@@ -155,9 +157,8 @@ module _ (d : Dimensions) (u : Plan) where
   refused_back None true number place h other = let z : number ≡ 7 = cc in absurd (other z)
   refused_back None false number place h other = let z : ◌≡◌ {A = ℕ} 3 2 = ap length h in absurd (omega arith)
 
-  given : (o : Option Refusal) (f : Dimensions) → outcome o d ≡ Cycle f → (o ≡ None) × (d ≡ f)
-  given None f h = (refl, cc)
-  given (Some r) f h = let z : ◌≡◌ {A = ℕ} 0 1 = cc in absurd (omega arith)
+  given : (o : Option Refusal) (f : Dimensions) → outcome o d ≡ Ok f → (o ≡ None) × (d ≡ f)
+  given o f h = passed_by o d f h
 
 -- C-11: "The figures agree with what building a list of that many lines gives, and 1, 2, 5 and 6 are given as there"
 pub every_size : EverySize
@@ -199,11 +200,11 @@ every_size s lines c list room l =
     short : Bool
     short = ltb room (image_length (plan_for s lines []))
 
-    told : (f : Dimensions) → size s lines c ≡ Cycle f → (first_refusal (conditions s lines) ≡ None) × (d ≡ f)
+    told : (f : Dimensions) → size s lines c ≡ Ok f → (first_refusal (conditions s lines) ≡ None) × (d ≡ f)
     told f h = given d u (first_refusal (conditions s lines)) f h
 
 -- "A C above D is taken as D."
-pub heard_given : (s : Settings) (lines c : ℕ) (f : Dimensions) → size s lines c ≡ Cycle f → f.heard ≡ heard_most f.k (min c f.d)
+pub heard_given : (s : Settings) (lines c : ℕ) (f : Dimensions) → size s lines c ≡ Ok f → f.heard ≡ heard_most f.k (min c f.d)
 unfolding size dimensions
 heard_given s lines c f h =
     let t : Plan = plan_for s lines [] in

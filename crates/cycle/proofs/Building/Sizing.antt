@@ -3,31 +3,33 @@
 use mathlib.Core.Path.{◌≡◌, refl, sym, ap, subst, ◌∙◌}
 use Prim.Native.Nat.{ℕ, ◌≤◌, ◌<◌}
 use mathlib.Core.Bool.{true, false}
-use Rattle.std.specs.Prelude.{None, Some}
+use Rattle.std.specs.Prelude.{None, Some, Ok, Err}
 use mathlib.Core.List.{[]}
 use borrow.Author.Tests.{le-leb, lt-leb}
 use Rattle.buckets.specs.Lengths.{lines_most, buckets_most}
-use Rattle.cycle.specs.Tree.{Settings, plan_for, levels_most}
+use Rattle.cycle.specs.Tree.{plan_for, levels_most}
+use Rattle.cycle.specs.declared.Settings.{Settings}
 use Rattle.cycle.specs.Cycle.{cycle_size}
-use Rattle.cycle.specs.Refusals.{refusal, first_refusal}
+use Rattle.cycle.specs.Refusals.{refusal, first_refusal, outcome}
 use Rattle.cycle.specs.Building.{settings_fit}
-use Rattle.cycle.specs.Judging.{judged, size_conditions}
-use Rattle.cycle.specs.Size.{conditions, dimensions, numbers, outcome, size}
+use Rattle.cycle.specs.Judging.{size_conditions}
+use Rattle.cycle.specs.Size.{conditions, dimensions, size}
 use Rattle.cycle.specs.declared.Figures.{Figures}
-use Rattle.cycle.specs.declared.Judged.TheVariants as Judged
-use Rattle.cycle.specs.declared.Sized.TheVariants.{Cycle, Refused}
+use Rattle.cycle.specs.declared.Refusal.{Refusal}
 use Rattle.cycle.specs.Inner.Held.{plan_of, Shaped, sized}
+use Rattle.cycle.specs.declared.Reason.TheVariants.{SettingsOut, LengthOut}
 use Rattle.cycle.proofs.Trees.Readiness.{data_high, levels_are}
-use Rattle.cycle.proofs.Building.Answering.{judged_refusal, judged_cycle, size_short}
+use Rattle.cycle.proofs.Basics.Conditions.{refused_by, passed_by, refuses_by, passes_by}
+use Rattle.cycle.proofs.Building.Answering.{size_short}
 
 -- ---- the conditions
 
 module _ (s : Settings) (lines : ℕ) where
-  pub refused_1 : settings_fit s ≡ false → first_refusal (conditions s lines) ≡ Some (refusal 1 0)
+  pub refused_1 : settings_fit s ≡ false → first_refusal (conditions s lines) ≡ Some (refusal SettingsOut 0)
   unfolding conditions
   refused_1 e = rw e
 
-  pub refused_2 : settings_fit s ≡ true → lines_most < lines → first_refusal (conditions s lines) ≡ Some (refusal 2 0)
+  pub refused_2 : settings_fit s ≡ true → lines_most < lines → first_refusal (conditions s lines) ≡ Some (refusal LengthOut 0)
   unfolding conditions
   refused_2 e l = rw (e, lt-leb lines lines_most l)
 
@@ -38,16 +40,13 @@ module _ (s : Settings) (lines : ℕ) where
   passed e l = rw (e, le-leb lines lines_most l)
 
   module _ (c : ℕ) where
-    pub sizes_refusal :
-        (number place : ℕ) → first_refusal (conditions s lines) ≡ Some (refusal number place) →
-        numbers (Refused number place) ≡ numbers (size s lines c)
+    pub sizes_refusal : (r : Refusal) → first_refusal (conditions s lines) ≡ Some r → Err r ≡ size s lines c
     unfolding size
-    sizes_refusal number place e = sym (ap (λ o. numbers (outcome o (dimensions (plan_for s lines []) c))) e)
+    sizes_refusal r e = refuses_by _ (dimensions (plan_for s lines []) c) r e
 
-    pub sizes_cycle :
-        first_refusal (conditions s lines) ≡ None → numbers (Cycle (dimensions (plan_for s lines []) c)) ≡ numbers (size s lines c)
+    pub sizes_cycle : first_refusal (conditions s lines) ≡ None → Ok (dimensions (plan_for s lines []) c) ≡ size s lines c
     unfolding size
-    sizes_cycle e = sym (ap (λ o. numbers (outcome o (dimensions (plan_for s lines []) c))) e)
+    sizes_cycle e = passes_by _ (dimensions (plan_for s lines []) c) _ e refl
 
 -- ---- judged figures
 
@@ -65,21 +64,18 @@ module _ (f : Figures) (shaped : Shaped f) (s : Settings) (lines : ℕ) (same : 
 
   module _ (c : ℕ) where
     pub judged_refused :
-        (number place : ℕ) →
-        judged (first_refusal (size_conditions (plan_of f []))) (sized f (cycle_size (plan_of f []))) ≡ Judged.Refused number place →
-        numbers (Refused number place) ≡ numbers (size s lines c)
-    judged_refused number place h =
-        sizes_refusal s lines c number place (found ∙ judged_refusal _ (sized f (cycle_size (plan_of f []))) number place h)
+        (r : Refusal) → outcome (first_refusal (size_conditions (plan_of f []))) (sized f (cycle_size (plan_of f []))) ≡ Err r →
+        Err r ≡ size s lines c
+    judged_refused r h = sizes_refusal s lines c r (found ∙ refused_by _ (sized f (cycle_size (plan_of f []))) r h)
 
     pub judged_size :
-        (g : Figures) →
-        judged (first_refusal (size_conditions (plan_of f []))) (sized f (cycle_size (plan_of f []))) ≡ Judged.Cycle g →
-        Measured g × (numbers (Cycle (dimensions (plan_of g []) c)) ≡ numbers (size s lines c))
+        (g : Figures) → outcome (first_refusal (size_conditions (plan_of f []))) (sized f (cycle_size (plan_of f []))) ≡ Ok g →
+        Measured g × (Ok (dimensions (plan_of g []) c) ≡ size s lines c)
     unfolding sized plan_of
     judged_size g h =
-        let told = judged_cycle (first_refusal (size_conditions (plan_of f []))) (sized f (cycle_size (plan_of f []))) g h in
+        let told = passed_by (first_refusal (size_conditions (plan_of f []))) (sized f (cycle_size (plan_of f []))) g h in
         subst
-        (λ z. Measured z × (numbers (Cycle (dimensions (plan_of z []) c)) ≡ numbers (size s lines c)))
+        (λ z. Measured z × (Ok (dimensions (plan_of z []) c) ≡ size s lines c))
         told.1 (
           record {
             k_high = (levels_are f shaped).high;
@@ -87,5 +83,5 @@ module _ (f : Figures) (shaped : Shaped f) (s : Settings) (lines : ℕ) (same : 
             size_high = size_short (plan_of f []) told.0;
             size_is = refl;
           },
-          ap (λ t. numbers (Cycle (dimensions t c))) same ∙ sizes_cycle s lines c (found ∙ told.0),
+          ap (λ t. Ok (dimensions t c)) same ∙ sizes_cycle s lines c (found ∙ told.0),
         )

@@ -14,7 +14,7 @@ use Rattle.buckets.specs.Lengths.{line_length, lines_most}
 use Rattle.buckets.specs.ListLine.{spelled, taken, read_line, cut_lines, list_lines}
 use Rattle.cycle.specs.Size.{Listed}
 use Rattle.cycle.specs.Changes.{same_numbers, equals, list_in, places_for, not_in_list, no_place, arrival, departure}
-use Rattle.cycle.specs.Inner.Held.{place_or}
+use Rattle.cycle.proofs.Changing.Places.{place_or}
 use Rattle.cycle.specs.Inner.Changing.{first_from, tag_over, with_line, without_line}
 use Rattle.cycle.proofs.Changing.ChangedLists.{arrived_listed, arrived_bytes, taken_listed, taken_bytes, equal_found}
 use Rattle.cycle.proofs.Changing.Moves.{line_put, line_removed, onto_front_of}

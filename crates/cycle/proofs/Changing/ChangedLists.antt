@@ -26,9 +26,8 @@ use Rattle.buckets.proofs.Lists.{length_cut_lines, cut_of_printed, none_misprint
 use Rattle.cycle.specs.Size.{Listed}
 use Rattle.cycle.specs.Changes.{arrived, same_numbers, equals, taken_out}
 use Rattle.cycle.specs.Inner.Changing.{first_from, tag_over}
-use Rattle.cycle.specs.Inner.Held.{place_or}
 use Rattle.cycle.proofs.Lines.Rising.{Rising, rising_tags, tags_rising}
-use Rattle.cycle.proofs.Changing.Places.{place, place_most, first_place_lem, passes_within, passes_nowhere, place_map}
+use Rattle.cycle.proofs.Changing.Places.{place_or, place, place_most, first_place_lem, passes_within, passes_nowhere, place_map}
 use Rattle.cycle.proofs.Changing.ChangedLines.{over, arrived_at, length_arrived, every_arrived, rising_arrived}
 use Rattle.cycle.proofs.Changing.ChangedLines.{taken_at, length_taken, every_taken, rising_taken}
 

@@ -4,7 +4,7 @@ use mathlib.Core.Path.{◌≡◌, refl, sym, ap, ap₂, ◌∙◌, subst}
 use Prim.Native.Nat.{ℕ, suc, ◌+◌, ◌-◌, ◌*◌, ◌≤◌}
 use native.Mathlib.Omega.{arith}
 use mathlib.Core.Bool.{Bool, true, false, ◌||◌, not, true≢false}
-use Rattle.std.specs.Prelude.{Option, None, Some}
+use Rattle.std.specs.Prelude.{Option, None, Some, Ok, Err}
 use mathlib.Core.List.{List, [], ◌∷◌, ◌++◌, map, append-nil}
 use lib.Dec.{eqb}
 use lib.ListN.{length, take, drop, length-append, length-replicate}
@@ -13,17 +13,19 @@ use Rattle.columns.specs.Lists.{joined, every, any, onto}
 use Rattle.columns.specs.PrintedNumbers.{blanks}
 use Rattle.buckets.specs.Lengths.{line_length, lines_most}
 use Rattle.buckets.specs.ListLine.{spelled, cut_lines, list_lines}
-use Rattle.cycle.specs.Refusals.{Refusal, Condition, first_refusal}
-use Rattle.cycle.specs.Tree.{Settings, Plan, plan}
+use Rattle.cycle.specs.Refusals.{refusal, Condition, first_refusal}
+use Rattle.cycle.specs.Refusals.{outcome as answer_by}
+use Rattle.cycle.specs.Tree.{Plan, plan}
+use Rattle.cycle.specs.declared.Settings.{Settings}
 use Rattle.cycle.specs.Building as building
 use Rattle.cycle.specs.Building.{build}
-use Rattle.cycle.specs.Judging.{judge, judged, figures_of, plan_conditions}
+use Rattle.cycle.specs.Judging.{judge, figures_of, plan_conditions}
 use Rattle.cycle.specs.Size.{Listed}
 use Rattle.cycle.specs.Changes.{arrived, equals, taken_out, list_in, places_for, not_in_list, no_place, line_conditions, given_conditions, Change, arrival, departure, conditions, counts, outcome, change, arrive, take_out}
 use Rattle.cycle.specs.ComingAndGoing.{Kept, UpToDate, PutBehind, FirstGone, MovedBehind, ComingAndGoing}
 use Rattle.cycle.specs.declared.Counts.{Counts}
-use Rattle.cycle.specs.declared.Built.TheVariants as Built
-use Rattle.cycle.specs.declared.Changed.TheVariants.{Cycle, Refused}
+use Rattle.cycle.specs.declared.Reason.TheVariants.{NoPlace}
+use Rattle.cycle.specs.declared.Refusal.{Refusal}
 use Rattle.cycle.proofs.Basics.Conditions.{none_holds, none_both, test_fails, spares, never_by}
 use Rattle.cycle.proofs.Changing.Places.{within_passes}
 use Rattle.cycle.proofs.Changing.ChangedLists.{length_cut, cut_rises, whole_cut, cut_arrived, arrived_listed, cut_taken, taken_listed}
@@ -56,16 +58,16 @@ module _ (s : Settings) (buffer : List ℕ) (lines : ℕ) (given : List ℕ) (c 
         free = (none_holds c.own (plan_conditions (plan s (list_lines c.list)) room) told.1).first;
       }
 
-  made : (x : Counts) → (change s buffer lines given c room).answer ≡ Cycle x → Made s buffer lines given c
+  made : (x : Counts) → (change s buffer lines given c room).answer ≡ Ok x → Made s buffer lines given c
   made x h = passes (made_counts s buffer lines given c room x h).0
 
   -- what it wrote
-  wrote : (x : Counts) → (change s buffer lines given c room).answer ≡ Cycle x → (change s buffer lines given c room).list ≡ c.list ++ c.behind
+  wrote : (x : Counts) → (change s buffer lines given c room).answer ≡ Ok x → (change s buffer lines given c room).list ≡ c.list ++ c.behind
   wrote x h = ap (λ o. o.list) (change_made s buffer lines given c room (made_counts s buffer lines given c room x h).0)
 
   module _ (count : ℕ) (fitting : Made s buffer lines given c → Fitting c count) where
     -- its number of lines
-    counted : (x : Counts) → (change s buffer lines given c room).answer ≡ Cycle x → x.lines ≡ count
+    counted : (x : Counts) → (change s buffer lines given c room).answer ≡ Ok x → x.lines ≡ count
     unfolding counts plan
     counted x h =
         let m = made x h in
@@ -74,14 +76,14 @@ module _ (s : Settings) (buffer : List ℕ) (lines : ℕ) (given : List ℕ) (c 
         ∙ listed_count s c.list room count m.given_fits.settings f.few f.listed
 
     -- the changed list lies in its buffer
-    lies : (x : Counts) → (change s buffer lines given c room).answer ≡ Cycle x → list_in (onto (change s buffer lines given c room).list buffer) x.lines ≡ c.list
+    lies : (x : Counts) → (change s buffer lines given c room).answer ≡ Ok x → list_in (onto (change s buffer lines given c room).list buffer) x.lines ≡ c.list
     unfolding list_in
     lies x h =
         let f = fitting (made x h) in
         ap₂ (λ t k. take (line_length * k) (onto t buffer)) (wrote x h) (counted x h)
         ∙ onto_front_of c.list c.behind buffer (line_length * count) (sym f.listed.count)
 
-    kept_up : (x : Counts) → (change s buffer lines given c room).answer ≡ Cycle x → Kept s buffer c room (change s buffer lines given c room) x
+    kept_up : (x : Counts) → (change s buffer lines given c room).answer ≡ Ok x → Kept s buffer c room (change s buffer lines given c room) x
     unfolding build judge counts figures_of
     kept_up x h =
         let t : Plan = plan s (list_lines c.list) in
@@ -90,11 +92,11 @@ module _ (s : Settings) (buffer : List ℕ) (lines : ℕ) (given : List ℕ) (c 
         let f = fitting m in
         let all = sym (refused_as_built s buffer lines given c room m.passed m.free count m.given_fits.settings f.few f.listed) ∙ told.0 in
         record {
-          built = ap (λ o. (building.outcome o t).answer) all ∙ ap (λ (y : Counts). Built.Cycle y.n) told.1;
+          built = ap (λ o. (building.outcome o t).answer) all ∙ ap (λ (y : Counts). Ok y.n) told.1;
           judged_as =
               record {
                 figures = figures_of t;
-                judged = ap (λ o. judged o (figures_of t)) all;
+                judged = ap (λ o. answer_by o (figures_of t)) all;
                 lines_are = ap (λ (y : Counts). y.lines) told.1;
                 d_is = ap (λ (y : Counts). y.d) told.1;
                 k_is = ap (λ (y : Counts). y.k) told.1;
@@ -127,13 +129,13 @@ or_none false b h = (refl, h)
 place_free : (buffer : List ℕ) (lines : ℕ) → (no_place buffer lines).holds ≡ None → (lines ≡ lines_most → ⊥) × (places_for buffer (suc lines) ≡ true)
 unfolding no_place
 place_free buffer lines h =
-    let told = or_none (eqb lines lines_most) (not (places_for buffer (suc lines))) (test_fails 16 (eqb lines lines_most || not (places_for buffer (suc lines))) h) in
+    let told = or_none (eqb lines lines_most) (not (places_for buffer (suc lines))) (test_fails (eqb lines lines_most || not (places_for buffer (suc lines))) h) in
     (λ e. true≢false (sym (eq-eqb lines lines_most e) ∙ told.0), not-false (places_for buffer (suc lines)) told.1)
 
 -- 15 does not hold
 line_there : (given list : List ℕ) → (not_in_list given list).holds ≡ None → any (equals given) (cut_lines list) ≡ true
 unfolding not_in_list
-line_there given list h = not-false (any (equals given) (cut_lines list)) (test_fails 15 (not (any (equals given) (cut_lines list))) h)
+line_there given list h = not-false (any (equals given) (cut_lines list)) (test_fails (not (any (equals given) (cut_lines list))) h)
 
 some_line : (given list : List ℕ) (lines : ℕ) → Listed lines list → any (equals given) (cut_lines list) ≡ true → 1 ≤ lines
 some_line given list lines l h = omega (arith, within_passes (equals given) (cut_lines list) h, length_cut list lines l)
@@ -156,7 +158,7 @@ module _ (s : Settings) (buffer : List ℕ) (lines : ℕ) (given : List ℕ) whe
       }
 
 module _ (s : Settings) (buffer : List ℕ) (lines : ℕ) (given : List ℕ) (room : ℕ) (x : Counts) where
-  arrived_behind : (arrive s buffer lines given room).answer ≡ Cycle x →
+  arrived_behind : (arrive s buffer lines given room).answer ≡ Ok x →
       PutBehind given (cut_lines (list_in buffer lines)) (cut_lines (list_in (onto (arrive s buffer lines given room).list buffer) x.lines))
       × (x.lines ≡ suc lines)
   unfolding arrival
@@ -170,7 +172,7 @@ module _ (s : Settings) (buffer : List ℕ) (lines : ℕ) (given : List ℕ) (ro
         counted s buffer lines given a room (suc lines) fits x came,
       )
 
-  first_taken : (take_out s buffer lines given room).answer ≡ Cycle x →
+  first_taken : (take_out s buffer lines given room).answer ≡ Ok x →
       FirstGone given (cut_lines (list_in buffer lines)) (cut_lines (list_in (onto (take_out s buffer lines given room).list buffer) x.lines))
       × (suc x.lines ≡ lines)
   unfolding departure
@@ -194,11 +196,11 @@ unfolding onto
 onto_onto s t d h = ap (λ (r : List ℕ). s ++ r) (onto_behind t d (length s) h)
 
 module _ (s t : Settings) (buffer : List ℕ) (lines : ℕ) (given : List ℕ) (room other : ℕ) (x y : Counts) where
-  module _ (came : (arrive s buffer lines given room).answer ≡ Cycle x) where
+  module _ (came : (arrive s buffer lines given room).answer ≡ Ok x) where
     abbrev there : List ℕ
     there = onto (arrive s buffer lines given room).list buffer
 
-    taken_again : (take_out t there x.lines given other).answer ≡ Cycle y → any (equals given) (cut_lines (list_in buffer lines)) ≡ false →
+    taken_again : (take_out t there x.lines given other).answer ≡ Ok y → any (equals given) (cut_lines (list_in buffer lines)) ≡ false →
         (onto (take_out t there x.lines given other).list there ≡ onto (list_in buffer lines ++ blanks line_length) buffer)
         × (y.lines ≡ lines)
     unfolding arrival departure blanks
@@ -224,11 +226,11 @@ module _ (s t : Settings) (buffer : List ℕ) (lines : ℕ) (given : List ℕ) (
           counted t there x.lines given d other (x.lines - 1) (departure_fits t there x.lines given) y went ∙ omega (arith, count),
         )
 
-  module _ (went : (take_out s buffer lines given room).answer ≡ Cycle x) where
+  module _ (went : (take_out s buffer lines given room).answer ≡ Ok x) where
     abbrev left : List ℕ
     left = onto (take_out s buffer lines given room).list buffer
 
-    moved_again : (arrive t left x.lines given other).answer ≡ Cycle y →
+    moved_again : (arrive t left x.lines given other).answer ≡ Ok y →
         MovedBehind (spelled given) (list_lines (list_in buffer lines))
         (list_lines (list_in (onto (arrive t left x.lines given other).list left) y.lines))
         × (y.lines ≡ lines)
@@ -258,7 +260,7 @@ module _ (s t : Settings) (buffer : List ℕ) (lines : ℕ) (given : List ℕ) (
 -- ---- the place freed
 
 module _ (s t : Settings) (buffer : List ℕ) (lines : ℕ) (given next : List ℕ) (room other : ℕ) (x : Counts)
-    (went : (take_out s buffer lines given room).answer ≡ Cycle x) where
+    (went : (take_out s buffer lines given room).answer ≡ Ok x) where
   abbrev behind : List ℕ
   behind = onto (take_out s buffer lines given room).list buffer
 
@@ -288,14 +290,14 @@ module _ (s t : Settings) (buffer : List ℕ) (lines : ℕ) (given next : List �
       le-leb (line_length * suc x.lines) (length behind) (omega (arith, long, fewer, fits.places))
 
   -- none of the conditions of an arrival by 16 holds
-  spared : every (spares 16) (conditions t behind x.lines next (arrival behind x.lines next) other) ≡ true
+  spared : every (spares NoPlace) (conditions t behind x.lines next (arrival behind x.lines next) other) ≡ true
   unfolding conditions given_conditions line_conditions plan_conditions arrival no_place
   spared = rw (ne_eqb x.lines lines_most (λ e. omega (arith, fewer, fits.few)), place_again)
 
-  not_by_16 : (place : ℕ) → (arrive t behind x.lines next other).answer ≡ Refused 16 place → ⊥
+  not_by_16 : (place : ℕ) → (arrive t behind x.lines next other).answer ≡ Err (refusal NoPlace place) → ⊥
   not_by_16 place h =
-      never_by 16 (conditions t behind x.lines next (arrival behind x.lines next) other) place spared
-      (refused_told t behind x.lines next (arrival behind x.lines next) other 16 place h)
+      never_by NoPlace (conditions t behind x.lines next (arrival behind x.lines next) other) place spared
+      (refused_told t behind x.lines next (arrival behind x.lines next) other (refusal NoPlace place) h)
 
   -- an arrival writes no further than the former list
   short :
@@ -309,7 +311,7 @@ module _ (s t : Settings) (buffer : List ℕ) (lines : ℕ) (given next : List �
       rw (append-nil a.list) (omega (arith, long, fewer))
 
   freed_serves :
-      ((place : ℕ) → (arrive t behind x.lines next other).answer ≡ Refused 16 place → ⊥) ×
+      ((place : ℕ) → (arrive t behind x.lines next other).answer ≡ Err (refusal NoPlace place) → ⊥) ×
       (drop (line_length * lines) (onto (arrive t behind x.lines next other).list behind) ≡ drop (line_length * lines) buffer)
   unfolding change
   freed_serves = (

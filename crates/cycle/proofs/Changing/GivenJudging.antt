@@ -3,7 +3,8 @@
 use mathlib.Core.Path.{◌≡◌, refl, ◌∙◌, subst}
 use Prim.Native.Nat.{ℕ, ◌*◌, ◌≤◌, ◌<◌}
 use mathlib.Core.Bool.{Bool, true, false, ◌&&◌, not}
-use Rattle.std.specs.Prelude.{None, Some}
+use Rattle.std.specs.Prelude.{Option, None, Some, Result, Ok, Err}
+use Rattle.std.specs.Prelude.{unwrap_or}
 use mathlib.Core.List.{List, [], ◌∷◌}
 use lib.Dec.{eqb}
 use lib.ListN.{length}
@@ -13,16 +14,15 @@ use Rattle.columns.specs.Lists.{pick}
 use Rattle.columns.proofs.Strict.{both}
 use Rattle.buckets.specs.Lengths.{line_length, lines_most}
 use Rattle.buckets.specs.ListLine.{taken, read_line, cut_lines, list_lines, few_lines, misprint_from, fall_from}
-use Rattle.cycle.specs.Tree.{Settings, settings}
-use Rattle.cycle.specs.Refusals.{Condition, refusal, first_refusal}
+use Rattle.cycle.specs.declared.Settings.{Settings}
+use Rattle.cycle.specs.Refusals.{Condition, refusal, row_at, first_refusal}
 use Rattle.cycle.specs.Building.{settings_fit, settings_out, line_misprinted, tag_falls}
 use Rattle.cycle.specs.Size.{Listed}
 use Rattle.cycle.specs.Changes.{list_in, places_for, number_out, given_length_out, given_misprinted, line_conditions, given_conditions}
-use Rattle.cycle.specs.Inner.Changing.{GivenTold}
-use Rattle.cycle.specs.declared.changes.GivenJudged.{GivenJudged}
-use Rattle.cycle.specs.declared.changes.GivenJudged.TheVariants.{Passed, Refused}
+use Rattle.cycle.specs.Inner.ListLines.{Told}
+use Rattle.cycle.specs.declared.Refusal.{Refusal}
+use Rattle.cycle.specs.declared.Reason.TheVariants.{SettingsOut, LengthOut, LineMisprinted}
 use Rattle.cycle.proofs.Basics.Conditions.{none_holds, test_fails}
-use Rattle.cycle.proofs.Building.Answering.{any_copies}
 
 -- ---- the list in its buffer
 
@@ -64,80 +64,64 @@ given_passed s buffer lines given h =
     let misprint = none_holds (given_misprinted lines given) (tag_falls list ∷ []) three.others in
     let four = none_holds (tag_falls list) [] misprint.others in
     let fits : Bool = few_lines lines && places_for buffer lines in
-    let number = both (few_lines lines) (places_for buffer lines) (not-false fits (test_fails 2 (not fits) two.first)) in
+    let number = both (few_lines lines) (places_for buffer lines) (not-false fits (test_fails (not fits) two.first)) in
     let places = places_fit buffer lines number.1 in
     record {
-      settings = not-false (settings_fit s) (test_fails 1 (not (settings_fit s)) one.first);
+      settings = not-false (settings_fit s) (test_fails (not (settings_fit s)) one.first);
       few = leb-true lines lines_most number.0;
       places = places;
       long =
           eqb-true (length given) line_length
-          (not-false (eqb (length given) line_length) (test_fails 2 (not (eqb (length given) line_length)) long.first));
+          (not-false (eqb (length given) line_length) (test_fails (not (eqb (length given) line_length)) long.first));
       listed = record { count = length_in buffer lines places; printed = three.first; rising = four.first };
       reads = given_reads lines (taken (read_line given)) misprint.first;
     }
 
--- copies are not looked at
-given_any_copies :
-    (n p layout c d : ℕ) (buffer : List ℕ) (lines : ℕ) (given : List ℕ) →
-    given_conditions (settings n p layout c) buffer lines given ≡ given_conditions (settings n p layout d) buffer lines given
-unfolding given_conditions
-given_any_copies n p layout c d buffer lines given = rw (any_copies n p layout c d)
-
-pub told_any_copies :
-    (n p layout c d : ℕ) (buffer : List ℕ) (lines : ℕ) (given : List ℕ) (found r : GivenJudged) → found ≡ r →
-    GivenTold (given_conditions (settings n p layout c) buffer lines given) (list_in buffer lines) found →
-    GivenTold (given_conditions (settings n p layout d) buffer lines given) (list_in buffer lines) r
-told_any_copies n p layout c d buffer lines given found r e h =
-    subst (λ cs. GivenTold cs (list_in buffer lines) r) (given_any_copies n p layout c d buffer lines given)
-    (subst (GivenTold (given_conditions (settings n p layout c) buffer lines given) (list_in buffer lines)) e h)
-
 -- ---- 3 and 4
 
 module _ (list : List ℕ) (lines : ℕ) (given : List ℕ) where
-  pub list_misprinted :
-      (place : ℕ) → misprint_from 0 (cut_lines list) ≡ Some place →
-      first_refusal (line_conditions list lines given) ≡ Some (refusal 3 place)
+  -- a misprinted line is refused behind the list's own misprints
+  pub given_misprinted_lem :
+      read_line given ≡ None → first_refusal (line_conditions list lines given) ≡ Some (refusal LineMisprinted (unwrap_or (misprint_from 0 (cut_lines list)) lines))
   unfolding line_conditions
-  list_misprinted place e = rw e
+  given_misprinted_lem e = rw e (by (misprint_from 0 (cut_lines list)))
+    where
+      by : (o : Option ℕ) → first_refusal (row_at LineMisprinted o ∷ row_at LineMisprinted (Some lines) ∷ tag_falls list ∷ []) ≡ Some (refusal LineMisprinted (unwrap_or o lines))
+      by None = refl
+      by (Some place) = refl
 
-  module _ (printed : misprint_from 0 (cut_lines list) ≡ None) where
-    pub given_misprinted_lem : read_line given ≡ None → first_refusal (line_conditions list lines given) ≡ Some (refusal 3 lines)
-    unfolding line_conditions
-    given_misprinted_lem e = rw (printed, e)
-
-    pub list_falls :
-        taken (read_line given) ≡ true → (place : ℕ) → fall_from 0 0 (list_lines list) ≡ Some place →
-        first_refusal (line_conditions list lines given) ≡ Some (refusal 4 place)
-    unfolding line_conditions
-    list_falls read place e = rw (printed, read, e)
-
-    pub lines_passed :
-        taken (read_line given) ≡ true → fall_from 0 0 (list_lines list) ≡ None →
-        first_refusal (line_conditions list lines given) ≡ None
-    unfolding line_conditions
-    lines_passed read e = rw (printed, read, e)
+  -- behind a printed one the list's own lines decide
+  pub given_printed :
+      taken (read_line given) ≡ true →
+      first_refusal (line_conditions list lines given) ≡ first_refusal (line_misprinted list ∷ tag_falls list ∷ [])
+  unfolding line_conditions
+  given_printed e = rw e (by (misprint_from 0 (cut_lines list)))
+    where
+      by : (o : Option ℕ) → first_refusal (row_at LineMisprinted o ∷ row_at LineMisprinted None ∷ tag_falls list ∷ [])
+          ≡ first_refusal (row_at LineMisprinted o ∷ tag_falls list ∷ [])
+      by None = refl
+      by (Some place) = refl
 
 -- ---- 1 and 2 before them
 
 module _ (s : Settings) (buffer : List ℕ) (lines : ℕ) (given : List ℕ) where
-  pub settings_refused : settings_fit s ≡ false → first_refusal (given_conditions s buffer lines given) ≡ Some (refusal 1 0)
+  pub settings_refused : settings_fit s ≡ false → first_refusal (given_conditions s buffer lines given) ≡ Some (refusal SettingsOut 0)
   unfolding given_conditions
   settings_refused e = rw e
 
   module _ (one : settings_fit s ≡ true) where
-    pub too_many_lines_lem : lines_most < lines → first_refusal (given_conditions s buffer lines given) ≡ Some (refusal 2 0)
+    pub too_many_lines_lem : lines_most < lines → first_refusal (given_conditions s buffer lines given) ≡ Some (refusal LengthOut 0)
     unfolding given_conditions
     too_many_lines_lem l = rw (one, lt-leb lines lines_most l)
 
     module _ (few : lines ≤ lines_most) where
-      pub no_places : places_for buffer lines ≡ false → first_refusal (given_conditions s buffer lines given) ≡ Some (refusal 2 0)
+      pub no_places : places_for buffer lines ≡ false → first_refusal (given_conditions s buffer lines given) ≡ Some (refusal LengthOut 0)
       unfolding given_conditions
       no_places e = rw (one, le-leb lines lines_most few, e)
 
       module _ (places : places_for buffer lines ≡ true) where
         pub given_length_out_lem :
-            (length given ≡ line_length → ⊥) → first_refusal (given_conditions s buffer lines given) ≡ Some (refusal 2 0)
+            (length given ≡ line_length → ⊥) → first_refusal (given_conditions s buffer lines given) ≡ Some (refusal LengthOut 0)
         unfolding given_conditions line_conditions
         given_length_out_lem h = rw (one, le-leb lines lines_most few, places, ne_eqb (length given) line_length h)
 
@@ -150,7 +134,6 @@ module _ (s : Settings) (buffer : List ℕ) (lines : ℕ) (given : List ℕ) whe
 
 -- what is found where other conditions decide
 pub told_by :
-    (cs ds : List Condition) (list : List ℕ) (r : GivenJudged) → first_refusal cs ≡ first_refusal ds → GivenTold ds list r →
-    GivenTold cs list r
-told_by cs ds list (Passed plain) e h = (e ∙ h.0, h.1)
-told_by cs ds list (Refused number place) e h = e ∙ h
+    (cs ds : List Condition) (list : List ℕ) (r : Result Bool Refusal) → first_refusal cs ≡ first_refusal ds → Told ds list r → Told cs list r
+told_by cs ds list (Ok plain) e h = (e ∙ h.0, h.1)
+told_by cs ds list (Err r) e h = e ∙ h

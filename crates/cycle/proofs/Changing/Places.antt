@@ -4,12 +4,16 @@ use mathlib.Core.Path.{◌≡◌, refl, ap}
 use Prim.Native.Nat.{ℕ, zero, suc, ◌+◌, ◌≤◌, ◌<◌}
 use native.Mathlib.Omega.{arith}
 use mathlib.Core.Bool.{Bool, true, false, ◌||◌}
-use Rattle.std.specs.Prelude.{Some}
+use Rattle.std.specs.Prelude.{Option, None, Some}
+use Rattle.std.specs.Prelude.{unwrap_or}
 use mathlib.Core.List.{List, [], ◌∷◌, map}
 use lib.ListN.{length}
 use Rattle.columns.specs.Lists.{pick, any}
 use Rattle.cycle.specs.Inner.Changing.{first_from}
-use Rattle.cycle.specs.Inner.Held.{place_or}
+
+-- a line's place, or the number of lines where there is none
+abbrev pub place_or : ℕ → Option ℕ → ℕ
+place_or lines o = unwrap_or o lines
 
 -- the first place where f passes, the length where there is none
 abbrev pub place : {A : Type 0} → (A → Bool) → List A → ℕ
@@ -62,6 +66,16 @@ module _ {A : Type 0} (f : A → Bool) where
           → pick t zero (suc (place f xs)) < suc (length xs)
       go true rest k = omega arith
       go false rest k = let h : place f xs < length xs = rest k in omega arith
+
+  -- and what the search finds is within the list
+  pub found_inside : (i : ℕ) (xs : List A) (p : ℕ) → first_from f i xs ≡ Some p → p < i + length xs
+  found_inside i [] p h = absurd (let z : ◌≡◌ {A = ℕ} 0 1 = cc in omega arith)
+  found_inside i (x ∷ xs) p h = go (f x) (found_inside (suc i) xs p) h
+    where
+      go : (t : Bool) → (first_from f (suc i) xs ≡ Some p → p < suc i + length xs) → pick t (Some i) (first_from f (suc i) xs) ≡ Some p
+          → p < i + suc (length xs)
+      go true rest k = let e : i ≡ p = cc in omega arith
+      go false rest k = let h : p < suc i + length xs = rest k in omega arith
 
 -- a place among the outcomes of g
 pub place_map : {A B : Type 0} (f : B → Bool) (g : A → B) (xs : List A) → place f (map g xs) ≡ place (λ x. f (g x)) xs

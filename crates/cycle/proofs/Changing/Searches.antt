@@ -1,6 +1,6 @@
 -- The first line of a list that passes a test, looked for line by line; and the two tests that are asked of a line.
 -- Assumes nothing.
-use mathlib.Core.Path.{◌≡◌, sym, ap, ◌∙◌}
+use mathlib.Core.Path.{◌≡◌, sym, ◌∙◌}
 use Prim.Native.Nat.{ℕ, ◌+◌, ◌-◌, ◌*◌, ◌≤◌, ◌<◌}
 use native.Mathlib.Numerals.{add-one}
 use native.Mathlib.Omega.{arith}
@@ -16,7 +16,6 @@ use Rattle.buckets.specs.Lengths.{tag_width, line_columns_width, line_length}
 use Rattle.buckets.proofs.Lists.{length_list_lines}
 use Rattle.buckets.specs.Bucket.{spelled_line}
 use Rattle.cycle.specs.Changes.{same_numbers}
-use Rattle.cycle.specs.Inner.Held.{place_or}
 use Rattle.cycle.specs.Inner.Changing.{first_from, tag_over}
 use Rattle.cycle.proofs.Building.Refusals.{count_lines, line_here}
 use Rattle.cycle.proofs.ReadingBack.ImageLines.{spelled_front}
@@ -31,16 +30,16 @@ module _ (f : Line → Bool) (list : List ℕ) (lines : ℕ) (whole : length lis
   fails_here h e = so ∙ rw (line_here list lines whole i h, e, ← add-one i)
 
   pub passes_here :
-      i < lines → f (spelled (drop (line_length * i) list)) ≡ true → i ≡ place_or lines (first_from f 0 (list_lines list))
+      i < lines → f (spelled (drop (line_length * i) list)) ≡ true → Some i ≡ first_from f 0 (list_lines list)
   passes_here h e =
       let found : first_from f 0 (list_lines list) ≡ Some i = so ∙ rw (line_here list lines whole i h, e) in
-      sym (ap (place_or lines) found)
+      sym found
 
-  pub none_passes : lines ≤ i → lines ≡ place_or lines (first_from f 0 (list_lines list))
+  pub none_passes : lines ≤ i → None ≡ first_from f 0 (list_lines list)
   none_passes h =
       let found : first_from f 0 (list_lines list) ≡ None =
       so ∙ rw (drop_of_length-le (list_lines list) {i = i} (omega (arith, length_list_lines list, count_lines list lines whole))) in
-      sym (ap (place_or lines) found)
+      sym found
 
 -- ---- a greater tag
 

@@ -16,7 +16,8 @@ use Rattle.buckets.specs.Bucket.{Bucket, print_bucket, good, read_bucket}
 use Rattle.buckets.specs.ListLine.{list_lines, print_line, blanked_list}
 use Rattle.buckets.proofs.Buckets.{length_print_bucket, read_of_print_bucket}
 use Rattle.buckets.specs.BucketLines.{lines_read}
-use Rattle.cycle.specs.Tree.{Settings, Plan, plan}
+use Rattle.cycle.specs.Tree.{Plan, plan}
+use Rattle.cycle.specs.declared.Settings.{Settings}
 use Rattle.cycle.specs.Cycle.{buckets, cycle_size, image, carried}
 use Rattle.cycle.specs.ReadingBack.{sent_lines, sent_list, Builds}
 use Rattle.cycle.proofs.Trees.TreeLaws.{up_covers}

@@ -14,15 +14,17 @@ use Rattle.columns.specs.Lists.{same}
 use Rattle.columns.proofs.Strict.{both, same_refl, same_eq}
 use Rattle.buckets.specs.ListLine.{list_lines, blanked_list}
 use Rattle.buckets.proofs.BlankedLists.{length_blanked_list}
-use Rattle.cycle.specs.Refusals.{row, first_refusal}
-use Rattle.cycle.specs.Tree.{Settings, Plan, plan}
+use Rattle.std.specs.Prelude.{Result, Ok, Err}
+use Rattle.cycle.specs.Refusals.{number, refusal, row, first_refusal}
+use Rattle.cycle.specs.Tree.{Plan, plan}
+use Rattle.cycle.specs.declared.Settings.{Settings}
 use Rattle.cycle.specs.Layouts.{slots}
 use Rattle.cycle.specs.Cycle.{cycle_size}
 use Rattle.cycle.specs.Building.{settings_fit, build}
 use Rattle.cycle.specs.ReadingBack.{sent_list, is_cycle, builds, whole_buckets, conditions, Outcome, handed, refused, outcome, read_back, Builds, NoneBuilds, BuildsOver, EveryReadBack}
-use Rattle.cycle.specs.declared.Built.{Built}
-use Rattle.cycle.specs.declared.Built.TheVariants.{Cycle, Refused as RefusedBuilding}
-use Rattle.cycle.specs.declared.ReadBack.TheVariants.{Lines, Refused}
+use Rattle.cycle.specs.declared.Reason.{Reason}
+use Rattle.cycle.specs.declared.Refusal.{Refusal}
+use Rattle.cycle.specs.declared.Reason.TheVariants.{SettingsOut, BufferTooShort, ImageLengthOut, NoListBuilds}
 use Rattle.cycle.proofs.Building.Accepted.{Accepted, laid}
 use Rattle.cycle.proofs.Building.Outcomes.{answered, accepted}
 use Rattle.cycle.proofs.Building.BuiltImage.{length_image}
@@ -32,13 +34,13 @@ use Rattle.cycle.proofs.ReadingBack.BuildsUnique.{sent_list_lem}
 -- ---- the test is the relation
 
 -- an answer with a cycle
-record OfCycle (b : Built) : Type 0 where
+record OfCycle (b : Result ℕ Refusal) : Type 0 where
   n : ℕ
-  is : b ≡ Cycle n
+  is : b ≡ Ok n
 
-of_cycle : (b : Built) → is_cycle b ≡ true → OfCycle b
-of_cycle (Cycle n) h = record { n = n; is = refl }
-of_cycle (RefusedBuilding number place) h = absurd (true≢false (sym h))
+of_cycle : (b : Result ℕ Refusal) → is_cycle b ≡ true → OfCycle b
+of_cycle (Ok n) h = record { n = n; is = refl }
+of_cycle (Err r) h = absurd (true≢false (sym h))
 
 module _ (s : Settings) (list bytes : List ℕ) where
   pub builds_true : Builds s list bytes → builds s list bytes ≡ true
@@ -47,7 +49,7 @@ module _ (s : Settings) (list bytes : List ℕ) where
 
   -- the image's length is that of its buckets
   pub cycle_long :
-      (n : ℕ) → (build s list (length bytes)).answer ≡ Cycle n → (build s list (length bytes)).output ≡ bytes →
+      (n : ℕ) → (build s list (length bytes)).answer ≡ Ok n → (build s list (length bytes)).output ≡ bytes →
       length bytes ≡ 240 * n
   cycle_long n h w =
       let o = answered s list (length bytes) n h in
@@ -63,7 +65,7 @@ module _ (s : Settings) (list bytes : List ℕ) where
       let w : (build s list (length bytes)).output ≡ bytes = same_eq (build s list (length bytes)).output bytes told.1 in
       let n_is : length bytes / 240 ≡ c.n =
       ap (λ k. k / 240) (cycle_long c.n c.is w ∙ mul_comm 240 c.n) ∙ mul-div_cancel c.n {n = 240} (lit< tt) in
-      record { answers = c.is ∙ ap Cycle (sym n_is); writes = w }
+      record { answers = c.is ∙ ap Ok (sym n_is); writes = w }
 
   -- settings and length of an image that a list builds
   pub built_settings : Builds s list bytes → settings_fit s ≡ true
@@ -91,7 +93,7 @@ module _ (s : Settings) (bytes : List ℕ) (room : ℕ) where
   -- what is answered by these tests: settings and length fit, the list held builds the image, and it is longer than the room
   abbrev told : Bool → Bool → Bool → Bool → Outcome
   told fit whole built over =
-      outcome (first_refusal (row 1 (not fit) ∷ row 11 (not whole) ∷ row 13 (not built) ∷ row 7 over ∷ [])) (sent_list bytes)
+      outcome (first_refusal (row SettingsOut (not fit) ∷ row ImageLengthOut (not whole) ∷ row NoListBuilds (not built) ∷ row BufferTooShort over ∷ [])) (sent_list bytes)
 
   -- these tests
   abbrev whole_is : Bool
@@ -114,17 +116,22 @@ module _ (s : Settings) (bytes : List ℕ) (room : ℕ) where
     is_built : built ≡ wanted
     is_over : wanted ≡ true → over ≡ excess
 
-  other_number : {x y place there : ℕ} {A : Type 0} → (x ≡ y → ⊥) → Refused x place ≡ Refused y there → A
-  other_number {x} {y} f h = let e : x ≡ y = cc in absurd (f e)
+  -- an answer's number, 0 without a refusal
+  abbrev number_of : Result ℕ Refusal → ℕ
+  number_of (Ok c) = 0
+  number_of (Err r) = number r.reason
 
-  no_refusal : {x place c : ℕ} {A : Type 0} → Refused x place ≡ Lines c → A
+  other_reason : {x y : Reason} {place there : ℕ} {A : Type 0} → (number x ≡ number y → ⊥) → ◌≡◌ {A = Result ℕ Refusal} (Err (refusal x place)) (Err (refusal y there)) → A
+  other_reason f h = absurd (f (ap number_of h))
+
+  no_refusal : {r : Refusal} {c : ℕ} {A : Type 0} → Err r ≡ Ok c → A
   no_refusal h = let z : ◌≡◌ {A = ℕ} 0 1 = cc in absurd (omega arith)
 
-  no_lines : {x place c : ℕ} {A : Type 0} → Lines c ≡ Refused x place → A
+  no_lines : {r : Refusal} {c : ℕ} {A : Type 0} → Ok c ≡ Err r → A
   no_lines h = let z : ◌≡◌ {A = ℕ} 0 1 = cc in absurd (omega arith)
 
   shown_lines :
-      (fit whole built over : Bool) (c : ℕ) → (told fit whole built over).answer ≡ Lines c → Shown fit whole built over true false
+      (fit whole built over : Bool) (c : ℕ) → (told fit whole built over).answer ≡ Ok c → Shown fit whole built over true false
   shown_lines false whole built over c h = no_refusal h
   shown_lines true false built over c h = no_refusal h
   shown_lines true true false over c h = no_refusal h
@@ -132,30 +139,30 @@ module _ (s : Settings) (bytes : List ℕ) (room : ℕ) where
   shown_lines true true true false c h = record { fits = refl; is_whole = refl; is_built = refl; is_over = λ e. refl }
 
   shown_13 :
-      (fit whole built over : Bool) (place : ℕ) → (told fit whole built over).answer ≡ Refused 13 place →
+      (fit whole built over : Bool) (place : ℕ) → (told fit whole built over).answer ≡ Err (refusal NoListBuilds place) →
       Shown fit whole built over false false
-  shown_13 false whole built over place h = other_number (λ e. omega arith) h
-  shown_13 true false built over place h = other_number (λ e. omega arith) h
-  shown_13 true true true true place h = other_number (λ e. omega arith) h
+  shown_13 false whole built over place h = other_reason (λ e. omega arith) h
+  shown_13 true false built over place h = other_reason (λ e. omega arith) h
+  shown_13 true true true true place h = other_reason (λ e. omega arith) h
   shown_13 true true true false place h = no_lines h
   shown_13 true true false over place h =
       record { fits = refl; is_whole = refl; is_built = refl; is_over = λ e. absurd (true≢false (sym e)) }
 
   shown_7 :
-      (fit whole built over : Bool) (place : ℕ) → (told fit whole built over).answer ≡ Refused 7 place →
+      (fit whole built over : Bool) (place : ℕ) → (told fit whole built over).answer ≡ Err (refusal BufferTooShort place) →
       Shown fit whole built over true true
-  shown_7 false whole built over place h = other_number (λ e. omega arith) h
-  shown_7 true false built over place h = other_number (λ e. omega arith) h
-  shown_7 true true false over place h = other_number (λ e. omega arith) h
+  shown_7 false whole built over place h = other_reason (λ e. omega arith) h
+  shown_7 true false built over place h = other_reason (λ e. omega arith) h
+  shown_7 true true false over place h = other_reason (λ e. omega arith) h
   shown_7 true true true false place h = no_lines h
   shown_7 true true true true place h = record { fits = refl; is_whole = refl; is_built = refl; is_over = λ e. refl }
 
   -- ---- 1 and 11
 
-  pub refuses_1 : settings_fit s ≡ false → read_back s bytes room ≡ refused 1 0
+  pub refuses_1 : settings_fit s ≡ false → read_back s bytes room ≡ refused (refusal SettingsOut 0)
   refuses_1 e = read_told ∙ rw e
 
-  pub refuses_11 : settings_fit s ≡ true → whole_buckets (length bytes) ≡ false → read_back s bytes room ≡ refused 11 0
+  pub refuses_11 : settings_fit s ≡ true → whole_buckets (length bytes) ≡ false → read_back s bytes room ≡ refused (refusal ImageLengthOut 0)
   refuses_11 e w = read_told ∙ rw (e, w)
 
   -- ---- where a list builds the image
@@ -175,7 +182,7 @@ module _ (s : Settings) (bytes : List ℕ) (room : ℕ) where
     hands_out : length list ≤ room → read_back s bytes room ≡ handed (blanked_list list)
     hands_out h = by_room ∙ (rw (le-ltb room (length (sent_list bytes)) (rw long_held h)) (ap handed held))
 
-    too_short : room < length list → read_back s bytes room ≡ refused 7 0
+    too_short : room < length list → read_back s bytes room ≡ refused (refusal BufferTooShort 0)
     too_short h = by_room ∙ rw (lt-ltb room (length (sent_list bytes)) (rw long_held h))
 
   -- ---- where none does
@@ -188,12 +195,12 @@ module _ (s : Settings) (bytes : List ℕ) (room : ℕ) where
       by false e = refl
 
   turns_down :
-      settings_fit s ≡ true → whole_buckets (length bytes) ≡ true → NoneBuilds s bytes → read_back s bytes room ≡ refused 13 0
+      settings_fit s ≡ true → whole_buckets (length bytes) ≡ true → NoneBuilds s bytes → read_back s bytes room ≡ refused (refusal NoListBuilds 0)
   turns_down e w f = read_told ∙ rw (e, w, none_held f)
 
   -- ---- what an answer tells
 
-  module _ (c : ℕ) (h : (read_back s bytes room).answer ≡ Lines c) where
+  module _ (c : ℕ) (h : (read_back s bytes room).answer ≡ Ok c) where
     lines_shown : Shown (settings_fit s) whole_is built_is over_is true false
     lines_shown = shown_lines (settings_fit s) whole_is built_is over_is c (sym (ap (λ o. o.answer) read_told) ∙ h)
 
@@ -214,12 +221,12 @@ module _ (s : Settings) (bytes : List ℕ) (room : ℕ) where
 
     pub accepted_count : c ≡ length (read_back s bytes room).output / 27
     accepted_count =
-        let answer : Lines c ≡ Lines (length (sent_list bytes) / 27) = sym h ∙ ap (λ o. o.answer) held_out in
+        let answer : ◌≡◌ {A = Result ℕ Refusal} (Ok c) (Ok (length (sent_list bytes) / 27)) = sym h ∙ ap (λ o. o.answer) held_out in
         let e : c ≡ length (sent_list bytes) / 27 = cc in
         e ∙ ap (λ o. length o.output / 27) (sym held_out)
 
   none_list :
-      (place : ℕ) → (read_back s bytes room).answer ≡ Refused 13 place →
+      (place : ℕ) → (read_back s bytes room).answer ≡ Err (refusal NoListBuilds place) →
       (settings_fit s ≡ true) × (whole_buckets (length bytes) ≡ true) × NoneBuilds s bytes
   none_list place h =
       let w = shown_13 (settings_fit s) whole_is built_is over_is place (sym (ap (λ o. o.answer) read_told) ∙ h) in (
@@ -231,7 +238,7 @@ module _ (s : Settings) (bytes : List ℕ) (room : ℕ) where
             ∙ (sym (ap (λ l. builds s l bytes) (sent_list_lem s list bytes g)) ∙ w.is_built)),
       )
 
-  over_list : (place : ℕ) → (read_back s bytes room).answer ≡ Refused 7 place → BuildsOver s bytes room
+  over_list : (place : ℕ) → (read_back s bytes room).answer ≡ Err (refusal BufferTooShort place) → BuildsOver s bytes room
   over_list place h =
       let w = shown_7 (settings_fit s) whole_is built_is over_is place (sym (ap (λ o. o.answer) read_told) ∙ h) in
       record {

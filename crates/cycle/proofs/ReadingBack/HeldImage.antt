@@ -12,7 +12,8 @@ use Rattle.columns.specs.Lists.{up}
 use Rattle.buckets.specs.declared.Line.{Line}
 use Rattle.buckets.specs.ListLine.{spelled, list_lines}
 use Rattle.buckets.specs.Lengths.{lines_most, bucket_length, buckets_most}
-use Rattle.cycle.specs.Tree.{Settings, Plan, plan, lines_of, last_tag}
+use Rattle.cycle.specs.Tree.{Plan, plan, lines_of, last_tag}
+use Rattle.cycle.specs.declared.Settings.{Settings}
 use Rattle.cycle.specs.Layouts.{Slot}
 use Rattle.cycle.specs.Cycle.{follow_on_from, cycle_size, image, bucket_at}
 use Rattle.cycle.specs.Building.{copies_fit}

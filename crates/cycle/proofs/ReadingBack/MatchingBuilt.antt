@@ -21,11 +21,12 @@ use Rattle.buckets.specs.Lengths.{line_length, lines_most, bucket_length}
 use Rattle.buckets.proofs.Good.{GoodData, bucket_good}
 use Rattle.buckets.proofs.Buckets.{print_of_read_bucket}
 use Rattle.buckets.proofs.Lists.{length_printed, lines_of_printed, none_misprinted_of_printed, rising_none_falls}
-use Rattle.cycle.specs.Tree.{Settings, Plan, plan, lines_of, last_tag, first_tag}
+use Rattle.cycle.specs.Tree.{Plan, plan, lines_of, last_tag, first_tag}
+use Rattle.cycle.specs.declared.Settings.{Settings}
 use Rattle.cycle.specs.Cycle.{follow_on_from, buckets, cycle_size, image, bucket_at}
 use Rattle.cycle.specs.Building.{copies_fit, settings_fit}
 use Rattle.cycle.specs.ReadingBack.{Builds}
-use Rattle.cycle.specs.declared.Built.TheVariants.{Cycle}
+use Rattle.std.specs.Prelude.{Ok}
 use Rattle.cycle.specs.declared.Figures.{Figures}
 use Rattle.cycle.specs.declared.Source.TheVariants.{Image as InImage}
 use Rattle.cycle.specs.Cycle.{first_place}
@@ -206,6 +207,6 @@ module _ (s : Settings) (f : Figures) (bytes : List ℕ) (fit : settings_fit s �
       (ap copies_fit plans ∙ copies) (omega (arith, n_is, ready.size_high)) (omega (arith, n_is, long)) in
       let back : length bytes / bucket_length ≡ f.size = rw (long, mul_comm bucket_length f.size) (mul-div_cancel f.size {n = bucket_length} (lit< tt)) in
       record {
-        answers = ap (λ o. o.answer) built ∙ ap Cycle (n_is ∙ sym back);
+        answers = ap (λ o. o.answer) built ∙ ap Ok (n_is ∙ sym back);
         writes = ap (λ o. o.output) built ∙ (ap image plans ∙ image_same t fine.sound bytes same (long ∙ ap (λ c. bucket_length * c) (sym size)));
       }

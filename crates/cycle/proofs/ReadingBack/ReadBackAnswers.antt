@@ -13,11 +13,15 @@ use Rattle.columns.specs.Lists.{joined, put, onto}
 use Rattle.columns.proofs.Strict.{and_false}
 use Rattle.buckets.specs.ListLine.{print_line, list_lines, blanked_list}
 use Rattle.buckets.proofs.Lists.{length_printed, printed_stays}
-use Rattle.cycle.specs.Tree.{Settings, settings}
+use Rattle.cycle.specs.Tree.{settings}
+use Rattle.cycle.specs.declared.Settings.{Settings}
 use Rattle.cycle.specs.Cycle.{cycle_size}
 use Rattle.cycle.specs.Building.{copies_fit, settings_fit}
 use Rattle.cycle.specs.ReadingBack.{whole_buckets, Outcome, handed, refused, read_back, Builds}
-use Rattle.cycle.specs.declared.ReadBack.TheVariants.{Lines, Refused}
+use Rattle.std.specs.Prelude.{Ok, Err}
+use Rattle.cycle.specs.Refusals.{refusal}
+use Rattle.cycle.specs.declared.Reason.TheVariants.{BufferTooShort}
+use Rattle.cycle.specs.declared.Refusal.{Refusal}
 use Rattle.cycle.specs.declared.Figures.{Figures}
 use Rattle.cycle.specs.declared.Source.TheVariants.{Image as InImage}
 use Rattle.cycle.specs.Inner.Held.{plan_of, Shaped, sized, Trees, lines_held, plan_in}
@@ -67,10 +71,10 @@ module _ (c : ℕ) where
 
 -- a refusal writes nothing
 pub refuses :
-    (number place : ℕ) (o : Outcome) (d : List ℕ) → o ≡ refused number place →
-    (Refused number place ≡ o.answer) × (d ≡ onto o.output d)
+    (r : Refusal) (o : Outcome) (d : List ℕ) → o ≡ refused r →
+    (Err r ≡ o.answer) × (d ≡ onto o.output d)
 unfolding onto
-refuses number place o d e = (sym (ap (λ r. r.answer) e), sym (ap (λ r. onto r.output d) e))
+refuses r o d e = (sym (ap (λ q. q.answer) e), sym (ap (λ q. onto q.output d) e))
 
 -- ---- condition 13
 
@@ -104,13 +108,13 @@ module _ (s : Settings) (f : Figures) (bytes : List ℕ) (fit : settings_fit s �
       let held = length_held f bytes in
       length_printed (lines_held f InImage bytes) ∙ omega (arith, held)
 
-  pub room_refused : (room : ℕ) → room < 27 * f.lines → read_back s bytes room ≡ refused 7 0
+  pub room_refused : (room : ℕ) → room < 27 * f.lines → read_back s bytes room ≡ refused (refusal BufferTooShort 0)
   room_refused room h =
       (every_read_back s bytes room).refuses_7 (joined print_line (lines_held f InImage bytes)) built (omega (arith, length_list))
 
   pub list_written :
       (d out : List ℕ) → 27 * f.lines ≤ length d → out ≡ put d 0 (list_text f bytes 0 f.lines) →
-      (Lines f.lines ≡ (read_back s bytes (length d)).answer) × (out ≡ onto (read_back s bytes (length d)).output d)
+      (Ok f.lines ≡ (read_back s bytes (length d)).answer) × (out ≡ onto (read_back s bytes (length d)).output d)
   unfolding put onto plan_in plan_of
   list_written d out h e =
       let list : List ℕ = joined print_line (lines_held f InImage bytes) in
@@ -121,7 +125,7 @@ module _ (s : Settings) (f : Figures) (bytes : List ℕ) (fit : settings_fit s �
       let stays : blanked_list list ≡ list = printed_stays (lines_held f InImage bytes) (held_accepted f bytes w.ready datas).lines_fit in
       let all : read_back s bytes (length d) ≡ handed list =
       (every_read_back s bytes (length d)).accepts list built (omega (arith, length_list)) ∙ ap handed stays in (
-        ap Lines (sym count) ∙ sym (ap (λ o. o.answer) all),
+        ap Ok (sym count) ∙ sym (ap (λ o. o.answer) all),
         e
             ∙ (ap (put d 0) (text_list f bytes w datas)
             ∙ (ap (λ k. list ++ drop k d) (zero-add (length list)) ∙ sym (ap (λ o. onto o.output d) all))),

@@ -16,11 +16,12 @@ use Rattle.cycle.specs.Building
 use Rattle.cycle.specs.ReadingBack
 use Rattle.columns.specs.Lists.{joined}
 use Rattle.buckets.specs.ListLine.{print_line}
-use Rattle.cycle.specs.Tree.{Settings, Plan, levels}
+use Rattle.cycle.specs.Tree.{Plan, levels}
+use Rattle.cycle.specs.declared.Settings.{Settings}
 use Rattle.cycle.specs.Cycle.{cycle_size}
 use Rattle.cycle.specs.Building.{build}
 use Rattle.cycle.specs.ReadingBack.{read_back}
-use Rattle.cycle.specs.declared.ReadBack.TheVariants.{Lines}
+use Rattle.std.specs.Prelude.{Ok}
 
 -- every definition that these computations open
 unfoldable pub opened : Unit {0}
@@ -45,11 +46,11 @@ plain = record { n = 2; p = 1; layout = 1; copies = 0 }
 
 -- the number of lines is the list's own, whatever N
 pub two_lines_read_back :
-    (read_back plain (build plain (list_of (3 ∷ 5 ∷ [])) 720).output 54).answer ≡ Lines 2
+    (read_back plain (build plain (list_of (3 ∷ 5 ∷ [])) 720).output 54).answer ≡ Ok 2
 unfolding plain list_of opened
 two_lines_read_back = refl
 
 pub three_lines_read_back :
-    (read_back plain (build plain (list_of (3 ∷ 5 ∷ 5 ∷ [])) 1440).output 81).answer ≡ Lines 3
+    (read_back plain (build plain (list_of (3 ∷ 5 ∷ 5 ∷ [])) 1440).output 81).answer ≡ Ok 3
 unfolding plain list_of opened
 three_lines_read_back = refl

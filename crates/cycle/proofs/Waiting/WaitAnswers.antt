@@ -4,28 +4,28 @@
 use mathlib.Core.Path.{◌≡◌, refl, sym, ap, ◌∙◌}
 use Prim.Native.Nat.{ℕ, ◌*◌, ◌≤◌}
 use native.Mathlib.Omega.{arith}
-use Rattle.std.specs.Prelude.{Option, None, Some}
+use Rattle.std.specs.Prelude.{Option, None, Some, Ok, Err}
 use mathlib.Core.List.{List, [], ◌∷◌, ◌++◌}
 use lib.Dec.{ltb, eqb}
 use lib.ListN.{length}
 use borrow.Author.Tests.{le-ltb, ltb-false, eqb-false, eq-eqb, ne_eqb}
 use Rattle.buckets.specs.ListLine.{list_lines}
 use Rattle.buckets.specs.Lengths.{bucket_length, buckets_most}
-use Rattle.cycle.specs.Tree.{Settings, Plan, plan}
+use Rattle.cycle.specs.Tree.{Plan, plan}
+use Rattle.cycle.specs.declared.Settings.{Settings}
 use Rattle.cycle.specs.Cycle.{cycle_size}
-use Rattle.cycle.specs.Refusals.{Refusal, Condition, refusal, first_refusal}
+use Rattle.cycle.specs.Refusals.{Condition, refusal, first_refusal, outcome}
 use Rattle.cycle.specs.Building as building
 use Rattle.cycle.specs.Building.{settings_out, list_length_out, line_misprinted, tag_falls, copies_out, cycle_too_long, buffer_too_short}
 use Rattle.cycle.specs.Judging.{figures_of, judge}
 use Rattle.cycle.specs.Waits as waits
-use Rattle.cycle.specs.Waits.{no_line, wait_sum, outcome}
+use Rattle.cycle.specs.Waits.{no_line, wait_sum}
 use Rattle.cycle.specs.declared.Figures.{Figures}
 use Rattle.cycle.specs.declared.WaitSum.{WaitSum}
-use Rattle.cycle.specs.declared.Judged.TheVariants.{Cycle, Refused}
-use Rattle.cycle.specs.declared.Waited.TheVariants as Waited
+use Rattle.cycle.specs.declared.Refusal.{Refusal}
 use Rattle.cycle.specs.Inner.Held.{plan_of}
-use Rattle.cycle.proofs.Basics.Conditions.{none_not_some, none_holds, test_fails, none_before, first_stands, none_both}
-use Rattle.cycle.proofs.Building.Answering.{judged_refusal, judged_cycle}
+use Rattle.cycle.specs.declared.Reason.TheVariants.{NoLine}
+use Rattle.cycle.proofs.Basics.Conditions.{none_not_some, none_holds, test_fails, none_before, first_stands, none_both, refused_by, passed_by}
 
 -- room for the longest cycle
 abbrev pub room_most : ℕ
@@ -61,7 +61,7 @@ module _ (s : Settings) (list : List ℕ) where
       let front : List Condition = settings_out s ∷ list_length_out list ∷ line_misprinted list ∷ tag_falls list ∷ copies_out t ∷ [] in
       let last = none_both front (cycle_too_long t ∷ []) h in
       let six = none_holds (cycle_too_long t) [] last.1 in
-      ltb-false buckets_most (cycle_size t) (test_fails 6 (ltb buckets_most (cycle_size t)) six.first)
+      ltb-false buckets_most (cycle_size t) (test_fails (ltb buckets_most (cycle_size t)) six.first)
 
   no_seventh : first_refusal (first_six s list) ≡ None → first_refusal (building.conditions s list room_most) ≡ None
   no_seventh h =
@@ -93,24 +93,22 @@ module _ (s : Settings) (list : List ℕ) where
   passed_there h =
       let told = none_both (first_six s list) (no_line list ∷ []) (sym (ap first_refusal waits_split) ∙ h) in
       let no = none_holds (no_line list) [] told.1 in
-      let some = eqb-false (length (list_lines list)) 0 (test_fails 17 (eqb (length (list_lines list)) 0) no.first) in
+      let some = eqb-false (length (list_lines list)) 0 (test_fails (eqb (length (list_lines list)) 0) no.first) in
       (no_seventh told.0, omega (arith, some))
 
   -- ---- the answers
 
-  pub waits_refused :
-      (number place : ℕ) → judge s list room_most ≡ Refused number place →
-      waits.numbers (Waited.Refused number place) ≡ waits.numbers (waits.waits s list)
+  pub waits_refused : (r : Refusal) → judge s list room_most ≡ Err r → Err r ≡ waits.waits s list
   unfolding judge waits.waits
-  waits_refused number place h =
+  waits_refused r h =
       let t : Plan = plan s (list_lines list) in
-      let e = judged_refusal (first_refusal (building.conditions s list room_most)) (figures_of t) number place h in
-      sym (ap (λ o. waits.numbers (outcome o (wait_sum t))) (refused_alike (refusal number place) e))
+      let e = refused_by (first_refusal (building.conditions s list room_most)) (figures_of t) r h in
+      sym (ap (λ o. outcome o (wait_sum t)) (refused_alike r e))
 
-  module _ (f : Figures) (h : judge s list room_most ≡ Cycle f) where
+  module _ (f : Figures) (h : judge s list room_most ≡ Ok f) where
     none_and_figures : (first_refusal (building.conditions s list room_most) ≡ None) × (figures_of (plan s (list_lines list)) ≡ f)
     unfolding judge
-    none_and_figures = judged_cycle (first_refusal (building.conditions s list room_most)) (figures_of (plan s (list_lines list))) f h
+    none_and_figures = passed_by (first_refusal (building.conditions s list room_most)) (figures_of (plan s (list_lines list))) f h
 
     lines_are : length (list_lines list) ≡ f.lines
     unfolding figures_of plan
@@ -120,20 +118,20 @@ module _ (s : Settings) (list : List ℕ) where
     plan_is = sym (ap (λ g. plan_of g (list_lines list)) none_and_figures.1) ∙ figures_plan s list
 
     -- 17
-    pub waits_no_line : f.lines ≡ 0 → waits.numbers (Waited.Refused 17 0) ≡ waits.numbers (waits.waits s list)
+    pub waits_no_line : f.lines ≡ 0 → Err (refusal NoLine 0) ≡ waits.waits s list
     unfolding waits.waits
     waits_no_line e =
         let t : Plan = plan s (list_lines list) in
-        let holds : first_refusal (waits.conditions s list) ≡ Some (refusal 17 0) =
+        let holds : first_refusal (waits.conditions s list) ≡ Some (refusal NoLine 0) =
         passed_alike none_and_figures.0 ∙ rw (eq-eqb (length (list_lines list)) 0 (lines_are ∙ e)) in
-        sym (ap (λ o. waits.numbers (outcome o (wait_sum t))) holds)
+        sym (ap (λ o. outcome o (wait_sum t)) holds)
 
     pub waits_summed :
         (f.lines ≡ 0 → ⊥) → (w : WaitSum) → w ≡ wait_sum (plan_of f (list_lines list)) →
-        waits.numbers (Waited.Sum w) ≡ waits.numbers (waits.waits s list)
+        Ok w ≡ waits.waits s list
     unfolding waits.waits
     waits_summed some_line w e =
         let t : Plan = plan s (list_lines list) in
         let passes : first_refusal (waits.conditions s list) ≡ None =
         passed_alike none_and_figures.0 ∙ rw (ne_eqb (length (list_lines list)) 0 (λ z. some_line (sym lines_are ∙ z))) in
-        ap (λ x. waits.numbers (Waited.Sum x)) (e ∙ ap wait_sum plan_is) ∙ sym (ap (λ o. waits.numbers (outcome o (wait_sum t))) passes)
+        ap Ok (e ∙ ap wait_sum plan_is) ∙ sym (ap (λ o. outcome o (wait_sum t)) passes)

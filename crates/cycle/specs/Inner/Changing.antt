@@ -1,24 +1,13 @@
--- What the contracts of the functions that change a list say: what is found before the change, where a line stands, and what the
--- list's buffer holds behind it.
+-- What the contracts of the functions that change a list say: where a line stands, and what the list's buffer holds behind it.
 -- Assumes nothing.
-use Rattle.std.specs.Prelude.{◌≡◌, ℕ, suc, ◌+◌, ◌-◌, Bool, true, List, [], ◌∷◌, ◌++◌, ltb, take, drop}
+use Rattle.std.specs.Prelude.{ℕ, suc, ◌+◌, ◌-◌, Bool, List, [], ◌∷◌, ◌++◌, ltb, take, drop}
 use Rattle.std.specs.Prelude.{Option, None, Some}
 use Rattle.columns.specs.Lists.{pick, onto}
 use Rattle.columns.specs.PrintedNumbers.{blanks}
 use Rattle.buckets.specs.declared.Line.{Line}
-use Rattle.buckets.specs.Inner.Columns.{PlainList}
 use Rattle.buckets.specs.Lengths.{line_length}
-use Rattle.cycle.specs.Refusals.{Condition, refusal, first_refusal}
 use Rattle.cycle.specs.declared.Counts.{Counts}
 use Rattle.cycle.specs.declared.Figures.{Figures}
-use Rattle.cycle.specs.declared.changes.GivenJudged.{GivenJudged}
-use Rattle.cycle.specs.declared.changes.GivenJudged.TheVariants.{Passed, Refused}
-
--- what conditions come to: the first that holds, or none of them, and where the flag says so no number of the list has a leading
--- zero
-abbrev pub GivenTold : List Condition → List ℕ → GivenJudged → Type 0
-GivenTold cs list (Refused number place) = first_refusal cs ≡ Some (refusal number place)
-GivenTold cs list (Passed plain) = (first_refusal cs ≡ None) × (plain ≡ true → PlainList list)
 
 -- ---- places
 

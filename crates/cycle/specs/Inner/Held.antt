@@ -189,11 +189,6 @@ pub record AcceptedList (f : Figures) (list : List ℕ) : Type 0 where
   pub printed : misprint_from 0 (cut_lines list) ≡ None
   pub rising : fall_from 0 0 (list_lines list) ≡ None
 
--- a line's place, or the number of lines where there is none
-abbrev pub place_or : ℕ → Option ℕ → ℕ
-place_or lines None = lines
-place_or lines (Some i) = i
-
 -- the text is long enough to hold them
 abbrev pub TextFits : Figures → Source → ℕ → Type 0
 TextFits f InList c = c ≡ line_length * f.lines

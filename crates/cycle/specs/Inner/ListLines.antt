@@ -1,15 +1,13 @@
--- What is found of a list's lines before its figures are looked at.
+-- What is found of a list and a given line before figures are looked at.
 -- Assumes nothing.
-use Rattle.std.specs.Prelude.{◌≡◌, ℕ, true, List}
-use Rattle.std.specs.Prelude.{None, Some}
-use Rattle.buckets.specs.ListLine.{cut_lines, list_lines, misprint_from, fall_from}
+use Rattle.std.specs.Prelude.{◌≡◌, ℕ, Bool, true, List}
+use Rattle.std.specs.Prelude.{None, Some, Result, Ok, Err}
 use Rattle.buckets.specs.Inner.Columns.{PlainList}
-use Rattle.cycle.specs.declared.conditions.LinesJudged.{LinesJudged}
-use Rattle.cycle.specs.declared.conditions.LinesJudged.TheVariants.{Misprinted, Falls, Passed}
+use Rattle.cycle.specs.Refusals.{Condition, first_refusal}
+use Rattle.cycle.specs.declared.Refusal.{Refusal}
 
--- 3 holds at a place; 3 does not and 4 does; neither does, and where the flag says so no number has a leading zero
-abbrev pub LinesTold : List ℕ → LinesJudged → Type 0
-LinesTold list (Misprinted place) = misprint_from 0 (cut_lines list) ≡ Some place
-LinesTold list (Falls place) = (misprint_from 0 (cut_lines list) ≡ None) × (fall_from 0 0 (list_lines list) ≡ Some place)
-LinesTold list (Passed plain) =
-    (misprint_from 0 (cut_lines list) ≡ None) × (fall_from 0 0 (list_lines list) ≡ None) × (plain ≡ true → PlainList list)
+-- what conditions come to: the first that holds, or none of them, and where the flag says so no number of the list has a leading
+-- zero
+abbrev pub Told : List Condition → List ℕ → Result Bool Refusal → Type 0
+Told cs list (Ok plain) = (first_refusal cs ≡ None) × (plain ≡ true → PlainList list)
+Told cs list (Err r) = first_refusal cs ≡ Some r

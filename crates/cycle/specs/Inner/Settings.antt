@@ -1,7 +1,7 @@
 -- Settings within their ranges, and the figures that they give.
 -- Assumes nothing.
 use Rattle.std.specs.Prelude.{◌≡◌, ◌≤◌}
-use Rattle.cycle.specs.Tree.{Settings}
+use Rattle.cycle.specs.declared.Settings.{Settings}
 use Rattle.cycle.specs.declared.Figures.{Figures}
 use Rattle.cycle.specs.Inner.Held.{Shaped}
 

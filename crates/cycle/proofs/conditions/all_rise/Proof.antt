@@ -20,7 +20,7 @@ use Rattle.buckets.proofs.LenientLines.{line_reads, reads_line}
 use Rattle.buckets.proofs.ListLines.{print_of_read_plain}
 use Rattle.buckets.proofs.Lists.{length_cut_lines, length_list_lines}
 use Rattle.cycle.proofs.ReadingBack.ImageLines.{spelled_front}
-use Rattle.cycle.proofs.Building.Refusals.{all_plain, count_lines, plain_read, plains_read, line_read, lines_read_lem, tag_rises, tags_rise, no_place_misprint, no_place_fall}
+use Rattle.cycle.proofs.Building.Refusals.{all_plain, count_lines, plain_read, plains_read, line_read, lines_read_lem, tag_rises, tags_rise}
 use Rattle.cycle.proofs.conditions.all_rise.Statement.{statement}
 use Rattle.cycle.proofs.conditions.all_rise.Tie as tie
 
@@ -100,10 +100,8 @@ returns_3 c told =
     let list = start.args.list.now in
     let lines = start.args.lines in
     let i = loop.loop-i.i in (
-      no_place_misprint 0 (cut_lines list) lines (omega (arith, length_cut_lines list, count_lines list lines start.requires.0))
-          (omega (arith, lines_read_lem list lines start.requires.0 i loop.loop-i.invariant.1 c.loop-i-test.false)),
-      no_place_fall 0 0 (list_lines list) lines (omega (arith, length_list_lines list, count_lines list lines start.requires.0))
-          (omega (arith, tags_rise list lines start.requires.0 i loop.loop-i.last loop.loop-i.invariant.2 c.loop-i-test.false)),
+      sym (lines_read_lem list lines start.requires.0 i loop.loop-i.invariant.1 c.loop-i-test.false),
+      sym (tags_rise list lines start.requires.0 i loop.loop-i.last loop.loop-i.invariant.2 c.loop-i-test.false),
       λ e. plains_read list lines start.requires.0 i (loop.loop-i.invariant.3 e) c.loop-i-test.false,
     )
 

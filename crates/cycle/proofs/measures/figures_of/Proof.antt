@@ -8,7 +8,7 @@ use Rattle.cycle.proofs.measures.figures_of.Tie as tie
 
 levels_of_requires : tie.Need-levels_of-requires
 levels_of_requires c κs =
-    let few = few_data c.before.args.lines c.before.args.p (omega arith) (omega arith) in
+    let few = few_data c.before.args.lines c.before.args.settings.p (omega arith) (omega arith) in
     (omega arith, omega arith, rw c.up-d.ensures few)
 
 pub figures_of_spec : {M : Type 1} → statement M
