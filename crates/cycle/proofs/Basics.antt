@@ -1,4 +1,4 @@
--- Arithmetic, lists in a row, tests that decide, and conditions in order.
+-- Arithmetic, lists in a row, tests that decide, conditions in order, and the answers that their numbers tell.
 pub mod Ranges
 pub mod Least
 pub mod Lasts
@@ -6,3 +6,4 @@ pub mod Powers
 pub mod Filled
 pub mod Deciding
 pub mod Conditions
+pub mod Telling
