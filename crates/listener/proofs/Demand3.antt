@@ -3,16 +3,15 @@
 use mathlib.Core.Path.{◌≡◌, sym, ◌∙◌, ap, subst}
 use mathlib.Core.Logic.{⊎_elim}
 use Prim.Native.Nat.{ℕ, zero, suc, ◌+◌, ◌*◌, ◌/◌, ◌%◌, ◌≤◌, ◌<◌}
-use mathlib.Core.Bool.{true, false, not}
+use mathlib.Core.Bool.{true, false}
 use Rattle.std.specs.Prelude.{None, Some, Ok, Err}
 use mathlib.Core.List.{List, []}
 use native.Mathlib.Nat.{add_comm, mod-eq_of_lt, mod_self, mod-lt, mod-add-mod}
 use native.Mathlib.Numerals.{add-one}
 use native.Mathlib.Omega.{arith}
-use lib.Dec.{leb}
 use lib.ListN.{length}
 use borrow.Author.Tests.{lt-leb, le-ltb, lt-ltb}
-use Rattle.columns.specs.Lists.{pick, joined}
+use Rattle.columns.specs.Lists.{joined}
 use Rattle.buckets.specs.declared.Line.{Line}
 use Rattle.buckets.specs.ListLine.{print_line, list_lines}
 use Rattle.cycle.specs.Tree.{Plan, plan}
@@ -74,7 +73,7 @@ pub past_tests :
     (image : List ℕ) (tune : ℕ) → whole_buckets (length image) ≡ true → tune < length image / 240 →
     first_refusal (tune_in_conditions image tune) ≡ None
 unfolding tune_in_conditions
-past_tests image tune w l = rw (w, lt-leb (length image / 240) tune l) refl
+past_tests image tune w l = rw (w, lt-leb (length image / 240) tune l)
 
 -- the run beside a hearing that comes to its end
 pub run_beside :

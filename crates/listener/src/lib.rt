@@ -10,9 +10,8 @@ pub mod run;
 mod state;
 mod step;
 
-pub use image::Image;
-
 use cycle::Reason;
+pub use image::Image;
 
 // What a listener awaits: its tune-in bucket, an index bucket, either kind, a data bucket, or nothing any more.
 #[derive(Clone, Copy)]
@@ -91,11 +90,4 @@ pub struct MeanWait {
     pub divisor: u64,
     pub quotient: u64,
     pub remainder: u64,
-}
-
-// What averaging answers: the mean wait, or a refusal's number and place.
-#[derive(Clone, Copy)]
-pub enum Averaged {
-    Mean(MeanWait),
-    Refused(u64, u64),
 }

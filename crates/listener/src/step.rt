@@ -11,6 +11,7 @@ ghost use Rattle.listener.specs.Inner.OnReading.{is_tune_in, SoundHead, SoundInd
 
 use super::{Answer, Listener, Phase, Stepped, choose};
 use buckets::{Bucket, Head, IndexItems, Kind, Line, Reading, reader};
+use cycle::Reason;
 
 // Where a listener's counts stop.
 const COUNT_MOST: u64 = 4294967295;

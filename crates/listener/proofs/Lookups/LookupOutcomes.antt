@@ -1,8 +1,8 @@
 -- A lookup's outcome, condition by condition.
 -- Assumes nothing.
-use mathlib.Core.Path.{◌≡◌, refl, sym, ◌∙◌, ap}
+use mathlib.Core.Path.{◌≡◌, refl, ◌∙◌, ap}
 use mathlib.Core.Bool.{Bool, true, false}
-use Rattle.std.specs.Prelude.{None, Some, Ok, Err}
+use Rattle.std.specs.Prelude.{None, Some, Result, Ok, Err}
 use mathlib.Core.List.{List, [], ◌∷◌}
 use Prim.Native.Nat.{ℕ, ◌*◌, ◌/◌, ◌≤◌, ◌<◌}
 use native.Mathlib.Omega.{arith}
@@ -22,6 +22,7 @@ use Rattle.listener.specs.Lookup.{Finish, found, absent, refused, whole_run, got
 use Rattle.listener.specs.Lookup.{refuse, outcome, lookup}
 use Rattle.listener.specs.Inner.OnRun.{concluded}
 use Rattle.listener.specs.declared.Listener.{Listener}
+use Rattle.listener.specs.declared.Looked.{Looked}
 use Rattle.listener.specs.declared.Looked.TheVariants
 use Rattle.listener.specs.declared.Ending.TheVariants as held
 
@@ -55,6 +56,12 @@ module _ (image : List ℕ) (tag t : ℕ) where
   runs h =
       ap (λ r. refused_or r ran) (none_before (tune_in_conditions image t) (step_refused ran ∷ []) h) ∙ run_told ran
 
+  -- the same over an image that was taken for these bytes
+  pub runs_in :
+      {bytes : List ℕ} {count : ℕ} → first_refusal (tune_in_conditions image t) ≡ None → bytes ≡ image →
+      count ≡ length image / bucket_length → run_over image tag t ≡ whole_run bytes count tag t
+  runs_in h b c = rw (b, c) (runs h)
+
   pub runs_not :
       (r : Refusal) → first_refusal (tune_in_conditions image t) ≡ Some r → run_over image tag t ≡ refused r.reason r.place
   unfolding run_over run_conditions tune_in_conditions
@@ -68,6 +75,11 @@ module _ (image : List ℕ) (tag t : ℕ) where
       (none_before (tune_in_conditions image t)
       (step_refused ran ∷ buffer_too_short room (line_length * length (got_by ran)) ∷ []) h) ∙
       lookup_told ran room
+
+  pub looks_in :
+      (room : ℕ) {bytes : List ℕ} {count : ℕ} → first_refusal (tune_in_conditions image t) ≡ None → bytes ≡ image →
+      count ≡ length image / bucket_length → lookup image tag t room ≡ concluded room (whole_run bytes count tag t)
+  looks_in room h b c = rw (b, c) (looks_up room h)
 
   pub looks_not :
       (room : ℕ) (r : Refusal) → first_refusal (tune_in_conditions image t) ≡ Some r → lookup image tag t room ≡ refuse r
@@ -120,3 +132,13 @@ module _ (room : ℕ) (s : Listener) (got : List Line) where
         output = joined print_line got;
       }
   finds h = rw (le-ltb room (line_length * length got) (has_room h))
+
+abbrev pub answered : Looked → Result Looked Refusal
+answered l = Ok l
+
+pub found_alike :
+    {h h' e e' n n' : ℕ} → h ≡ h' → e ≡ e' → n ≡ n' → answered (TheVariants.Found h e n) ≡ answered (TheVariants.Found h' e' n')
+found_alike a b c = cc
+
+pub absent_alike : {h h' e e' : ℕ} → h ≡ h' → e ≡ e' → answered (TheVariants.Absent h e) ≡ answered (TheVariants.Absent h' e')
+absent_alike a b = cc

@@ -1,10 +1,10 @@
 -- What a lookup's run hands on, as the code holds it. These definitions serve the contracts of private functions alone; the
 -- public ones cite Listener and Lookup.
 -- Assumes nothing.
-use Rattle.std.specs.Prelude.{ℕ, ◌+◌, ◌*◌, ◌/◌, ◌≤◌, ◌<◌, ◌%◌, ◌≡◌, not, List, [], ◌++◌, leb, ltb, length, drop}
+use Rattle.std.specs.Prelude.{ℕ, ◌+◌, ◌*◌, ◌≤◌, ◌<◌, ◌%◌, ◌≡◌, List, [], ◌++◌, ltb, length, drop}
 use Rattle.std.specs.Prelude.{None, Result, Ok, Err}
 use Rattle.columns.specs.Lists.{pick}
-use Rattle.buckets.specs.Lengths.{bucket_length, line_columns_width, line_length, lines_start}
+use Rattle.buckets.specs.Lengths.{line_columns_width, line_length, lines_start}
 use Rattle.buckets.specs.declared.Line.{Line}
 use Rattle.buckets.specs.ListLine.{ended_lines}
 use Rattle.listener.specs.Listener.{start, step, named}

@@ -8,7 +8,7 @@ use Rattle.listener.proofs.Listener.refused.Tie as tie
 
 returns : tie.Need-returns
 unfolding refused stepped
-returns c = ap (λ l. stepped l (Refused c.before.args.number) 0 0) c.ended-listener.ensures
+returns c = ap (λ l. stepped l (Refused c.before.args.reason) 0 0) c.ended-listener.ensures
 
 pub refused_spec : {M : Type 1} → statement M
 refused_spec = tie.close (tie.spec (λ c κs. search rules) returns)

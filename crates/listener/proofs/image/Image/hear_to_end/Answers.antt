@@ -1,9 +1,8 @@
 -- `listener::image::Image::hear_to_end` meets its contract: what is left of the run is that of the definition, and the writing
 -- can begin where no lines were got before.
 -- Assumes nothing.
-use Rattle.std.proofs.Common.{sym, refl, ap, subst, ◌∙◌, arith}
+use Rattle.std.proofs.Common.{refl, ap, Ok, ◌∙◌, arith}
 use Rattle.listener.specs.Lookup.{as_ending}
-use Rattle.listener.specs.Inner.OnRun.{Begins}
 use Rattle.listener.specs.declared.Ending.TheVariants.{Found}
 use Rattle.listener.proofs.Lookups.Runs.{at_start, counted_with, lines_few, after_step, doze_few, onward, fewer_to_go, begins}
 use Rattle.listener.proofs.image.Image.hear_to_end.Goals as goal
@@ -42,22 +41,13 @@ loop-h-preserved-then-lines-eq0 c =
 
 pub returns-in-Found : goal.returns-in-Found
 returns-in-Found c =
-    let f = c.loop-h.invariant.so_far in
-    record {
-      begins = c.loop-h.invariant.begins;
-      ends = ap (Found c.loop-h.h.step.listener) (sym (counted_with f)) ∙ ap as_ending (sym (after_step f c.in-Found.is));
-    }
+    let f = c.loop-h.invariant.so_far in (
+      c.loop-h.invariant.begins,
+      ap as_ending (after_step f c.in-Found.is) ∙ ap (λ n. Ok (Found c.loop-h.h.step.listener n)) (counted_with f),
+    )
 
 pub returns-in-Absent : goal.returns-in-Absent
-returns-in-Absent c =
-    record {
-      begins = c.loop-h.invariant.begins;
-      ends = ap as_ending (sym (after_step c.loop-h.invariant.so_far c.in-Absent.is));
-    }
+returns-in-Absent c = (c.loop-h.invariant.begins, ap as_ending (after_step c.loop-h.invariant.so_far c.in-Absent.is))
 
 pub returns-in-Refused : goal.returns-in-Refused
-returns-in-Refused c =
-    record {
-      begins = c.loop-h.invariant.begins;
-      ends = ap as_ending (sym (after_step c.loop-h.invariant.so_far c.in-Refused.is));
-    }
+returns-in-Refused c = ap as_ending (after_step c.loop-h.invariant.so_far c.in-Refused.is)

@@ -3,7 +3,7 @@
 -- Assumes nothing.
 use Rattle.std.proofs.Common.{arith}
 use Rattle.listener.proofs.Lookups.Runs.{named_few, lines_few, doze_few, fewer_to_go}
-use Rattle.listener.proofs.Lookups.WritingRuns.{Writing, nothing_written, room_with, wrote_at_end, written_onward}
+use Rattle.listener.proofs.Lookups.WritingRuns.{nothing_written, room_with, wrote_at_end, written_onward}
 use Rattle.listener.proofs.image.Image.write_found.Goals as goal
 
 pub loop-d-init : goal.loop-d-init
