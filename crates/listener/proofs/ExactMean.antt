@@ -10,7 +10,8 @@ use lib.ListN.{length}
 use Rattle.columns.specs.Lists.{range}
 use Rattle.buckets.specs.ListLine.{list_lines}
 use Rattle.cycle.specs.Refusals.{first_refusal}
-use Rattle.cycle.specs.Tree.{Settings, plan}
+use Rattle.cycle.specs.Tree.{plan}
+use Rattle.cycle.specs.declared.Settings.{Settings}
 use Rattle.cycle.specs.Cycle.{cycle_size}
 use Rattle.cycle.specs.Waits.{different_tags, total, conditions}
 use Rattle.listener.specs.Mean.{buckets, wait, sum_of_waits, divisor, mean_wait, Exact, EveryMean}

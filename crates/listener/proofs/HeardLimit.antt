@@ -12,7 +12,8 @@ use Rattle.columns.specs.Lists.{pick, any, parts, up}
 use Rattle.columns.proofs.Joined.{length_parts}
 use Rattle.buckets.specs.declared.Line.{Line}
 use Rattle.buckets.specs.ListLine.{list_lines}
-use Rattle.cycle.specs.Tree.{Settings, data_buckets, plan}
+use Rattle.cycle.specs.Tree.{data_buckets, plan}
+use Rattle.cycle.specs.declared.Settings.{Settings}
 use Rattle.cycle.specs.Size.{heard_most}
 use Rattle.cycle.proofs.Building.SizeAgrees.{every_size, heard_given}
 use Rattle.listener.specs.Hearing.{count_if, runs_with}

@@ -8,7 +8,8 @@ use native.Mathlib.Omega.{arith}
 use mathlib.Core.List.{List}
 use borrow.Author.Tests.{lt-ltb, le-ltb}
 use Rattle.buckets.specs.ListLine.{list_lines}
-use Rattle.cycle.specs.Tree.{Settings, Plan, plan}
+use Rattle.cycle.specs.Tree.{Plan, plan}
+use Rattle.cycle.specs.declared.Settings.{Settings}
 use Rattle.cycle.specs.Cycle.{bucket_at, cycle_size}
 use Rattle.listener.specs.Hearing.{Taken, hearing, elapsed_in}
 use Rattle.listener.specs.Demand3.{heard_limit, lines_wanted, end_wanted}

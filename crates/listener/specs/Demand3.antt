@@ -7,7 +7,8 @@ use Rattle.columns.specs.Lists.{joined, every, same}
 use Rattle.buckets.specs.Lengths.{line_length}
 use Rattle.buckets.specs.declared.Line.{Line}
 use Rattle.buckets.specs.ListLine.{print_line, list_lines}
-use Rattle.cycle.specs.Tree.{Settings, plan}
+use Rattle.cycle.specs.Tree.{plan}
+use Rattle.cycle.specs.declared.Settings.{Settings}
 use Rattle.cycle.specs.Size.{heard_most}
 use Rattle.cycle.specs.Building
 use Rattle.cycle.specs.Building.{build}

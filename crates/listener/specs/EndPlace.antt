@@ -7,7 +7,8 @@ use Rattle.std.specs.Prelude.{◌≡◌, ℕ, suc, ◌+◌, ◌-◌, ◌<◌, ma
 use Rattle.std.specs.Prelude.{Some}
 use Rattle.columns.specs.Lists.{pick, least}
 use Rattle.buckets.specs.ListLine.{list_lines}
-use Rattle.cycle.specs.Tree.{Settings, Plan, plan, last_tag}
+use Rattle.cycle.specs.Tree.{Plan, plan, last_tag}
+use Rattle.cycle.specs.declared.Settings.{Settings}
 use Rattle.cycle.specs.Layouts.{slots}
 use Rattle.cycle.specs.Cycle.{to_next, to_next_segment, cycle_size}
 use Rattle.cycle.specs.Cycle.{first_place}

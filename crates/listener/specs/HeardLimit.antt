@@ -2,10 +2,10 @@
 -- Assumes nothing.
 use Rattle.std.specs.Prelude.{◌≡◌, ℕ, List}
 use Rattle.buckets.specs.ListLine.{list_lines}
-use Rattle.cycle.specs.Tree.{Settings}
+use Rattle.cycle.specs.declared.Settings.{Settings}
 use Rattle.cycle.specs.Size.{size, Listed}
 use Rattle.cycle.specs.declared.Dimensions.{Dimensions}
-use Rattle.cycle.specs.declared.Sized.TheVariants.{Cycle}
+use Rattle.std.specs.Prelude.{Ok}
 use Rattle.listener.specs.Hearing.{runs_with}
 use Rattle.listener.specs.Demand3.{heard_limit}
 
@@ -13,6 +13,6 @@ use Rattle.listener.specs.Demand3.{heard_limit}
 -- in c of its data buckets, it is the limit that demand 3 holds a display to
 abbrev pub EveryLimit : Type 0
 EveryLimit =
-    (s : Settings) (lines c : ℕ) (f : Dimensions) → size s lines c ≡ Cycle f →
+    (s : Settings) (lines c : ℕ) (f : Dimensions) → size s lines c ≡ Ok f →
     (list : List ℕ) → Listed lines list → (tag : ℕ) → runs_with s.p tag (list_lines list) ≡ c →
     heard_limit s list tag ≡ f.heard

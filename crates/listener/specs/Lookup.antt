@@ -6,7 +6,9 @@ use Rattle.columns.specs.Lists.{joined}
 use Rattle.buckets.specs.Lengths.{bucket_length, line_length}
 use Rattle.buckets.specs.declared.Line.{Line}
 use Rattle.buckets.specs.ListLine.{print_line}
-use Rattle.cycle.specs.Refusals.{Refusal, Condition, row, row_at, first_refusal}
+use Rattle.cycle.specs.Refusals.{number, Condition, row, first_refusal}
+use Rattle.cycle.specs.declared.Reason.TheVariants.{TuneInOut}
+use Rattle.cycle.specs.declared.Refusal.{Refusal}
 use Rattle.cycle.specs.Building.{buffer_too_short}
 use Rattle.cycle.specs.ReadingBack.{image_length_out}
 use Rattle.listener.specs.Listener.{start, step, named}
@@ -67,36 +69,22 @@ got_by (refused number place) = []
 
 -- 12: "tune-in at or past the image's bucket count"
 abbrev pub tune_in_out : List ℕ → ℕ → Condition
-tune_in_out image t = row 12 (leb (length image / bucket_length) t)
+tune_in_out image t = row TuneInOut (leb (length image / bucket_length) t)
 
--- "the steps' own", by which the run ended; "in a lookup's 8 to 10 the image position of the bucket just heard"
-abbrev pub step_refused : Finish → Condition
-step_refused (found s got) = row_at 0 None
-step_refused (absent s) = row_at 0 None
-step_refused (refused number place) = row_at number (Some place)
-
--- those of a run, which has no buffer: 11, 12, the steps' own
-unfoldable pub run_conditions : List ℕ → ℕ → Finish → List Condition
-run_conditions image t f = image_length_out image ∷ tune_in_out image t ∷ step_refused f ∷ []
-
--- "A lookup: 11, 12, the steps' own, 7."
-unfoldable pub conditions : List ℕ → ℕ → ℕ → Finish → List Condition
-conditions image t room f =
-    image_length_out image ∷
-    tune_in_out image t ∷
-    step_refused f ∷
-    buffer_too_short room (line_length * length (got_by f)) ∷ []
+-- 11 and 12, before a run's steps
+unfoldable pub run_conditions : List ℕ → ℕ → List Condition
+run_conditions image t = image_length_out image ∷ tune_in_out image t ∷ []
 
 -- ---- a run's outcome
 
 abbrev pub refused_or : Option Refusal → Finish → Finish
-refused_or (Some r) f = refused r.number r.place
+refused_or (Some r) f = refused (number r.reason) r.place
 refused_or None f = f
 
+-- 11, 12, and then "the steps' own", by which a run ends; "in a lookup's 8 to 10 the image position of the bucket just heard"
 unfoldable pub run_over : List ℕ → ℕ → ℕ → Finish
 run_over image tag t =
-    let f : Finish = whole_run image (length image / bucket_length) tag t in
-    refused_or (first_refusal (run_conditions image t f)) f
+    refused_or (first_refusal (run_conditions image t)) (whole_run image (length image / bucket_length) tag t)
 
 -- how it ends as the code answers it: the lines by their number
 abbrev pub as_ending : Finish → Ending
@@ -131,17 +119,18 @@ refuse number place = record { answer = TheVariants.Refused number place; output
 -- "On found it writes the matching lines to a lent buffer, each as a 27-byte list line, and returns heard, elapsed and the
 -- number of lines."; "On absent it writes nothing and returns 0 lines"
 abbrev pub outcome : Option Refusal → Finish → Outcome
-outcome (Some r) f = refuse r.number r.place
+outcome last (refused number place) = refuse number place
+outcome (Some r) (found s got) = refuse (number r.reason) r.place
+outcome (Some r) (absent s) = refuse (number r.reason) r.place
 outcome None (found s got) =
     record {
       answer = TheVariants.Found s.heard s.elapsed (length got);
       output = joined print_line got;
     }
 outcome None (absent s) = record { answer = TheVariants.Absent s.heard s.elapsed; output = [] }
-outcome None (refused number place) = refuse number place
 
--- a lookup with a buffer that has room for `room` bytes
+-- a lookup with a buffer that has room for `room` bytes: "A lookup: 11, 12, the steps' own, 7."
 unfoldable pub lookup : List ℕ → ℕ → ℕ → ℕ → Outcome
 lookup image tag t room =
-    let f : Finish = whole_run image (length image / bucket_length) tag t in
-    outcome (first_refusal (conditions image t room f)) f
+    let f : Finish = run_over image tag t in
+    outcome (first_refusal (buffer_too_short room (line_length * length (got_by f)) ∷ [])) f

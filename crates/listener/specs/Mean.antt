@@ -1,11 +1,13 @@
 -- Document 02, C-17, "Mean wait with its remainder": the mean over all hearings, and that each of them takes as long as is added.
 -- Assumes nothing.
 use Rattle.std.specs.Prelude.{◌≡◌, ℕ, ◌+◌, ◌*◌, ◌/◌, ◌%◌, ◌≤◌, ◌<◌, List, [], ◌∷◌, length}
-use Rattle.std.specs.Prelude.{Option, None, Some}
+use Rattle.std.specs.Prelude.{None, Some, Result}
 use Rattle.columns.specs.Lists.{range}
 use Rattle.buckets.specs.ListLine.{list_lines}
-use Rattle.cycle.specs.Refusals.{Refusal, first_refusal}
-use Rattle.cycle.specs.Tree.{Settings, plan}
+use Rattle.cycle.specs.Refusals.{first_refusal, outcome, numbers_of}
+use Rattle.cycle.specs.declared.Settings.{Settings}
+use Rattle.cycle.specs.declared.Refusal.{Refusal}
+use Rattle.cycle.specs.Tree.{plan}
 use Rattle.cycle.specs.Cycle.{cycle_size, image}
 use Rattle.cycle.specs.Building as building
 use Rattle.cycle.specs.Building.{build}
@@ -13,8 +15,6 @@ use Rattle.cycle.specs.Waits.{different_tags, total, conditions}
 use Rattle.listener.specs.Hearing.{hearing, repeated, End, end_of, elapsed_in}
 use Rattle.listener.specs.Demand3.{heard_limit}
 use Rattle.listener.specs.declared.MeanWait.{MeanWait}
-use Rattle.listener.specs.declared.Averaged.{Averaged}
-use Rattle.listener.specs.declared.Averaged.TheVariants.{Mean, Refused}
 
 -- N
 unfoldable pub buckets : Settings → List ℕ → ℕ
@@ -44,16 +44,11 @@ unfoldable pub mean_wait : Settings → List ℕ → MeanWait
 mean_wait s list = divided (sum_of_waits s list) (divisor s list)
 
 -- the numbers that an answer stands for: refusal number (0: none) and place, and the four; a refusal has none
-abbrev pub numbers : Averaged → List ℕ
-numbers (Mean w) = 0 ∷ 0 ∷ w.sum ∷ w.divisor ∷ w.quotient ∷ w.remainder ∷ []
-numbers (Refused number place) = number ∷ place ∷ []
-
-abbrev pub outcome : Option Refusal → MeanWait → Averaged
-outcome (Some r) w = Refused r.number r.place
-outcome None w = Mean w
+abbrev pub numbers : Result MeanWait Refusal → List ℕ
+numbers = numbers_of (λ w. w.sum ∷ w.divisor ∷ w.quotient ∷ w.remainder ∷ [])
 
 -- refused by 1 to 6 as in building, then by 17
-unfoldable pub mean : Settings → List ℕ → Averaged
+unfoldable pub mean : Settings → List ℕ → Result MeanWait Refusal
 mean s list = outcome (first_refusal (conditions s list)) (mean_wait s list)
 
 -- ---- what is added, and that it is exact

@@ -4,7 +4,7 @@
 use Rattle.std.specs.Prelude.{◌≡◌, ℕ, zero, suc, ◌+◌, ◌-◌, ◌≤◌, ◌<◌, true, false, List, [], ◌∷◌, ltb, drop}
 use Rattle.std.specs.Prelude.{Some}
 use Rattle.columns.specs.Lists.{pick, every}
-use Rattle.cycle.specs.Tree.{Settings}
+use Rattle.cycle.specs.declared.Settings.{Settings}
 use Rattle.cycle.specs.Cycle.{bucket_at}
 use Rattle.cycle.specs.Building
 use Rattle.cycle.specs.Building.{build}

@@ -6,7 +6,8 @@ use Rattle.std.specs.Prelude.{ℕ, ◌*◌, List, [], ◌∷◌, ◌++◌, map}
 use Rattle.columns.specs.Lists.{range}
 use Rattle.buckets.specs.Lengths.{bucket_length, line_length}
 use Rattle.buckets.specs.ListLine.{list_lines}
-use Rattle.cycle.specs.Tree.{Settings, plan_for}
+use Rattle.cycle.specs.Tree.{plan_for}
+use Rattle.cycle.specs.declared.Settings.{Settings}
 use Rattle.cycle.specs.Cycle.{cycle_size}
 use Rattle.cycle.specs.Building.{build}
 use Rattle.listener.specs.Lookup.{Outcome, numbers, lookup}

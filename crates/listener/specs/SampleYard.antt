@@ -4,7 +4,8 @@ use Rattle.std.specs.Prelude.{ℕ, ◌+◌, ◌*◌, List, [], ◌∷◌, ◌++�
 use Rattle.columns.specs.Lists.{pick, joined, range}
 use Rattle.buckets.specs.Lengths.{bucket_length, line_length}
 use Rattle.buckets.specs.ListLine.{print_line, list_lines}
-use Rattle.cycle.specs.Tree.{Settings, Plan, plan}
+use Rattle.cycle.specs.Tree.{Plan, plan}
+use Rattle.cycle.specs.declared.Settings.{Settings}
 use Rattle.cycle.specs.Layouts.{Slot, slots}
 use Rattle.cycle.specs.Cycle.{is_data}
 use Rattle.cycle.specs.Building

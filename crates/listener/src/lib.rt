@@ -90,10 +90,3 @@ pub struct MeanWait {
     pub quotient: u64,
     pub remainder: u64,
 }
-
-// What averaging answers: the mean wait, or a refusal's number and place.
-#[derive(Clone, Copy)]
-pub enum Averaged {
-    Mean(MeanWait),
-    Refused(u64, u64),
-}

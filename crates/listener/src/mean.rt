@@ -1,13 +1,12 @@
 // The mean wait: document 02, C-17. The sum of elapsed over all tune-ins and all different tags of a list, and its division.
 ghost use Rattle.std.specs.Prelude.{◌≡◌, ◌*◌, ◌≤◌};
 ghost use Rattle.buckets.specs.Lengths.{lines_most, buckets_most};
-ghost use Rattle.cycle.specs.Tree.{settings};
 ghost use Rattle.listener.specs.Mean;
 ghost use Rattle.listener.specs.Mean.{divided};
 
-use super::{Averaged, MeanWait};
+use super::MeanWait;
 use cycle::waits::waits;
-use cycle::{WaitSum, Waited};
+use cycle::{Refusal, Settings, WaitSum};
 
 // The sum divided by N × T.
 fn average(w: WaitSum) -> MeanWait
@@ -24,12 +23,8 @@ fn average(w: WaitSum) -> MeanWait
 }
 
 // The mean wait over all tune-ins and all different tags of the list, with its remainder; or a refusal.
-pub fn mean(list: &[u8], n: u64, p: u64, layout: u64, copies: u64) -> Averaged
-    ensures { Mean.numbers result ≡ Mean.numbers (Mean.mean (settings n p layout copies) list.now) }
+pub fn mean(list: &[u8], settings: Settings) -> Result<MeanWait, Refusal>
+    ensures { result ≡ Mean.mean settings list.now }
 {
-    let waited = waits(list, n, p, layout, copies);
-    match waited {
-        Waited::Refused(number, place) => Averaged::Refused(number, place),
-        Waited::Sum(w) => Averaged::Mean(average(w)),
-    }
+    Ok(average(waits(list, settings)?))
 }

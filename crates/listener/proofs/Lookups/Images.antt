@@ -11,12 +11,13 @@ use lib.ListN.{length, get_or}
 use borrow.Author.Tests.{le-leb, eq-eqb}
 use Rattle.buckets.specs.ListLine.{list_lines}
 use Rattle.buckets.specs.Bucket.{Bucket}
-use Rattle.cycle.specs.Tree.{Settings, Plan, plan}
+use Rattle.cycle.specs.Tree.{Plan, plan}
+use Rattle.cycle.specs.declared.Settings.{Settings}
 use Rattle.cycle.specs.Cycle.{cycle_size}
 use Rattle.cycle.specs.Building
 use Rattle.cycle.specs.Building.{build}
-use Rattle.cycle.specs.declared.Built.{Built}
-use Rattle.cycle.specs.declared.Built.TheVariants.{Cycle, Refused}
+use Rattle.std.specs.Prelude.{Result, Ok, Err}
+use Rattle.cycle.specs.declared.Refusal.{Refusal}
 use Rattle.cycle.specs.ReadingBack.{whole_buckets}
 use Rattle.cycle.specs.Inner.Held.{cycle_bucket}
 use Rattle.cycle.proofs.Lines.DataTags.{AcceptedPlan}
@@ -44,9 +45,9 @@ module _ (bytes : List ℕ) (n : ℕ) (bk : ℕ → Bucket) (c : CycleOf bytes n
       )
 
 -- an answer of building by its numbers
-pub cycle_answered : (b : Built) (n : ℕ) → Building.numbers b ≡ 0 ∷ 0 ∷ n ∷ [] → b ≡ Cycle n
-cycle_answered (Cycle m) n e = ap (λ s. Cycle (get_or s 2 0)) e
-cycle_answered (Refused number place) n e = absurd (omega (arith, ap length e))
+pub cycle_answered : (b : Result ℕ Refusal) (n : ℕ) → Building.numbers b ≡ 0 ∷ 0 ∷ n ∷ [] → b ≡ Ok n
+cycle_answered (Ok m) n e = ap (λ s. Ok (get_or s 2 0)) e
+cycle_answered (Err r) n e = absurd (omega (arith, ap length e))
 
 -- what building made of a list: the cycle of its plan
 pub record BuiltCycle (t : Plan) (bytes : List ℕ) (n : ℕ) : Type 0 where
@@ -59,7 +60,7 @@ pub built_cycle :
     BuiltCycle (plan s (list_lines list)) (build s list room).output n
 built_cycle s list room n e =
     let t : Plan = plan s (list_lines list) in
-    let built : (build s list room).answer ≡ Cycle n = cycle_answered (build s list room).answer n e in
+    let built : (build s list room).answer ≡ Ok n = cycle_answered (build s list room).answer n e in
     let o : Answered s list room n = answered s list room n built in
     let ok = accepted s list room n built in
     record {

@@ -15,9 +15,10 @@ use Rattle.buckets.specs.Lengths.{bucket_length, buckets_most, line_length}
 use Rattle.buckets.specs.declared.Line.{Line}
 use Rattle.buckets.specs.ListLine.{print_line}
 use Rattle.cycle.specs.Refusals.{row, first_refusal}
+use Rattle.cycle.specs.declared.Reason.TheVariants.{BufferTooShort, ImageLengthOut, TuneInOut}
 use Rattle.cycle.specs.Building.{buffer_too_short}
 use Rattle.cycle.specs.ReadingBack.{whole_buckets}
-use Rattle.listener.specs.Lookup.{Finish, found, absent, refused, whole_run, got_by, step_refused, run_conditions, conditions, refused_or, run_over, as_ending}
+use Rattle.listener.specs.Lookup.{Finish, found, absent, refused, whole_run, got_by, run_conditions, refused_or, run_over, as_ending}
 use Rattle.listener.specs.Lookup.{Outcome, numbers, refuse, outcome, lookup}
 use Rattle.listener.specs.Inner.OnRun.{refusal_of, concluded}
 use Rattle.listener.specs.declared.Listener.{Listener}
@@ -53,27 +54,22 @@ refused_of f false l h = refl
 -- the conditions of a run and of a lookup, test by test
 run_told :
     (w l : Bool) (f : Finish) →
-    refused_or (first_refusal (row 11 (not w) ∷ row 12 l ∷ step_refused f ∷ [])) f ≡
+    refused_or (first_refusal (row ImageLengthOut (not w) ∷ row TuneInOut l ∷ [])) f ≡
     pick (not w) (refused 11 0) (pick l (refused 12 0) f)
 run_told false l f = refl
 run_told true true f = refl
-run_told true false (found s got) = refl
-run_told true false (absent s) = refl
-run_told true false (refused number place) = refl
+run_told true false f = refl
 
 lookup_told :
-    (w l : Bool) (f : Finish) (room : ℕ) →
-    outcome (first_refusal (row 11 (not w) ∷ row 12 l ∷ step_refused f ∷ buffer_too_short room (line_length * length (got_by f)) ∷ [])) f ≡
-    concluded room (pick (not w) (refused 11 0) (pick l (refused 12 0) f))
-lookup_told false l f room = refl
-lookup_told true true f room = refl
-lookup_told true false (found s got) room = by (ltb room (line_length * length got))
+    (f : Finish) (room : ℕ) →
+    outcome (first_refusal (buffer_too_short room (line_length * length (got_by f)) ∷ [])) f ≡ concluded room f
+lookup_told (found s got) room = by (ltb room (line_length * length got))
   where
-    by : (b : Bool) → outcome (first_refusal (row 7 b ∷ [])) (found s got) ≡ pick b (refuse 7 0) (outcome None (found s got))
+    by : (b : Bool) → outcome (first_refusal (row BufferTooShort b ∷ [])) (found s got) ≡ pick b (refuse 7 0) (outcome None (found s got))
     by true = refl
     by false = refl
-lookup_told true false (absent s) room = rw (le-ltb room 0 (omega arith))
-lookup_told true false (refused number place) room = refl
+lookup_told (absent s) room = rw (le-ltb room 0 (omega arith))
+lookup_told (refused number place) room = refl
 
 -- 11 or 12, or neither
 module _ (image : List ℕ) (tag t : ℕ) where
@@ -92,10 +88,8 @@ module _ (image : List ℕ) (tag t : ℕ) where
       concluded room
       (pick (not (whole_buckets (length image))) (refused 11 0)
       (pick (leb (length image / bucket_length) t) (refused 12 0) (whole_run image (length image / bucket_length) tag t)))
-  unfolding lookup conditions
-  lookup_by_tests room =
-      lookup_told (whole_buckets (length image)) (leb (length image / bucket_length) t)
-      (whole_run image (length image / bucket_length) tag t) room
+  unfolding lookup
+  lookup_by_tests room = lookup_told (run_over image tag t) room ∙ ap (concluded room) by_tests
 
   pub runs : refusal_of (length image) t ≡ 0 → run_over image tag t ≡ whole_run image (length image / bucket_length) tag t
   unfolding refusal_of

@@ -13,12 +13,13 @@ use Rattle.buckets.specs.ListLine.{list_lines}
 use Rattle.buckets.specs.Lengths.{buckets_most, lines_most}
 use Rattle.buckets.proofs.Lists.{length_list_lines}
 use Rattle.cycle.specs.Refusals.{first_refusal}
-use Rattle.cycle.specs.Tree.{Settings, Plan, plan}
+use Rattle.cycle.specs.Tree.{Plan, plan}
+use Rattle.cycle.specs.declared.Settings.{Settings}
 use Rattle.cycle.specs.Cycle.{cycle_size, image}
 use Rattle.cycle.specs.Building as building
 use Rattle.cycle.specs.Building.{Outcome, outcome, build}
 use Rattle.cycle.specs.Waits.{tag_among, different_tags, total, conditions, segment_start, waits_between, tag_waits, wait_sum}
-use Rattle.cycle.specs.declared.Built.TheVariants.{Cycle}
+use Rattle.std.specs.Prelude.{Ok}
 use Rattle.cycle.proofs.Lines.DataTags.{AcceptedPlan}
 use Rattle.cycle.proofs.Building.Accepted.{whole_lines_lem}
 use Rattle.cycle.proofs.Building.Outcomes.{none_refused}
@@ -48,7 +49,7 @@ module _ (s : Settings) (list : List ℕ) (passed : first_refusal (conditions s 
   none_there = (passed_there s list passed).0
 
   -- building makes its cycle, where there is room
-  builds : build s list room_most ≡ record { answer = Cycle n; output = image t }
+  builds : build s list room_most ≡ record { answer = Ok n; output = image t }
   unfolding build
   builds = ap (λ o. outcome o t) none_there
 
