@@ -1,34 +1,31 @@
 // The kinds of request, each with its call.
 use super::answers::{say, stop};
-use super::changes::serve_change;
+use super::changes::{serve_change, settings};
 use super::hearing::{hear, hear_marked};
 use super::lent::{fill, hash};
 use super::numbers::{COLUMNS, Figure, number};
 use super::requests::Numbers;
-use cycle::{Built, ReadBack, Sized};
-use listener::{Averaged, Looked};
+use listener::Looked;
 use std::io;
 use std::io::Print;
 
 // B: building.
 fn build(rt: &impl Print, numbers: &Numbers, body: &[u8], lent: &mut [u8]) -> io::Result<bool> {
-    let built = cycle::build::build(body, numbers[0], numbers[1], numbers[2], numbers[3], lent);
+    let built = cycle::build::build(body, settings(numbers), lent);
     let after = hash(lent);
     match built {
-        Built::Cycle(count) => say(rt, &[0, 0, count, after]),
-        Built::Refused(number, place) => say(rt, &[number, place, 0, after]),
+        Ok(count) => say(rt, &[0, 0, count, after]),
+        Err(refusal) => say(rt, &[refusal.number(), refusal.place, 0, after]),
     }
 }
 
 // R: reading back.
 fn read_back(rt: &impl Print, numbers: &Numbers, body: &[u8], lent: &mut [u8]) -> io::Result<bool> {
-    let answer = cycle::read_back::read_back(
-        body, numbers[0], numbers[1], numbers[2], numbers[3], lent,
-    );
+    let answer = cycle::read_back::read_back(body, settings(numbers), lent);
     let after = hash(lent);
     match answer {
-        ReadBack::Lines(count) => say(rt, &[0, 0, count, after]),
-        ReadBack::Refused(number, place) => say(rt, &[number, place, 0, after]),
+        Ok(count) => say(rt, &[0, 0, count, after]),
+        Err(refusal) => say(rt, &[refusal.number(), refusal.place, 0, after]),
     }
 }
 
@@ -67,21 +64,17 @@ fn size(rt: &impl Print, numbers: &Numbers, body: &[u8]) -> io::Result<bool> {
     let Figure::Value(c) = number(body) else {
         return stop(rt, b"error: a body of F is no number\n");
     };
-    let sized = cycle::size::size(
-        numbers[4], numbers[0], numbers[1], numbers[2], numbers[3], c,
-    );
-    match sized {
-        Sized::Cycle(f) => say(rt, &[0, 0, f.k, f.d, f.n, f.bytes, f.heard]),
-        Sized::Refused(number, place) => say(rt, &[number, place, 0, 0, 0, 0, 0]),
+    match cycle::size::size(numbers[4], settings(numbers), c) {
+        Ok(f) => say(rt, &[0, 0, f.k, f.d, f.n, f.bytes, f.heard]),
+        Err(refusal) => say(rt, &[refusal.number(), refusal.place, 0, 0, 0, 0, 0]),
     }
 }
 
 // M: the mean wait.
 fn mean(rt: &impl Print, numbers: &Numbers, body: &[u8]) -> io::Result<bool> {
-    let averaged = listener::mean::mean(body, numbers[0], numbers[1], numbers[2], numbers[3]);
-    match averaged {
-        Averaged::Mean(w) => say(rt, &[0, 0, w.sum, w.divisor, w.quotient, w.remainder]),
-        Averaged::Refused(number, place) => say(rt, &[number, place, 0, 0, 0, 0]),
+    match listener::mean::mean(body, settings(numbers)) {
+        Ok(w) => say(rt, &[0, 0, w.sum, w.divisor, w.quotient, w.remainder]),
+        Err(refusal) => say(rt, &[refusal.number(), refusal.place, 0, 0, 0, 0]),
     }
 }
 

@@ -1,13 +1,14 @@
 // A and T: a line arrives in a list, or is taken out of it. The body has the number of lines, the length of the list's buffer and
 // that of the given line, each in its columns; then the given line; then the list's buffer, which is lent where it stands.
-ghost use Rattle.std.specs.Prelude.{◌≤◌, length};
+ghost use Rattle.std.specs.Prelude.{◌≡◌, ◌≤◌, length, slice_index};
+ghost use Rattle.cycle.specs.Tree.{settings};
 
 use super::answers::{say, stop};
 use super::lent::hash;
 use super::numbers::{COLUMNS, Figure, number};
 use super::requests::Numbers;
-use cycle::Changed;
 use cycle::changes::{arrive, take_out};
+use cycle::{Counts, Refusal, Settings};
 use std::io;
 use std::io::Print;
 
@@ -27,6 +28,19 @@ fn looked_at(length: usize) -> usize
     length
 }
 
+// The settings that a request's numbers begin with.
+pub fn settings(numbers: &Numbers) -> Settings
+    ensures { result ≡
+        settings (slice_index numbers.now 0) (slice_index numbers.now 1) (slice_index numbers.now 2) (slice_index numbers.now 3) }
+{
+    Settings {
+        n: numbers[0],
+        p: numbers[1],
+        layout: numbers[2],
+        copies: numbers[3],
+    }
+}
+
 // Makes the call.
 fn change(
     letter: u8,
@@ -35,15 +49,12 @@ fn change(
     given: &[u8],
     list: &mut [u8],
     lent: &mut [u8],
-) -> Changed {
+) -> Result<Counts, Refusal> {
+    let settings = settings(numbers);
     if letter == b'A' {
-        return arrive(
-            list, lines, given, numbers[0], numbers[1], numbers[2], numbers[3], lent,
-        );
+        return arrive(list, lines, given, settings, lent);
     }
-    take_out(
-        list, lines, given, numbers[0], numbers[1], numbers[2], numbers[3], lent,
-    )
+    take_out(list, lines, given, settings, lent)
 }
 
 // Makes the call and says its answer.
@@ -60,10 +71,20 @@ fn say_change(
     let list_after = hash(list);
     let lent_after = hash(lent);
     match changed {
-        Changed::Cycle(c) => say(rt, &[0, 0, c.lines, c.d, c.k, c.n, list_after, lent_after]),
-        Changed::Refused(number, place) => {
-            say(rt, &[number, place, 0, 0, 0, 0, list_after, lent_after])
-        }
+        Ok(c) => say(rt, &[0, 0, c.lines, c.d, c.k, c.n, list_after, lent_after]),
+        Err(refusal) => say(
+            rt,
+            &[
+                refusal.number(),
+                refusal.place,
+                0,
+                0,
+                0,
+                0,
+                list_after,
+                lent_after,
+            ],
+        ),
     }
 }
 

@@ -1,16 +1,16 @@
 -- What the calls for C answer: the numbers that each answer stands for, as a record.
 -- Assumes nothing.
-use Rattle.std.specs.Prelude.{ℕ, List, Bool, false, eqb, get_or}
+use Rattle.std.specs.Prelude.{ℕ, List, [], ◌∷◌, Bool, false, eqb, get_or, Result}
 use Rattle.columns.specs.Lists.{pick}
-use Rattle.cycle.specs.declared.Built.{Built}
-use Rattle.cycle.specs.declared.Changed.{Changed}
-use Rattle.cycle.specs.declared.ReadBack.{ReadBack}
-use Rattle.cycle.specs.declared.Sized.{Sized}
+use Rattle.cycle.specs.declared.Counts.{Counts}
+use Rattle.cycle.specs.declared.Dimensions.{Dimensions}
+use Rattle.cycle.specs.declared.Refusal.{Refusal}
+use Rattle.cycle.specs.Refusals.{numbers_of}
 use Rattle.cycle.specs.Building as building
 use Rattle.cycle.specs.Changes as changing
 use Rattle.cycle.specs.ReadingBack as reading_back
 use Rattle.cycle.specs.Size as sizing
-use Rattle.listener.specs.declared.Averaged.{Averaged}
+use Rattle.listener.specs.declared.MeanWait.{MeanWait}
 use Rattle.listener.specs.declared.Looked.{Looked}
 use Rattle.listener.specs.declared.Stepped.{Stepped}
 use Rattle.listener.specs.Lookup as lookups
@@ -28,19 +28,23 @@ use Rattle.pansdaoh.specs.declared.ChangeAnswer.{ChangeAnswer}
 use Rattle.pansdaoh.specs.declared.MeanAnswer.{MeanAnswer}
 
 -- number, place and count, 0 where there is none: "every count in that result 0"
-unfoldable pub answer_of : List ℕ → CountAnswer
+abbrev pub answer_of : List ℕ → CountAnswer
 answer_of a = record { number = get_or a 0 0; place = get_or a 1 0; count = get_or a 2 0 }
 
+-- a refusal or a count
+abbrev pub count_answer : Result ℕ Refusal → CountAnswer
+count_answer r = answer_of (numbers_of (λ c. c ∷ []) r)
+
 -- building's answer
-unfoldable pub built_answer : Built → CountAnswer
+abbrev pub built_answer : Result ℕ Refusal → CountAnswer
 built_answer b = answer_of (building.numbers b)
 
 -- reading back's answer
-unfoldable pub read_back_answer : ReadBack → CountAnswer
+abbrev pub read_back_answer : Result ℕ Refusal → CountAnswer
 read_back_answer b = answer_of (reading_back.numbers b)
 
 -- a lookup's answer
-unfoldable pub looked_answer : Looked → LookupAnswer
+abbrev pub looked_answer : Looked → LookupAnswer
 looked_answer l =
     let a : List ℕ = lookups.numbers l in
     record {
@@ -53,7 +57,7 @@ looked_answer l =
     }
 
 -- a step's answer, and which lines match
-unfoldable pub step_answer : Stepped → StepAnswer
+abbrev pub step_answer : Stepped → StepAnswer
 step_answer r =
     let a : List ℕ = listening.numbers r.answer in
     record { answer = get_or a 0 0; value = get_or a 1 0; first = r.first; count = r.count }
@@ -78,7 +82,7 @@ unfoldable pub state_after : List ℕ → Stepped → List ℕ
 state_after state r = pick (was_ended r.answer) state (saved r.listener)
 
 -- a bucket's line, by its numbers
-unfoldable pub line_answer : List ℕ → LineAnswer
+abbrev pub line_answer : List ℕ → LineAnswer
 line_answer a =
     record {
       number = get_or a 0 0;
@@ -91,7 +95,7 @@ line_answer a =
     }
 
 -- the dimensions of a cycle, by their numbers
-unfoldable pub size_of : List ℕ → SizeAnswer
+abbrev pub size_of : List ℕ → SizeAnswer
 size_of a =
     record {
       number = get_or a 0 0;
@@ -104,11 +108,11 @@ size_of a =
     }
 
 -- sizing's answer
-unfoldable pub size_answer : Sized → SizeAnswer
+abbrev pub size_answer : Result Dimensions Refusal → SizeAnswer
 size_answer r = size_of (sizing.numbers r)
 
 -- a changed list and its cycle, by their numbers
-unfoldable pub change_of : List ℕ → ChangeAnswer
+abbrev pub change_of : List ℕ → ChangeAnswer
 change_of a =
     record {
       number = get_or a 0 0;
@@ -120,11 +124,11 @@ change_of a =
     }
 
 -- the answer of a change
-unfoldable pub change_answer : Changed → ChangeAnswer
+abbrev pub change_answer : Result Counts Refusal → ChangeAnswer
 change_answer r = change_of (changing.numbers r)
 
 -- a mean wait, by its numbers
-unfoldable pub mean_of : List ℕ → MeanAnswer
+abbrev pub mean_of : List ℕ → MeanAnswer
 mean_of a =
     record {
       number = get_or a 0 0;
@@ -136,5 +140,5 @@ mean_of a =
     }
 
 -- the answer of averaging
-unfoldable pub mean_answer : Averaged → MeanAnswer
+abbrev pub mean_answer : Result MeanWait Refusal → MeanAnswer
 mean_answer r = mean_of (averaging.numbers r)

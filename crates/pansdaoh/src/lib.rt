@@ -18,11 +18,11 @@ ghost use Rattle.listener.specs.Listener.{start};
 ghost use Rattle.listener.specs.Lookup;
 ghost use Rattle.listener.specs.Mean;
 ghost use Rattle.listener.specs.State.{saved, restored};
-ghost use Rattle.pansdaoh.specs.Calls.{built_answer, read_back_answer, looked_answer, step_answer, step_from, lost_from, was_ended, state_after, line_answer, size_answer, change_answer, mean_answer};
+ghost use Rattle.pansdaoh.specs.Calls.{count_answer, built_answer, read_back_answer, looked_answer, step_answer, step_from, lost_from, was_ended, state_after, line_answer, size_answer, change_answer, mean_answer};
 
 use buckets::{BucketLine, bucket_line};
-use cycle::{Built, Changed, ReadBack, Sized, build, changes, read_back, size};
-use listener::{Averaged, Listener, Looked, Stepped, lookup, mean};
+use cycle::{Counts, Dimensions, Refusal, Settings, build, changes, read_back, size};
+use listener::{Listener, Looked, MeanWait, Stepped, lookup, mean};
 
 // A refusal's number (0: not refused) and place, and the number of buckets built or of lines read back.
 #[repr(C)]
@@ -109,108 +109,81 @@ pub struct MeanAnswer {
     pub remainder: u64,
 }
 
-// Building's answer as numbers.
-fn built_answer(built: Built) -> CountAnswer
-    ensures { result ≡ built_answer built }
-{
-    match built {
-        Built::Cycle(n) => CountAnswer {
-            number: 0,
-            place: 0,
-            count: n,
-        },
-        Built::Refused(number, place) => CountAnswer {
-            number: number,
-            place: place,
-            count: 0,
-        },
-    }
-}
+// The answer of building, or of reading back, as numbers.
+impl From<Result<u64, Refusal>> for CountAnswer {
+    ghost from_gives = { λ told answer. answer ≡ count_answer told };
 
-// Reading back's answer as numbers.
-fn read_back_answer(restored: ReadBack) -> CountAnswer
-    ensures { result ≡ read_back_answer restored }
-{
-    match restored {
-        ReadBack::Lines(lines) => CountAnswer {
-            number: 0,
-            place: 0,
-            count: lines,
-        },
-        ReadBack::Refused(number, place) => CountAnswer {
-            number: number,
-            place: place,
-            count: 0,
-        },
+    fn from(told: Result<u64, Refusal>) -> CountAnswer {
+        match told {
+            Ok(count) => CountAnswer {
+                number: 0,
+                place: 0,
+                count,
+            },
+            Err(refusal) => CountAnswer {
+                number: refusal.number(),
+                place: refusal.place,
+                count: 0,
+            },
+        }
     }
 }
 
 // A lookup's answer as numbers.
-fn looked_answer(looked: Looked) -> LookupAnswer
-    ensures { result ≡ looked_answer looked }
-{
-    match looked {
-        Looked::Found {
-            heard,
-            elapsed,
-            lines,
-        } => LookupAnswer {
-            number: 0,
-            place: 0,
-            end: 1,
-            heard: heard,
-            elapsed: elapsed,
-            lines: lines,
-        },
-        Looked::Absent { heard, elapsed } => LookupAnswer {
-            number: 0,
-            place: 0,
-            end: 2,
-            heard: heard,
-            elapsed: elapsed,
-            lines: 0,
-        },
-        Looked::Refused(number, place) => LookupAnswer {
-            number: number,
-            place: place,
-            end: 0,
-            heard: 0,
-            elapsed: 0,
-            lines: 0,
-        },
+impl From<Looked> for LookupAnswer {
+    ghost from_gives = { λ looked answer. answer ≡ looked_answer looked };
+
+    fn from(looked: Looked) -> LookupAnswer {
+        match looked {
+            Looked::Found {
+                heard,
+                elapsed,
+                lines,
+            } => LookupAnswer {
+                number: 0,
+                place: 0,
+                end: 1,
+                heard,
+                elapsed,
+                lines,
+            },
+            Looked::Absent { heard, elapsed } => LookupAnswer {
+                number: 0,
+                place: 0,
+                end: 2,
+                heard,
+                elapsed,
+                lines: 0,
+            },
+            Looked::Refused(number, place) => LookupAnswer {
+                number,
+                place,
+                end: 0,
+                heard: 0,
+                elapsed: 0,
+                lines: 0,
+            },
+        }
     }
 }
 
 // A step's answer as numbers.
-fn step_answer(r: Stepped) -> StepAnswer
-    ensures { result ≡ step_answer r }
-{
-    let answer = r.answer;
-    match answer {
-        listener::Answer::Doze(d) => StepAnswer {
-            answer: 1,
-            value: d,
-            first: r.first,
-            count: r.count,
-        },
-        listener::Answer::Found => StepAnswer {
-            answer: 2,
-            value: 0,
-            first: r.first,
-            count: r.count,
-        },
-        listener::Answer::Absent => StepAnswer {
-            answer: 3,
-            value: 0,
-            first: r.first,
-            count: r.count,
-        },
-        listener::Answer::Refused(number) => StepAnswer {
-            answer: 4,
-            value: number,
-            first: r.first,
-            count: r.count,
-        },
+impl From<Stepped> for StepAnswer {
+    ghost from_gives = { λ stepped answer. answer ≡ step_answer stepped };
+
+    fn from(stepped: Stepped) -> StepAnswer {
+        let (answer, value) = match stepped.answer {
+            listener::Answer::Doze(d) => (1, d),
+            listener::Answer::Found => (2, 0),
+            listener::Answer::Absent => (3, 0),
+            listener::Answer::Refused(number) => (4, number),
+        };
+        StepAnswer {
+            answer,
+            value,
+            first: stepped.first,
+            count: stepped.count,
+        }
     }
 }
 
@@ -230,31 +203,30 @@ fn was_ended(answer: listener::Answer) -> bool
 fn hand_back(state: &mut [u64; 8], r: Stepped) -> StepAnswer
     ensures { (result ≡ step_answer r) × (state.new ≡ state_after state.old r) }
 {
-    let answer = r.answer;
-    if was_ended(answer) {
-        return step_answer(r);
+    if !was_ended(r.answer) {
+        *state = r.listener.saved();
     }
-    let next = r.listener;
-    *state = next.saved();
-    step_answer(r)
+    r.into()
 }
 
 // A bucket's line as numbers.
-fn line_answer(answer: BucketLine) -> LineAnswer
-    ensures { result ≡ line_answer (BucketLines.numbers answer) }
-{
-    match answer {
-        BucketLine::Line(line) => LineAnswer {
-            number: 0,
-            place: 0,
-            present: 1,
-            tag: line.tag,
-            tare: line.tare,
-            code: line.code,
-            weighing: line.weighing,
-        },
-        BucketLine::Nothing => no_line(0),
-        BucketLine::Misprinted => no_line(8),
+impl From<BucketLine> for LineAnswer {
+    ghost from_gives = { λ told answer. answer ≡ line_answer (BucketLines.numbers told) };
+
+    fn from(told: BucketLine) -> LineAnswer {
+        match told {
+            BucketLine::Line(line) => LineAnswer {
+                number: 0,
+                place: 0,
+                present: 1,
+                tag: line.tag,
+                tare: line.tare,
+                code: line.code,
+                weighing: line.weighing,
+            },
+            BucketLine::Nothing => no_line(0),
+            BucketLine::Misprinted => no_line(8),
+        }
     }
 }
 
@@ -274,76 +246,82 @@ fn no_line(number: u64) -> LineAnswer
 }
 
 // Sizing's answer as numbers.
-fn size_answer(sized: Sized) -> SizeAnswer
-    ensures { result ≡ size_answer sized }
-{
-    match sized {
-        Sized::Cycle(f) => SizeAnswer {
-            number: 0,
-            place: 0,
-            k: f.k,
-            d: f.d,
-            n: f.n,
-            bytes: f.bytes,
-            heard: f.heard,
-        },
-        Sized::Refused(number, place) => SizeAnswer {
-            number: number,
-            place: place,
-            k: 0,
-            d: 0,
-            n: 0,
-            bytes: 0,
-            heard: 0,
-        },
+impl From<Result<Dimensions, Refusal>> for SizeAnswer {
+    ghost from_gives = { λ told answer. answer ≡ size_answer told };
+
+    fn from(told: Result<Dimensions, Refusal>) -> SizeAnswer {
+        match told {
+            Ok(f) => SizeAnswer {
+                number: 0,
+                place: 0,
+                k: f.k,
+                d: f.d,
+                n: f.n,
+                bytes: f.bytes,
+                heard: f.heard,
+            },
+            Err(refusal) => SizeAnswer {
+                number: refusal.number(),
+                place: refusal.place,
+                k: 0,
+                d: 0,
+                n: 0,
+                bytes: 0,
+                heard: 0,
+            },
+        }
     }
 }
 
 // The answer of a change as numbers.
-fn change_answer(changed: Changed) -> ChangeAnswer
-    ensures { result ≡ change_answer changed }
-{
-    match changed {
-        Changed::Cycle(c) => ChangeAnswer {
-            number: 0,
-            place: 0,
-            lines: c.lines,
-            d: c.d,
-            k: c.k,
-            n: c.n,
-        },
-        Changed::Refused(number, place) => ChangeAnswer {
-            number: number,
-            place: place,
-            lines: 0,
-            d: 0,
-            k: 0,
-            n: 0,
-        },
+impl From<Result<Counts, Refusal>> for ChangeAnswer {
+    ghost from_gives = { λ told answer. answer ≡ change_answer told };
+
+    fn from(told: Result<Counts, Refusal>) -> ChangeAnswer {
+        match told {
+            Ok(c) => ChangeAnswer {
+                number: 0,
+                place: 0,
+                lines: c.lines,
+                d: c.d,
+                k: c.k,
+                n: c.n,
+            },
+            Err(refusal) => ChangeAnswer {
+                number: refusal.number(),
+                place: refusal.place,
+                lines: 0,
+                d: 0,
+                k: 0,
+                n: 0,
+            },
+        }
     }
 }
 
 // The answer of averaging as numbers.
-fn mean_answer(averaged: Averaged) -> MeanAnswer
-    ensures { result ≡ mean_answer averaged }
-{
-    match averaged {
-        Averaged::Mean(w) => MeanAnswer {
-            number: 0,
-            place: 0,
-            sum: w.sum,
-            divisor: w.divisor,
-            quotient: w.quotient,
-            remainder: w.remainder,
-        },
-        Averaged::Refused(number, place) => MeanAnswer {
-            number: number,
-            place: place,
-            sum: 0,
-            divisor: 0,
-            quotient: 0,
-            remainder: 0,
-        },
+impl From<Result<MeanWait, Refusal>> for MeanAnswer {
+    ghost from_gives = { λ told answer. answer ≡ mean_answer told };
+
+    fn from(told: Result<MeanWait, Refusal>) -> MeanAnswer {
+        match told {
+            Ok(w) => MeanAnswer {
+                number: 0,
+                place: 0,
+                sum: w.sum,
+                divisor: w.divisor,
+                quotient: w.quotient,
+                remainder: w.remainder,
+            },
+            Err(refusal) => MeanAnswer {
+                number: refusal.number(),
+                place: refusal.place,
+                sum: 0,
+                divisor: 0,
+                quotient: 0,
+                remainder: 0,
+            },
+        }
     }
 }
 
@@ -359,7 +337,13 @@ pub extern "C" fn pansdaoh_size(
 ) -> SizeAnswer
     ensures { result ≡ size_answer (Size.size (settings n p layout copies) lines c) }
 {
-    size_answer(size::size(lines, n, p, layout, copies, c))
+    let settings = Settings {
+        n,
+        p,
+        layout,
+        copies,
+    };
+    size::size(lines, settings, c).into()
 }
 
 // Builds the cycle of a list into the front of out.
@@ -378,8 +362,13 @@ pub extern "C" fn pansdaoh_build(
         onto (Building.build (settings n p layout copies) list.now (length out.old)).output
         out.old) }
 {
-    let built = build::build(list, n, p, layout, copies, out);
-    built_answer(built)
+    let settings = Settings {
+        n,
+        p,
+        layout,
+        copies,
+    };
+    build::build(list, settings, out).into()
 }
 
 // A line arrives in the list of so many lines at the front of a buffer, and the changed list's cycle is built into the front of
@@ -404,8 +393,13 @@ pub extern "C" fn pansdaoh_arrive(
         onto (Changes.arrive (settings n p layout copies) list.old lines line.now (length out.old)).cycle
         out.old) }
 {
-    let changed = changes::arrive(list, lines, line, n, p, layout, copies, out);
-    change_answer(changed)
+    let settings = Settings {
+        n,
+        p,
+        layout,
+        copies,
+    };
+    changes::arrive(list, lines, line, settings, out).into()
 }
 
 // The first line with the numbers of the one given is taken out of the list of so many lines at the front of a buffer, and the
@@ -430,8 +424,13 @@ pub extern "C" fn pansdaoh_take_out(
         onto (Changes.take_out (settings n p layout copies) list.old lines line.now (length out.old)).cycle
         out.old) }
 {
-    let changed = changes::take_out(list, lines, line, n, p, layout, copies, out);
-    change_answer(changed)
+    let settings = Settings {
+        n,
+        p,
+        layout,
+        copies,
+    };
+    changes::take_out(list, lines, line, settings, out).into()
 }
 
 // The mean wait over all tune-ins and all different tags of a list, with its remainder.
@@ -439,8 +438,13 @@ pub extern "C" fn pansdaoh_take_out(
 pub extern "C" fn pansdaoh_mean(list: &[u8], n: u64, p: u64, layout: u64, copies: u64) -> MeanAnswer
     ensures { result ≡ mean_answer (Mean.mean (settings n p layout copies) list.now) }
 {
-    let averaged = mean::mean(list, n, p, layout, copies);
-    mean_answer(averaged)
+    let settings = Settings {
+        n,
+        p,
+        layout,
+        copies,
+    };
+    mean::mean(list, settings).into()
 }
 
 // Reads the list that an image was built from back into the front of out.
@@ -458,8 +462,13 @@ pub extern "C" fn pansdaoh_read_back(
         onto (read_back (settings n p layout copies) image.now (length out.old)).output
         out.old) }
 {
-    let restored = read_back::read_back(image, n, p, layout, copies, out);
-    read_back_answer(restored)
+    let settings = Settings {
+        n,
+        p,
+        layout,
+        copies,
+    };
+    read_back::read_back(image, settings, out).into()
 }
 
 // Looks a tag up in an image, tuning in at the bucket named, and writes the matching lines to the front of out.
@@ -474,8 +483,7 @@ pub extern "C" fn pansdaoh_lookup(
         (out.new ≡
         put out.old 0 (Lookup.lookup image.now tag tune_in (length out.old)).output) }
 {
-    let looked = lookup::lookup(image, tag, tune_in, out);
-    looked_answer(looked)
+    lookup::lookup(image, tag, tune_in, out).into()
 }
 
 // Starts a listener with a tag: it awaits its tune-in bucket.
@@ -514,8 +522,7 @@ pub extern "C" fn pansdaoh_lost(state: &mut [u64; 8]) -> StepAnswer
 pub extern "C" fn pansdaoh_line(bucket: &[u8], i: u64) -> LineAnswer
     ensures { result ≡ line_answer (BucketLines.numbers (bucket_line i (read_bucket bucket.now))) }
 {
-    let line = bucket_line::line_of(bucket, i);
-    line_answer(line)
+    bucket_line::line_of(bucket, i).into()
 }
 
 // The buckets that a listener has taken, lost ones counted.

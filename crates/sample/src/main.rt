@@ -4,7 +4,7 @@
 
 ghost use Rattle.std.specs.Prelude.{◌≡◌, ◌≤◌, length, take};
 
-use cycle::Built;
+use cycle::Settings;
 use listener::{Listener, Looked};
 use std::io;
 use std::io::Print;
@@ -28,10 +28,13 @@ fn image_length(image: &[u8], count: u64) -> usize
     image.len()
 }
 
-// A refusal's number and place.
-fn say_refusal(rt: &impl Print, number: u64, place: u64) -> io::Result<()> {
-    println!(rt; "refused by {number}, place {place}")
-}
+// The settings: n 2, p 1, layout 1, r 1.
+const SETTINGS: Settings = Settings {
+    n: 2,
+    p: 1,
+    layout: 1,
+    copies: 1,
+};
 
 // x in 6 columns.
 fn say_number(rt: &impl Print, x: u64) -> io::Result<()> {
@@ -60,7 +63,7 @@ fn say_lookup(rt: &impl Print, image: &[u8], tune_in: u64) -> io::Result<()> {
             lines,
         } => say_row(rt, tune_in, heard, elapsed, lines),
         Looked::Absent { heard, elapsed } => say_row(rt, tune_in, heard, elapsed, 0),
-        Looked::Refused(number, place) => say_refusal(rt, number, place),
+        Looked::Refused(number, place) => println!(rt; "refused by {number}, place {place}"),
     }
 }
 
@@ -72,21 +75,15 @@ fn say_table(rt: &impl Print, image: &[u8], count: u64) -> io::Result<()> {
     Ok(())
 }
 
-// Builds with n 2, p 1, layout 1, r 1.
-fn build_cycle(list: &[u8], image: &mut [u8]) -> Built {
-    cycle::build::build(list, 2, 1, 1, 1, image)
-}
-
 fn main(rt: HostRuntime) -> io::Result<()> {
     let mut list = [0u8; LIST];
     let length = read_full(&mut rt.reader(), &mut list)?;
     let mut image = [0u8; IMAGE];
-    let built = build_cycle(&list[..length], &mut image);
-    match built {
-        Built::Cycle(count) => {
+    match cycle::build::build(&list[..length], SETTINGS, &mut image) {
+        Ok(count) => {
             let end = image_length(&image, count);
             say_table(&rt, &image[..end], count)
         }
-        Built::Refused(number, place) => say_refusal(&rt, number, place),
+        Err(refusal) => println!(rt; "{refusal}"),
     }
 }
