@@ -5,7 +5,7 @@ use Rattle.columns.specs.Lists.{pick}
 use Rattle.cycle.specs.declared.Counts.{Counts}
 use Rattle.cycle.specs.declared.Dimensions.{Dimensions}
 use Rattle.cycle.specs.declared.Refusal.{Refusal}
-use Rattle.cycle.specs.Refusals.{numbers_of}
+use Rattle.cycle.specs.Refusals.{number, numbers_of}
 use Rattle.cycle.specs.Building as building
 use Rattle.cycle.specs.Changes as changing
 use Rattle.cycle.specs.ReadingBack as reading_back
@@ -44,7 +44,7 @@ abbrev pub read_back_answer : Result ℕ Refusal → CountAnswer
 read_back_answer b = answer_of (reading_back.numbers b)
 
 -- a lookup's answer
-abbrev pub looked_answer : Looked → LookupAnswer
+abbrev pub looked_answer : Result Looked Refusal → LookupAnswer
 looked_answer l =
     let a : List ℕ = lookups.numbers l in
     record {
@@ -75,7 +75,7 @@ abbrev pub was_ended : Answer → Bool
 was_ended (Doze d) = false
 was_ended Found = false
 was_ended Absent = false
-was_ended (Refused number) = eqb number 14
+was_ended (Refused reason) = eqb (number reason) 14
 
 -- the state after a step or a lost bucket: on 14 the eight numbers given, whatever they are
 unfoldable pub state_after : List ℕ → Stepped → List ℕ

@@ -21,7 +21,7 @@ ghost use Rattle.listener.specs.State.{saved, restored};
 ghost use Rattle.pansdaoh.specs.Calls.{count_answer, built_answer, read_back_answer, looked_answer, step_answer, step_from, lost_from, was_ended, state_after, line_answer, size_answer, change_answer, mean_answer};
 
 use buckets::{BucketLine, bucket_line};
-use cycle::{Counts, Dimensions, Refusal, Settings, build, changes, read_back, size};
+use cycle::{Counts, Dimensions, Reason, Refusal, Settings, build, changes, read_back, size};
 use listener::{Listener, Looked, MeanWait, Stepped, lookup, mean};
 
 // A refusal's number (0: not refused) and place, and the number of buckets built or of lines read back.
@@ -130,16 +130,18 @@ impl From<Result<u64, Refusal>> for CountAnswer {
 }
 
 // A lookup's answer as numbers.
-impl From<Looked> for LookupAnswer {
-    ghost from_gives = { λ looked answer. answer ≡ looked_answer looked };
+impl From<Result<Looked, Refusal>> for LookupAnswer {
+    ghost from_gives = { λ told answer. answer ≡ looked_answer told };
 
-    fn from(looked: Looked) -> LookupAnswer {
-        match looked {
-            Looked::Found {
-                heard,
-                elapsed,
-                lines,
-            } => LookupAnswer {
+    fn from(told: Result<Looked, Refusal>) -> LookupAnswer {
+        match told {
+            Ok(
+                Looked::Found {
+                    heard,
+                    elapsed,
+                    lines,
+                },
+            ) => LookupAnswer {
                 number: 0,
                 place: 0,
                 end: 1,
@@ -147,7 +149,7 @@ impl From<Looked> for LookupAnswer {
                 elapsed,
                 lines,
             },
-            Looked::Absent { heard, elapsed } => LookupAnswer {
+            Ok(Looked::Absent { heard, elapsed }) => LookupAnswer {
                 number: 0,
                 place: 0,
                 end: 2,
@@ -155,9 +157,9 @@ impl From<Looked> for LookupAnswer {
                 elapsed,
                 lines: 0,
             },
-            Looked::Refused(number, place) => LookupAnswer {
-                number,
-                place,
+            Err(refusal) => LookupAnswer {
+                number: refusal.number(),
+                place: refusal.place,
                 end: 0,
                 heard: 0,
                 elapsed: 0,
@@ -176,7 +178,7 @@ impl From<Stepped> for StepAnswer {
             listener::Answer::Doze(d) => (1, d),
             listener::Answer::Found => (2, 0),
             listener::Answer::Absent => (3, 0),
-            listener::Answer::Refused(number) => (4, number),
+            listener::Answer::Refused(reason) => (4, reason as u64),
         };
         StepAnswer {
             answer,
@@ -191,12 +193,7 @@ impl From<Stepped> for StepAnswer {
 fn was_ended(answer: listener::Answer) -> bool
     ensures { result ≡ was_ended answer }
 {
-    match answer {
-        listener::Answer::Doze(_) => false,
-        listener::Answer::Found => false,
-        listener::Answer::Absent => false,
-        listener::Answer::Refused(number) => number == 14,
-    }
+    matches!(answer, listener::Answer::Refused(Reason::ListenerEnded))
 }
 
 // Hands back a step's answer as numbers, and its listener in the state, which 14 leaves as it is.
