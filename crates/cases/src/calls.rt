@@ -130,7 +130,8 @@ fn bucket_size(numbers: &Numbers) -> Result<usize, StreamError>
 // H: one listener, given the body's buckets.
 fn hearing(rt: &impl Print, request: Request<'_>) -> Result<(), Stopped> {
     let Request { numbers, body, .. } = request;
-    Ok(hear(rt, numbers[0], bucket_size(numbers)?, body)?)
+    hear(rt, numbers[0], bucket_size(numbers)?, body)?;
+    Ok(())
 }
 
 // Q: the same with lost buckets.
@@ -189,13 +190,14 @@ pub fn answer(
         lent,
     };
     match call {
-        Call::Build => Ok(build(rt, request)?),
-        Call::ReadBack => Ok(read_back(rt, request)?),
-        Call::Lookup => Ok(lookup(rt, request)?),
-        Call::Hear => hearing(rt, request),
-        Call::HearMarked => hearing_marked(rt, request),
-        Call::Size => Ok(size(rt, numbers, most_buckets(request.body)?)?),
-        Call::Arrive | Call::TakeOut => serve_change(rt, call, request),
-        Call::Mean => Ok(mean(rt, request)?),
+        Call::Build => build(rt, request)?,
+        Call::ReadBack => read_back(rt, request)?,
+        Call::Lookup => lookup(rt, request)?,
+        Call::Hear => hearing(rt, request)?,
+        Call::HearMarked => hearing_marked(rt, request)?,
+        Call::Size => size(rt, numbers, most_buckets(request.body)?)?,
+        Call::Arrive | Call::TakeOut => serve_change(rt, call, request)?,
+        Call::Mean => mean(rt, request)?,
     }
+    Ok(())
 }

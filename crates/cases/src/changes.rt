@@ -75,5 +75,6 @@ pub fn serve_change(rt: &impl Print, call: Call, request: Request<'_>) -> Result
     if list.len() as u64 != length {
         return Err(StreamError::OtherListLength.into());
     }
-    Ok(say_change(rt, call, numbers, lines, given, list, lent)?)
+    say_change(rt, call, numbers, lines, given, list, lent)?;
+    Ok(())
 }

@@ -74,13 +74,15 @@ pub fn hear_marked(rt: &impl Print, tag: u64, size: usize, body: &[u8]) -> Resul
     let mut current = Listener::new(tag);
     let mut rest = body;
     while let Some((letter, behind)) = rest.split_first() {
-        let length = match Mark::try_from(*letter)? {
-            Mark::Bytes => Some(size.min(behind.len())),
-            Mark::Lost => None,
+        let (bucket, next) = match Mark::try_from(*letter)? {
+            Mark::Bytes => {
+                let (bytes, next) = behind.split_at(size.min(behind.len()));
+                (Some(bytes), next)
+            }
+            Mark::Lost => (None, behind),
         };
-        let bucket = length.map(|n| &behind[..n]);
         current = hand_in(rt, current, bucket)?;
-        rest = &behind[length.unwrap_or(0)..];
+        rest = next;
     }
     Ok(())
 }
