@@ -167,12 +167,8 @@ fn write_datas(image: &mut [u8], list: &[u8], plain: bool, f: Figures, s: Segmen
     requires { Writing f list.now plain s (length image.old) }
     ensures { image.new ≡ written (plan_in f Source.List list.now) image.old s.data_at s.end }
 {
-    let mut x = s.data_at;
-    let mut q = s.first;
-    while q < s.last {
-        write_data_at(image, list, plain, f, s, q, x);
-        x += 1;
-        q += 1;
+    for q in s.first..s.last {
+        write_data_at(image, list, plain, f, s, q, s.place_of(q));
     }
 }
 
@@ -191,11 +187,8 @@ pub(crate) fn write_cycle(image: &mut [u8], list: &[u8], plain: bool, f: Figures
     requires { AcceptedList f list.now × (bucket_length * f.size ≤ length image.old) × (plain ≡ true → PlainList list.now) }
     ensures { image.new ≡ written (plan_in f Source.List list.now) image.old 0 f.size }
 {
-    let count = segment_count(f);
-    let mut i = 0;
-    while i < count {
+    for i in 0..segment_count(f) {
         write_segment(image, list, plain, f, segment_of(f, i));
-        i += 1;
     }
 }
 

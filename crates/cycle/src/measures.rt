@@ -61,13 +61,11 @@ pub fn full_size(n: u64, h: usize) -> u64
     requires { (2 ≤ n) × (n ≤ entries_most) × (h ≤ levels_most) }
     ensures { result ≡ full_size n h }
 {
-    let mut x = 0;
-    let mut i = 0;
-    while i < h {
-        x = x * n + 1;
-        i += 1;
+    let mut size = 0;
+    for _ in 0..h {
+        size = size * n + 1;
     }
-    x
+    size
 }
 
 // Whether n, p and layout are within their ranges.

@@ -233,16 +233,7 @@ fn are_datas(image: &[u8], f: Figures, s: Segment) -> bool
     requires { Comparing f image.now s }
     ensures { Decides (Matches (plan_in f Source.Image image.now) image.now s.data_at s.end) result }
 {
-    let mut x = s.data_at;
-    let mut q = s.first;
-    while q < s.last {
-        if !is_data(image, f, s, q, x) {
-            return false;
-        }
-        x += 1;
-        q += 1;
-    }
-    true
+    (s.first..s.last).all(|q| is_data(image, f, s, q, s.place_of(q)))
 }
 
 // Whether the index buckets of a segment, its path and its tree, stand in their places as its data buckets do.
@@ -261,15 +252,7 @@ fn all_datas(image: &[u8], f: Figures) -> bool
     requires { Holding f image.now }
     ensures { Decides (DataMatches (plan_in f Source.Image image.now) image.now 0 f.d) result }
 {
-    let count = segment_count(f);
-    let mut i = 0;
-    while i < count {
-        if !are_datas(image, f, segment_of(f, i)) {
-            return false;
-        }
-        i += 1;
-    }
-    true
+    (0..segment_count(f)).all(|i| are_datas(image, f, segment_of(f, i)))
 }
 
 // Whether all segments stand in their places, as their data buckets do.
@@ -277,15 +260,7 @@ fn all_segments(image: &[u8], f: Figures) -> bool
     requires { Holding f image.now × DataMatches (plan_in f Source.Image image.now) image.now 0 f.d }
     ensures { Decides (Matches (plan_in f Source.Image image.now) image.now 0 f.size) result }
 {
-    let count = segment_count(f);
-    let mut i = 0;
-    while i < count {
-        if !is_segment(image, f, segment_of(f, i)) {
-            return false;
-        }
-        i += 1;
-    }
-    true
+    (0..segment_count(f)).all(|i| is_segment(image, f, segment_of(f, i)))
 }
 
 // Whether the image is the cycle of the lines that stand in it. Once its data buckets are known to be good, so are the index
@@ -352,11 +327,8 @@ fn write_list(out: &mut [u8], image: &[u8], f: Figures)
     requires { Holding f image.now × (line_length * f.lines ≤ length out.old) }
     ensures { out.new ≡ put out.old 0 (list_text f image.now 0 f.lines) }
 {
-    let count = segment_count(f);
-    let mut i = 0;
-    while i < count {
+    for i in 0..segment_count(f) {
         write_lines(out, image, f, segment_of(f, i));
-        i += 1;
     }
 }
 
