@@ -1,4 +1,4 @@
--- `all` over a range: it decides whether a statement holds of each number there, where the closure decides it of one.
+-- `all` over a range, and what its closure decides of each number there.
 -- Assumes nothing.
 use mathlib.Core.Path.{◌≡◌, refl, sym, subst, ◌∙◌}
 use mathlib.Core.Bool.{Bool, true, false}
@@ -24,34 +24,42 @@ use Rattle.cycle.proofs.Basics.Deciding.{decides_yes, decides_no}
 pub record Each (P : ℕ → Type 0) (a b : ℕ) : Type 0 where
   pub at : (k : ℕ) → a ≤ k → k < b → P k
 
--- the same by the list of the numbers
-listed :
-    (P : ℕ → Type 0) (a b : ℕ) (r : Bool) →
-    MatchBool r (AllWithin P (range_with_len a (b - a)) 0 (length (range_with_len a (b - a))))
-    ((k : ℕ) × (k < length (range_with_len a (b - a))) × HoldsAt (λ x. P x → ⊥) (range_with_len a (b - a)) k) →
-    Decides (Each P a b) r
-listed P a b true h =
-    decides_yes
-    record {
-      at = λ k low high.
-          let i : k - a < b - a = omega arith in
-          let here : get_or (range_with_len a (b - a)) (k - a) 0 ≡ k = omega (arith, get_or-range_with_len a (b - a) (k - a) 0 i) in
-          subst P here (h (k - a) 0 (omega arith) (omega (arith, length-range_with_len a (b - a))));
-    }
-listed P a b false h =
-    decides_no
-    (λ e.
-    let i : h.0 < b - a = omega (arith, length-range_with_len a (b - a), h.1) in
-    let here : get_or (range_with_len a (b - a)) h.0 0 ≡ a + h.0 = get_or-range_with_len a (b - a) h.0 0 i in
-    h.2 0 (subst P (sym here) (e.at (a + h.0) (omega arith) (omega arith))))
+-- what the closure's answer tells of one number
+pub record Tells (Yes No : Type 0) (b : Bool) : Type 0 where
+  pub yes : b ≡ true → Yes
+  pub no : b ≡ false → No
 
-pub decides_all :
-    {F : Type 0} {g : Mut F (ℕ × Unit {0}) Bool} {s u : Range ℕ} {f : F} {r : Bool} (P : ℕ → Type 0) →
+pub tells : {P : Type 0} {b : Bool} → Decides P b → Tells P (P → ⊥) b
+tells d = record { yes = d.yes; no = d.no }
+
+module _ (Yes No : ℕ → Type 0) (Q : Type 0) (a b : ℕ) (all : Each Yes a b → Q) (none : (k : ℕ) → a ≤ k → k < b → No k → Q → ⊥) where
+  abbrev numbers : List ℕ
+  numbers = range_with_len a (b - a)
+
+  listed :
+      (r : Bool) → MatchBool r (AllWithin Yes numbers 0 (length numbers)) ((k : ℕ) × (k < length numbers) × HoldsAt No numbers k) → Decides Q r
+  listed true h =
+      decides_yes
+      (all
+      record {
+        at = λ k low high.
+            let i : k - a < b - a = omega arith in
+            let here : get_or numbers (k - a) 0 ≡ k = omega (arith, get_or-range_with_len a (b - a) (k - a) 0 i) in
+            subst Yes here (h (k - a) 0 (omega arith) (omega (arith, length-range_with_len a (b - a))));
+      })
+  listed false h =
+      decides_no
+      (let i : h.0 < b - a = omega (arith, length-range_with_len a (b - a), h.1) in
+      none (a + h.0) (omega arith) (omega arith) (subst No (get_or-range_with_len a (b - a) h.0 0 i) (h.2 0)))
+
+pub decides_by_all :
+    {F : Type 0} {g : Mut F (ℕ × Unit {0}) Bool} {s u : Range ℕ} {f : F} {r : Bool} (Yes No : ℕ → Type 0) (Q : Type 0) →
     (xs : List ℕ) × (o : Option ℕ) × (j : F) × YieldsThen nat_range_steps s xs o u × FoldsTo (λ p x q. Called g p (x, tt) true q) f xs j ×
     MatchOption o (r ≡ true) (λ x. (r ≡ false) × ((h : F) × Called g j (x, tt) false h)) →
-    ((x : ℕ) (b : Bool) (q : F) → Called g f (x, tt) b q → (q ≡ f) × Decides (P x) b) → Decides (Each P s.start s.end) r
-decides_all {s} {u} {f} {r} P ran each =
-    listed P s.start s.end r
-    (cases_from_all u f r P (λ x. P x → ⊥) ran (YieldsList-from_range s.start s.end (s.end - s.start) refl refl)
+    ((x : ℕ) (b : Bool) (q : F) → Called g f (x, tt) b q → (q ≡ f) × Tells (Yes x) (No x) b) → (Each Yes s.start s.end → Q) →
+    ((k : ℕ) → s.start ≤ k → k < s.end → No k → Q → ⊥) → Decides Q r
+decides_by_all {s} {u} {f} {r} Yes No Q ran each all none =
+    listed Yes No Q s.start s.end all none r
+    (cases_from_all u f r Yes No ran (YieldsList-from_range s.start s.end (s.end - s.start) refl refl)
     (λ x q k. let e = each x true q k in (e.0, e.1.yes refl))
     (λ x q k. (each x false q k).1.no refl))
