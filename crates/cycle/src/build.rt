@@ -75,12 +75,9 @@ fn write_subtree(
     if e == 1 {
         return next;
     }
-    let below = e - 1;
     let first = j * f.n;
-    let mut i = 0;
-    while i < count {
-        next = write_subtree(image, list, plain, f, s, below, first + i as u64, next);
-        i += 1;
+    for i in 0..count as u64 {
+        next = write_subtree(image, list, plain, f, s, e - 1, first + i, next);
     }
     next
 }
@@ -91,14 +88,11 @@ fn write_path(image: &mut [u8], list: &[u8], plain: bool, f: Figures, s: Segment
     ensures { image.new ≡
         written (plan_in f Source.List list.now) image.old s.start s.tree_at }
 {
-    let mut x = s.start;
-    let mut i = s.top;
-    while i <= f.copies {
+    for i in s.top..f.copies + 1 {
+        let x = s.path_place(i);
         let at = (BUCKET * x) as usize;
         let to = at + Bucket::LENGTH;
         print_path_bucket(&mut image[at..to], list, plain, f, Source::List, s, i, x);
-        x += 1;
-        i += 1;
     }
 }
 
@@ -106,10 +100,7 @@ fn write_path(image: &mut [u8], list: &[u8], plain: bool, f: Figures, s: Segment
 fn as_digit(c: u8) -> u8
     ensures { result ≡ max c 48 }
 {
-    if c < b'0' {
-        return b'0';
-    }
-    c
+    c.max(b'0')
 }
 
 // Whether the tags that stand printed at a and b are the same, column by column from the last.
@@ -117,14 +108,9 @@ fn same_tags(list: &[u8], a: usize, b: usize) -> bool
     requires { (a + tag_width ≤ length list.now) × (b + tag_width ≤ length list.now) }
     ensures { Decides (SameDigits (take tag_width (drop a list.now)) (take tag_width (drop b list.now))) result }
 {
-    let mut i = Line::TAG_WIDTH;
-    while 0 < i {
-        i -= 1;
-        if as_digit(list[a + i]) != as_digit(list[b + i]) {
-            return false;
-        }
-    }
-    true
+    (0..Line::TAG_WIDTH)
+        .rev()
+        .all(|i| as_digit(list[a + i]) == as_digit(list[b + i]))
 }
 
 // The follow-on of data bucket q at x.

@@ -54,13 +54,9 @@ fn same_bucket(a: &[u8], b: &[u8]) -> bool
     requires { (length a.now ≡ bucket_length) × (length b.now ≡ bucket_length) }
     ensures { Decides (a.now ≡ b.now) result }
 {
-    let mut same = true;
-    let mut i = 0;
-    while i < Bucket::LENGTH {
-        same = still_same(same, a[i], b[i]);
-        i += 1;
-    }
-    same
+    a.iter()
+        .zip(b)
+        .fold(true, |same, (x, y)| still_same(same, *x, *y))
 }
 
 // Whether these columns are the bucket at x.
@@ -104,8 +100,8 @@ fn is_tree_bucket(
     is_at(image, x, &wanted)
 }
 
-// The position behind the subtree of bucket j of height e, if it stands from x on; else 0.
-fn behind_subtree(image: &[u8], f: Figures, s: Segment, e: usize, j: u64, x: u64) -> u64
+// The position behind the subtree of bucket j of height e, if it stands from x on.
+fn behind_subtree(image: &[u8], f: Figures, s: Segment, e: usize, j: u64, x: u64) -> Option<u64>
     requires { Checking f image.now s × TreePlace f s e j x }
     ensures { Finds
         (Matches (plan_in f Source.Image image.now) image.now x (x + length (tree_at (plan_of f []) e j)))
@@ -113,23 +109,17 @@ fn behind_subtree(image: &[u8], f: Figures, s: Segment, e: usize, j: u64, x: u64
 {
     let count = child_count(f, e, j);
     if !is_tree_bucket(image, f, s, e, j, x, count) {
-        return 0;
+        return None;
     }
     let mut next = x + 1;
     if e == 1 {
-        return next;
+        return Some(next);
     }
-    let below = e - 1;
     let first = j * f.n;
-    let mut i = 0;
-    while i < count {
-        next = behind_subtree(image, f, s, below, first + i as u64, next);
-        if next == 0 {
-            return 0;
-        }
-        i += 1;
+    for i in 0..count as u64 {
+        next = behind_subtree(image, f, s, e - 1, first + i, next)?;
     }
-    next
+    Some(next)
 }
 
 // Whether the path bucket of level i of a segment stands at x.
@@ -147,16 +137,7 @@ fn is_path(image: &[u8], f: Figures, s: Segment) -> bool
     requires { Checking f image.now s }
     ensures { Decides (Matches (plan_in f Source.Image image.now) image.now s.start s.tree_at) result }
 {
-    let mut x = s.start;
-    let mut i = s.top;
-    while i <= f.copies {
-        if !is_path_bucket(image, f, s, i, x) {
-            return false;
-        }
-        x += 1;
-        i += 1;
-    }
-    true
+    (s.top..f.copies + 1).all(|i| is_path_bucket(image, f, s, i, s.path_place(i)))
 }
 
 // The position of the data bucket behind data bucket q, which stands at x in its segment.
@@ -244,7 +225,7 @@ fn is_segment(image: &[u8], f: Figures, s: Segment) -> bool
     if !is_path(image, f, s) {
         return false;
     }
-    behind_subtree(image, f, s, s.height, s.root, s.tree_at) != 0
+    behind_subtree(image, f, s, s.height, s.root, s.tree_at).is_some()
 }
 
 // Whether all data buckets stand in their places.
@@ -280,18 +261,13 @@ fn line_count(image: &[u8], p: u64) -> u64
     requires { (length image.now ≤ bucket_length * buckets_most) × (p ≤ 8) }
     ensures { result ≡ counted p image.now }
 {
-    let count = image.len() / Bucket::LENGTH;
-    let mut x = 0;
-    let mut d: u64 = 0;
-    let mut last: u8 = b'0';
-    while x < count {
-        let at = Bucket::LENGTH * x;
-        let data = image[at + Bucket::LETTER] == Bucket::DATA;
-        if data {
+    let mut d = 0;
+    let mut last = b'0';
+    for bucket in image.chunks_exact(Bucket::LENGTH) {
+        if bucket[Bucket::LETTER] == Bucket::DATA {
             d += 1;
-            last = image[at + Bucket::ITEM_DIGIT];
+            last = bucket[Bucket::ITEM_DIGIT];
         }
-        x += 1;
     }
     if d == 0 {
         return 0;
@@ -309,16 +285,12 @@ fn write_lines(out: &mut [u8], image: &[u8], f: Figures, s: Segment)
         put out.old (line_length * (s.first * f.p))
         (list_text f image.now (s.first * f.p) (min f.lines (s.last * f.p))) }
 {
-    let mut x = s.data_at;
-    let mut q = s.first;
-    while q < s.last {
+    for q in s.first..s.last {
         let line = q * f.p;
         let count = lesser(f.p, f.lines - line) as usize;
         let to = (LINE * line) as usize;
-        let from = (BUCKET * x + LINES) as usize;
+        let from = (BUCKET * s.place_of(q) + LINES) as usize;
         copy_lines(out, to, image, from, count);
-        x += 1;
-        q += 1;
     }
 }
 

@@ -19,6 +19,15 @@ impl Segment {
     {
         self.data_at + (q - self.first)
     }
+
+    // The position of its path bucket of level i.
+    #[inline]
+    pub fn path_place(self, i: u64) -> u64
+        requires { (self.top ≤ i) × (self.start + (i - self.top) < self.tree_at) }
+        ensures { result ≡ self.start + (i - self.top) }
+    {
+        self.start + (i - self.top)
+    }
 }
 
 // How many segments there are.
@@ -43,14 +52,12 @@ pub fn path_top(f: Figures, b: u64) -> u64
     if b == 0 {
         return 1;
     }
-    let mut level = f.copies;
     let mut place = b;
-    while 1 < level {
+    for level in (2..f.copies + 1).rev() {
         if place % f.n != 0 {
             return level;
         }
-        place = place / f.n;
-        level -= 1;
+        place /= f.n;
     }
     1
 }
