@@ -88,8 +88,8 @@ fn write_path(image: &mut [u8], list: &[u8], plain: bool, f: Figures, s: Segment
     ensures { image.new ≡
         written (plan_in f Source.List list.now) image.old s.start s.tree_at }
 {
-    for i in s.top..f.copies + 1 {
-        let x = s.path_place(i);
+    for x in s.start..s.tree_at {
+        let i = s.top + (x - s.start);
         let at = (BUCKET * x) as usize;
         let to = at + Bucket::LENGTH;
         print_path_bucket(&mut image[at..to], list, plain, f, Source::List, s, i, x);

@@ -137,7 +137,7 @@ fn is_path(image: &[u8], f: Figures, s: Segment) -> bool
     requires { Checking f image.now s }
     ensures { Decides (Matches (plan_in f Source.Image image.now) image.now s.start s.tree_at) result }
 {
-    (s.top..f.copies + 1).all(|i| is_path_bucket(image, f, s, i, s.path_place(i)))
+    (s.start..s.tree_at).all(|x| is_path_bucket(image, f, s, s.top + (x - s.start), x))
 }
 
 // The position of the data bucket behind data bucket q, which stands at x in its segment.

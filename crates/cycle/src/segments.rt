@@ -19,15 +19,6 @@ impl Segment {
     {
         self.data_at + (q - self.first)
     }
-
-    // The position of its path bucket of level i.
-    #[inline]
-    pub fn path_place(self, i: u64) -> u64
-        requires { (self.top ≤ i) × (self.start + (i - self.top) < self.tree_at) }
-        ensures { result ≡ self.start + (i - self.top) }
-    {
-        self.start + (i - self.top)
-    }
 }
 
 // How many segments there are.

@@ -1,16 +1,8 @@
-use Rattle.std.proofs.Common.{◌≡◌, true, [], ◌∷◌, ◌+◌, ◌-◌, ◌*◌, ◌≤◌, ◌<◌, max, length, take, drop, ℕ}
-use Rattle.columns.specs.Lists.{onto}
-use Rattle.buckets.specs.Lengths.{tag_width, bucket_length}
-use Rattle.buckets.specs.Bucket.{follow_on}
-use Rattle.buckets.specs.Inner.Columns.{PlainList}
-use Rattle.cycle.specs.Tree.{settings, children}
-use Rattle.cycle.specs.Building
-use Rattle.cycle.specs.Layouts.{slot}
-use Rattle.cycle.specs.Inner.Comparing.{Decides, SameDigits}
-use Rattle.cycle.specs.Judging.{tree_at}
-use Rattle.cycle.specs.Inner.Held.{plan_of, StandsAt, AcceptedList, plan_in, cycle_bucket, written, Writing, TreePlace, DataPlace}
-use Rattle.cycle.specs.declared.Source.TheVariants as Source
+-- The path buckets before x are written.
+use Rattle.std.proofs.Common.{◌≡◌}
+use Rattle.cycle.specs.Inner.Held.{plan_in, written}
+use Rattle.cycle.specs.declared.Source.TheVariants.{List as InList}
 use Rattle.cycle.proofs.build.write_path.Given as goal
 
-abbrev pub invariant-loop-i : goal.invariant-loop-i
-invariant-loop-i l = ?
+abbrev pub invariant-loop-x : goal.invariant-loop-x
+invariant-loop-x l = l.image ≡ written (plan_in l.f InList l.list) l.fn.image l.s.start l.x

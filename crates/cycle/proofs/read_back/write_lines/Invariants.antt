@@ -1,15 +1,10 @@
-use Rattle.std.proofs.Common.{◌≡◌, ◌&&◌, [], eqb, ◌+◌, ◌-◌, ◌*◌, ◌/◌, ◌%◌, ◌≤◌, ◌<◌, min, length, ℕ}
-use Rattle.columns.specs.Lists.{put, onto}
-use Rattle.buckets.specs.Lengths.{line_length, bucket_length, buckets_most}
-use Rattle.cycle.specs.Tree.{settings, children, last_tag}
-use Rattle.cycle.specs.ReadingBack
-use Rattle.cycle.specs.ReadingBack.{read_back}
-use Rattle.cycle.specs.Cycle.{first_place, bucket_at}
-use Rattle.cycle.specs.Judging.{tree_at}
-use Rattle.cycle.specs.Inner.Held.{plan_of, Shaped, Ready, HoldsSegment, plan_in, TreePlace, DataPlace}
-use Rattle.cycle.specs.Inner.Comparing.{Decides, Finds, counted, MatchesAt, Matches, DataMatches, Followed, list_text, Holding, Comparing, Checking}
-use Rattle.cycle.specs.declared.Source.TheVariants as Source
+-- The lines of the data buckets before q are written.
+use Rattle.std.proofs.Common.{◌≡◌, ◌*◌, min}
+use Rattle.columns.specs.Lists.{put}
+use Rattle.buckets.specs.Lengths.{line_length}
+use Rattle.cycle.specs.Inner.Comparing.{list_text}
 use Rattle.cycle.proofs.read_back.write_lines.Given as goal
 
 abbrev pub invariant-loop-q : goal.invariant-loop-q
-invariant-loop-q l = ?
+invariant-loop-q l =
+    l.out ≡ put l.fn.out (line_length * (l.s.first * l.f.p)) (list_text l.f l.image (l.s.first * l.f.p) (min l.f.lines (l.q * l.f.p)))
