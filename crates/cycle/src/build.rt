@@ -108,9 +108,12 @@ fn same_tags(list: &[u8], a: usize, b: usize) -> bool
     requires { (a + tag_width ≤ length list.now) × (b + tag_width ≤ length list.now) }
     ensures { Decides (SameDigits (take tag_width (drop a list.now)) (take tag_width (drop b list.now))) result }
 {
-    (0..Line::TAG_WIDTH)
-        .rev()
-        .all(|i| as_digit(list[a + i]) == as_digit(list[b + i]))
+    for i in (0..Line::TAG_WIDTH).rev() {
+        if as_digit(list[a + i]) != as_digit(list[b + i]) {
+            return false;
+        }
+    }
+    true
 }
 
 // The follow-on of data bucket q at x.

@@ -54,9 +54,11 @@ fn same_bucket(a: &[u8], b: &[u8]) -> bool
     requires { (length a.now ≡ bucket_length) × (length b.now ≡ bucket_length) }
     ensures { Decides (a.now ≡ b.now) result }
 {
-    a.iter()
-        .zip(b)
-        .fold(true, |same, (x, y)| still_same(same, *x, *y))
+    let mut same = true;
+    for i in 0..Bucket::LENGTH {
+        same = still_same(same, a[i], b[i]);
+    }
+    same
 }
 
 // Whether these columns are the bucket at x.
@@ -222,10 +224,7 @@ fn is_segment(image: &[u8], f: Figures, s: Segment) -> bool
     requires { Checking f image.now s }
     ensures { Decides (Matches (plan_in f Source.Image image.now) image.now s.start s.end) result }
 {
-    if !is_path(image, f, s) {
-        return false;
-    }
-    behind_subtree(image, f, s, s.height, s.root, s.tree_at).is_some()
+    is_path(image, f, s) && behind_subtree(image, f, s, s.height, s.root, s.tree_at).is_some()
 }
 
 // Whether all data buckets stand in their places.
@@ -250,10 +249,7 @@ fn is_cycle(image: &[u8], f: Figures) -> bool
     requires { Holding f image.now }
     ensures { Decides (Matches (plan_in f Source.Image image.now) image.now 0 f.size) result }
 {
-    if !all_datas(image, f) {
-        return false;
-    }
-    all_segments(image, f)
+    all_datas(image, f) && all_segments(image, f)
 }
 
 // How many lines the image has: p for each data bucket but the last, and what the last one's count says.
@@ -264,7 +260,8 @@ fn line_count(image: &[u8], p: u64) -> u64
     let mut d = 0;
     let mut last = b'0';
     for bucket in image.chunks_exact(Bucket::LENGTH) {
-        if bucket[Bucket::LETTER] == Bucket::DATA {
+        let data = bucket[Bucket::LETTER] == Bucket::DATA;
+        if data {
             d += 1;
             last = bucket[Bucket::ITEM_DIGIT];
         }

@@ -36,7 +36,8 @@ fn add_waits(list: &[u8], f: Figures) -> WaitSum
     let mut sum = 0;
     for i in 1..f.lines {
         let next = tag_of(list, f, Source::List, i);
-        if next != tag {
+        let other = next != tag;
+        if other {
             sum += waits_between(f, first, (i - 1) / f.p);
             tags += 1;
             tag = next;

@@ -1,45 +1,64 @@
-use Rattle.std.proofs.Common.{rules, ◌≡◌, true, [], ◌∷◌, ◌+◌, ◌-◌, ◌*◌, ◌≤◌, ◌<◌, max, length, take, drop, ℕ, ◌/◌, ◌%◌, Bool, false, nat_eq, nat_lt, List, ◌++◌, slice_index_or, slice_set, bit_and, bit_or, Fits, w8, w32, w64, Bor, MutBor}
-use Rattle.columns.specs.Lists.{onto}
-use Rattle.buckets.specs.Lengths.{tag_width, bucket_length}
-use Rattle.buckets.specs.Bucket.{follow_on}
-use Rattle.buckets.specs.Inner.Columns.{PlainList}
-use Rattle.cycle.specs.Tree.{settings, children}
-use Rattle.cycle.specs.Building
-use Rattle.cycle.specs.Layouts.{slot}
-use Rattle.cycle.specs.Inner.Comparing.{Decides, SameDigits}
-use Rattle.cycle.specs.Judging.{tree_at}
-use Rattle.cycle.specs.Inner.Held.{plan_of, StandsAt, AcceptedList, plan_in, cycle_bucket, written, Writing, TreePlace, DataPlace}
-use Rattle.cycle.specs.declared.Source.TheVariants as Source
+-- A subtree is its bucket and then each child's subtree, one behind the other.
+use Rattle.std.proofs.Common.{◌≡◌, refl, ap, ◌∙◌, ◌+◌, ◌-◌, ◌<◌, arith}
+use Rattle.cycle.specs.Inner.Held.{plan_in, written}
+use Rattle.cycle.specs.declared.Source.TheVariants.{List as InList}
+use Rattle.cycle.proofs.Segmenting.Subtrees.{own_there, alone, first_fits, none_behind, child_place, child_fits, next_behind, all_behind}
+use Rattle.cycle.proofs.Building.Writings.{writing_kept, begins, room_kept, next_written, all_written}
 use Rattle.cycle.proofs.build.+write_subtree.Goals as goal
 
--- src/build.rt:74:20
 pub overflow_add-next : goal.overflow_add-next
-overflow_add-next t c = ?
+overflow_add-next t c = omega (arith, own_there c.requires.0.sending.ready c.requires.0.placed c.requires.1)
 
--- src/build.rt:76:9
 pub returns-then-e-eq1 : goal.returns-then-e-eq1
-returns-then-e-eq1 t c = ?
+returns-then-e-eq1 t c =
+    let a = c.args in
+    let end = alone c.requires.0.sending.ready c.requires.0.placed c.requires.1 c.if-e-eq1.true in
+    (end, c.write_tree_bucket-count.ensures.1 ∙ ap (written (plan_in a.f InList a.list.now) a.image.now a.x) end)
 
--- src/build.rt:78:17
 pub overflow_mul-first : goal.overflow_mul-first
-overflow_mul-first t c = ?
+overflow_mul-first t c = first_fits c.requires.0.sending.ready c.requires.0.placed c.requires.1
 
--- src/build.rt:79:5
 pub loop-i-init : goal.loop-i-init
-loop-i-init t c = ?
+loop-i-init t c =
+    let w = c.requires.0 in
+    let call = c.write_tree_bucket-count in
+    (none_behind w.sending.ready w.placed c.requires.1 call.ensures.0, begins w c.requires.1 call.new.image call.auto.image)
 
--- src/build.rt:80:63
 pub overflow_add-first : goal.overflow_add-first
-overflow_add-first t c = ?
+overflow_add-first t c =
+    let w = c.requires.0 in
+    child_fits w.sending.ready w.placed c.requires.1 c.write_tree_bucket-count.ensures.0 c.loop-i.invariant.0 c.if-e-eq1.false c.loop-i-test.true
 
--- src/build.rt:80:9
 pub write_subtree-next-requires : goal.write_subtree-next-requires
-write_subtree-next-requires t c = ?
+write_subtree-next-requires t c =
+    let w = c.requires.0 in
+    let p = c.requires.1 in
+    let call = c.write_tree_bucket-count in
+    let more = c.if-e-eq1.false in (
+      omega (arith, p.low),
+      (
+        writing_kept c.args.f c.args.list.now c.args.s _ w _
+            (room_kept w p more call.ensures.0 c.loop-i.invariant.0 call.new.image call.auto.image c.loop-i.invariant.1),
+        child_place w.sending.ready w.placed p call.ensures.0 c.loop-i.invariant.0 more c.loop-i-test.true,
+      ),
+    )
 
--- src/build.rt:79:5
 pub loop-i-preserved : goal.loop-i-preserved
-loop-i-preserved t c = ?
+loop-i-preserved t c =
+    let w = c.requires.0 in
+    let call = c.write_tree_bucket-count in
+    let h = c.loop-i-test.true in
+    let next = c.write_subtree-next in (
+      next_behind w.sending.ready w.placed c.requires.1 call.ensures.0 c.loop-i.invariant.0 h next.ensures.0,
+      next_written w c.requires.1 c.if-e-eq1.false call.ensures.0 c.loop-i.invariant.0 call.new.image call.auto.image c.loop-i.invariant.1 h
+          next.result next.ensures.0 next.ensures.1,
+    )
 
--- src/build.rt:58:1
 pub returns : goal.returns
-returns t c = ?
+returns t c =
+    let w = c.requires.0 in
+    let call = c.write_tree_bucket-count in (
+      all_behind w.sending.ready w.placed c.requires.1 call.ensures.0 c.loop-i.invariant.0 c.loop-i-test.false,
+      all_written w c.requires.1 c.if-e-eq1.false call.ensures.0 c.loop-i.invariant.0 call.new.image call.auto.image c.loop-i.invariant.1
+          c.loop-i-test.false c.args.image.now refl call.ensures.1,
+    )

@@ -21,11 +21,13 @@ returns c =
     decides_by_all (Goes f P) (λ i. DataMatches t bytes 0 f.d → ⊥) (DataMatches t bytes 0 f.d) c.all.ensures.ran
     (λ x b q k.
     let told : (s : Segment) × (((ls : List Line) → HoldsSegment (plan_of f ls) s) × (s.number ≡ x)) × Decides (Matches t bytes s.data_at s.end) b = search rules in
-    let w : Comparing f bytes told.0 = record { holding = c.requires; placed = told.1.0 } in
-    (search rules, record {
-      yes = λ e. goes told.0 told.1 (λ d. datas_more f bytes told.0 w d (told.2.yes e));
-      no = λ e d. told.2.no e (datas_within f bytes told.0 w d);
-    }))
+    let w : Comparing f bytes told.0 = record { holding = c.requires; placed = told.1.0 } in (
+      search rules,
+      record {
+        yes = λ e. goes told.0 told.1 (λ d. datas_more f bytes told.0 w d (told.2.yes e));
+        no = λ e d. told.2.no e (datas_within f bytes told.0 w d);
+      },
+    ))
     (λ each. datas_to (ap (sent_by (plan_of f [])) c.requires.ready.size_is ∙ all_sent f c.requires.ready)
     (goes_through c.requires.ready c.segment_count.ensures (datas_to (sym (sent_none (plan_of f []))) datas_none) each))
     (λ i low high none d. none d)

@@ -20,10 +20,12 @@ returns c =
     (λ x b q k.
     let told : (s : Segment) × (((ls : List Line) → HoldsSegment (plan_of f ls) s) × (s.number ≡ x)) × Decides (Matches t bytes s.start s.end) b = search rules in
     let w : Comparing f bytes told.0 = record { holding = c.requires.0; placed = told.1.0 } in
-    let sits = seats f bytes told.0 w in
-    (search rules, record {
-      yes = λ e. goes told.0 told.1 (λ m. matches_on m (told.2.yes e));
-      no = λ e m. told.2.no e (matches_part _ _ (omega arith) (omega (arith, sits)) m);
-    }))
+    let sits = seats f bytes told.0 w in (
+      search rules,
+      record {
+        yes = λ e. goes told.0 told.1 (λ m. matches_on m (told.2.yes e));
+        no = λ e m. told.2.no e (matches_part _ _ (omega arith) (omega (arith, sits)) m);
+      },
+    ))
     (λ each. goes_through c.requires.0.ready c.segment_count.ensures (matches_none 0) each)
     (λ i low high none m. none m)

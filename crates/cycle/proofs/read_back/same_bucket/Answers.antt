@@ -1,16 +1,25 @@
-use Rattle.std.proofs.Common.{rules, ◌≡◌, ◌&&◌, [], eqb, ◌+◌, ◌-◌, ◌*◌, ◌/◌, ◌%◌, ◌≤◌, ◌<◌, min, length, ℕ, Bool, true, false, nat_lt, List, ◌∷◌, ◌++◌, slice_index_or, slice_set, bit_and, bit_or, Fits, w8, w32, w64, Bor, MutBor}
-use Rattle.columns.specs.Lists.{put, onto}
-use Rattle.buckets.specs.Lengths.{line_length, bucket_length, buckets_most}
-use Rattle.cycle.specs.Tree.{settings, children, last_tag}
-use Rattle.cycle.specs.ReadingBack
-use Rattle.cycle.specs.ReadingBack.{read_back}
-use Rattle.cycle.specs.Cycle.{first_place, bucket_at}
-use Rattle.cycle.specs.Judging.{tree_at}
-use Rattle.cycle.specs.Inner.Held.{plan_of, Shaped, Ready, HoldsSegment, plan_in, TreePlace, DataPlace}
-use Rattle.cycle.specs.Inner.Comparing.{Decides, Finds, counted, MatchesAt, Matches, DataMatches, Followed, list_text, Holding, Comparing, Checking}
-use Rattle.cycle.specs.declared.Source.TheVariants as Source
+-- One column more, and lists of the same columns.
+use Rattle.std.proofs.Common.{◌≡◌, ℕ, List, length, sym, ap, subst, ◌∙◌, ◌+◌, ◌<◌, get_or, below_more, arith}
+use Rattle.std.proofs.Math.Seq.{ext_get_or}
+use Rattle.cycle.specs.Inner.Comparing.{Decides}
+use Rattle.cycle.proofs.Basics.Deciding.{decides_yes, decides_by, decides_both, decides_eqb}
 use Rattle.cycle.proofs.read_back.same_bucket.Goals as goal
 
--- src/read_back.rt:53:1
+pub loop-i-init : goal.loop-i-init
+loop-i-init c = decides_yes (λ k h. absurd (omega arith))
+
+pub loop-i-preserved : goal.loop-i-preserved
+loop-i-preserved c =
+    let a : List ℕ = c.args.a.now in
+    let b : List ℕ = c.args.b.now in
+    let i = c.loop-i.i in
+    decides_by (λ p. below_more _ _ p.0 p.1) (λ h. ((λ k low. h k (omega arith)), h i (omega arith)))
+    (subst (Decides (((k : ℕ) → k < i → get_or a k 0 ≡ get_or b k 0) × (get_or a i 0 ≡ get_or b i 0))) (sym c.still_same-same.ensures)
+    (decides_both c.loop-i.invariant (decides_eqb (get_or a i 0) (get_or b i 0))))
+
 pub returns : goal.returns
-returns c = ?
+returns c =
+    let a : List ℕ = c.args.a.now in
+    let b : List ℕ = c.args.b.now in
+    let long : length a ≡ length b = omega arith in
+    decides_by (λ h. ext_get_or 0 a b long (λ k low. h k (omega arith))) (λ e k low. ap (λ (y : List ℕ). get_or y k 0) e) c.loop-i.invariant
