@@ -5,5 +5,6 @@ pub mod Lasts
 pub mod Powers
 pub mod Filled
 pub mod Deciding
+pub mod RangeTests
 pub mod Conditions
 pub mod Telling

@@ -75,12 +75,9 @@ fn write_subtree(
     if e == 1 {
         return next;
     }
-    let below = e - 1;
     let first = j * f.n;
-    let mut i = 0;
-    while i < count {
-        next = write_subtree(image, list, plain, f, s, below, first + i as u64, next);
-        i += 1;
+    for i in 0..count as u64 {
+        next = write_subtree(image, list, plain, f, s, e - 1, first + i, next);
     }
     next
 }
@@ -91,14 +88,11 @@ fn write_path(image: &mut [u8], list: &[u8], plain: bool, f: Figures, s: Segment
     ensures { image.new ≡
         written (plan_in f Source.List list.now) image.old s.start s.tree_at }
 {
-    let mut x = s.start;
-    let mut i = s.top;
-    while i <= f.copies {
+    for x in s.start..s.tree_at {
+        let i = s.top + (x - s.start);
         let at = (BUCKET * x) as usize;
         let to = at + Bucket::LENGTH;
         print_path_bucket(&mut image[at..to], list, plain, f, Source::List, s, i, x);
-        x += 1;
-        i += 1;
     }
 }
 
@@ -106,10 +100,7 @@ fn write_path(image: &mut [u8], list: &[u8], plain: bool, f: Figures, s: Segment
 fn as_digit(c: u8) -> u8
     ensures { result ≡ max c 48 }
 {
-    if c < b'0' {
-        return b'0';
-    }
-    c
+    c.max(b'0')
 }
 
 // Whether the tags that stand printed at a and b are the same, column by column from the last.
@@ -117,9 +108,7 @@ fn same_tags(list: &[u8], a: usize, b: usize) -> bool
     requires { (a + tag_width ≤ length list.now) × (b + tag_width ≤ length list.now) }
     ensures { Decides (SameDigits (take tag_width (drop a list.now)) (take tag_width (drop b list.now))) result }
 {
-    let mut i = Line::TAG_WIDTH;
-    while 0 < i {
-        i -= 1;
+    for i in (0..Line::TAG_WIDTH).rev() {
         if as_digit(list[a + i]) != as_digit(list[b + i]) {
             return false;
         }
@@ -167,12 +156,8 @@ fn write_datas(image: &mut [u8], list: &[u8], plain: bool, f: Figures, s: Segmen
     requires { Writing f list.now plain s (length image.old) }
     ensures { image.new ≡ written (plan_in f Source.List list.now) image.old s.data_at s.end }
 {
-    let mut x = s.data_at;
-    let mut q = s.first;
-    while q < s.last {
-        write_data_at(image, list, plain, f, s, q, x);
-        x += 1;
-        q += 1;
+    for q in s.first..s.last {
+        write_data_at(image, list, plain, f, s, q, s.place_of(q));
     }
 }
 
@@ -191,11 +176,8 @@ pub(crate) fn write_cycle(image: &mut [u8], list: &[u8], plain: bool, f: Figures
     requires { AcceptedList f list.now × (bucket_length * f.size ≤ length image.old) × (plain ≡ true → PlainList list.now) }
     ensures { image.new ≡ written (plan_in f Source.List list.now) image.old 0 f.size }
 {
-    let count = segment_count(f);
-    let mut i = 0;
-    while i < count {
+    for i in 0..segment_count(f) {
         write_segment(image, list, plain, f, segment_of(f, i));
-        i += 1;
     }
 }
 

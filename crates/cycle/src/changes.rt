@@ -125,11 +125,7 @@ fn open_place(list: &mut [u8], at: usize, end: usize)
     ensures { list.new ≡
         put list.old (at + line_length) (take (end - at) (drop at list.old)) }
 {
-    let mut i = end;
-    while at < i {
-        i -= 1;
-        list[i + Line::LENGTH] = list[i];
-    }
+    list.copy_within(at..end, at + Line::LENGTH);
 }
 
 // Moves the bytes behind the line at `at`, up to end, one line back, the first first.
@@ -138,12 +134,7 @@ fn close_place(list: &mut [u8], at: usize, end: usize)
     ensures { list.new ≡
         put list.old at (take (end - (at + line_length)) (drop (at + line_length) list.old)) }
 {
-    let mut i = at;
-    let to = end - Line::LENGTH;
-    while i < to {
-        list[i] = list[i + Line::LENGTH];
-        i += 1;
-    }
+    list.copy_within(at + Line::LENGTH..end, at);
 }
 
 // Puts a line into the list that ends at end, in front of the line at `at`.

@@ -219,12 +219,10 @@ fn put_entries(
     let span = power(f.n, below);
     let full = full_size(f.n, below);
     let first = j * f.n;
-    let mut i = 0;
-    while i < count {
+    for i in 0..count {
         let from = tag_place(f, source, s, span, first + i as u64);
         let distance = child_distance(f, s, e, j, x, full, i as u64);
         put_entry(part, i, text, from, plain, distance);
-        i += 1;
     }
 }
 

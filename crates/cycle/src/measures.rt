@@ -21,17 +21,14 @@ pub fn up(a: u64, b: u64) -> u64
     requires { (1 ≤ b) × (a + b ≤ 2 ^ 60) }
     ensures { result ≡ Lists.up a b }
 {
-    (a + (b - 1)) / b
+    a.div_ceil(b)
 }
 
 // The lesser of two.
 pub fn lesser(a: u64, b: u64) -> u64
     ensures { result ≡ min a b }
 {
-    if a < b {
-        return a;
-    }
-    b
+    a.min(b)
 }
 
 // The least k of at least 1 with n^k at least d.
@@ -61,13 +58,11 @@ pub fn full_size(n: u64, h: usize) -> u64
     requires { (2 ≤ n) × (n ≤ entries_most) × (h ≤ levels_most) }
     ensures { result ≡ full_size n h }
 {
-    let mut x = 0;
-    let mut i = 0;
-    while i < h {
-        x = x * n + 1;
-        i += 1;
+    let mut size = 0;
+    for _ in 0..h {
+        size = size * n + 1;
     }
-    x
+    size
 }
 
 // Whether n, p and layout are within their ranges.
@@ -134,12 +129,9 @@ fn last_tree_size(f: Figures, e: usize, j: u64) -> u64
     if f.d == 0 {
         return 1;
     }
-    let mut h = 1;
     let mut sum = 0;
-    while h <= e {
-        let rest = e - h;
-        sum += up(f.d, power(f.n, h)) - j * power(f.n, rest);
-        h += 1;
+    for h in 1..e + 1 {
+        sum += up(f.d, power(f.n, h)) - j * power(f.n, e - h);
     }
     sum
 }
@@ -163,13 +155,11 @@ pub fn paths_before(f: Figures, b: u64) -> u64
     if f.copies == 0 {
         return 0;
     }
-    let mut left = f.copies;
     let mut count = b;
     let mut sum = b;
-    while 1 < left {
+    for _ in 1..f.copies {
         count = up(count, f.n);
         sum += count;
-        left -= 1;
     }
     sum
 }

@@ -54,10 +54,8 @@ fn same_bucket(a: &[u8], b: &[u8]) -> bool
     ensures { Decides (a.now ≡ b.now) result }
 {
     let mut same = true;
-    let mut i = 0;
-    while i < Bucket::LENGTH {
+    for i in 0..Bucket::LENGTH {
         same = still_same(same, a[i], b[i]);
-        i += 1;
     }
     same
 }
@@ -103,8 +101,8 @@ fn is_tree_bucket(
     is_at(image, x, &wanted)
 }
 
-// The position behind the subtree of bucket j of height e, if it stands from x on; else 0.
-fn behind_subtree(image: &[u8], f: Figures, s: Segment, e: usize, j: u64, x: u64) -> u64
+// The position behind the subtree of bucket j of height e, if it stands from x on.
+fn behind_subtree(image: &[u8], f: Figures, s: Segment, e: usize, j: u64, x: u64) -> Option<u64>
     requires { Checking f image.now s × TreePlace f s e j x }
     ensures { Finds
         (Matches (plan_in f Source.Image image.now) image.now x (x + length (tree_at (plan_of f []) e j)))
@@ -112,23 +110,17 @@ fn behind_subtree(image: &[u8], f: Figures, s: Segment, e: usize, j: u64, x: u64
 {
     let count = child_count(f, e, j);
     if !is_tree_bucket(image, f, s, e, j, x, count) {
-        return 0;
+        return None;
     }
     let mut next = x + 1;
     if e == 1 {
-        return next;
+        return Some(next);
     }
-    let below = e - 1;
     let first = j * f.n;
-    let mut i = 0;
-    while i < count {
-        next = behind_subtree(image, f, s, below, first + i as u64, next);
-        if next == 0 {
-            return 0;
-        }
-        i += 1;
+    for i in 0..count as u64 {
+        next = behind_subtree(image, f, s, e - 1, first + i, next)?;
     }
-    next
+    Some(next)
 }
 
 // Whether the path bucket of level i of a segment stands at x.
@@ -146,16 +138,7 @@ fn is_path(image: &[u8], f: Figures, s: Segment) -> bool
     requires { Checking f image.now s }
     ensures { Decides (Matches (plan_in f Source.Image image.now) image.now s.start s.tree_at) result }
 {
-    let mut x = s.start;
-    let mut i = s.top;
-    while i <= f.copies {
-        if !is_path_bucket(image, f, s, i, x) {
-            return false;
-        }
-        x += 1;
-        i += 1;
-    }
-    true
+    (s.start..s.tree_at).all(|x| is_path_bucket(image, f, s, s.top + (x - s.start), x))
 }
 
 // The position of the data bucket behind data bucket q, which stands at x in its segment.
@@ -232,16 +215,7 @@ fn are_datas(image: &[u8], f: Figures, s: Segment) -> bool
     requires { Comparing f image.now s }
     ensures { Decides (Matches (plan_in f Source.Image image.now) image.now s.data_at s.end) result }
 {
-    let mut x = s.data_at;
-    let mut q = s.first;
-    while q < s.last {
-        if !is_data(image, f, s, q, x) {
-            return false;
-        }
-        x += 1;
-        q += 1;
-    }
-    true
+    (s.first..s.last).all(|q| is_data(image, f, s, q, s.place_of(q)))
 }
 
 // Whether the index buckets of a segment, its path and its tree, stand in their places as its data buckets do.
@@ -249,10 +223,7 @@ fn is_segment(image: &[u8], f: Figures, s: Segment) -> bool
     requires { Checking f image.now s }
     ensures { Decides (Matches (plan_in f Source.Image image.now) image.now s.start s.end) result }
 {
-    if !is_path(image, f, s) {
-        return false;
-    }
-    behind_subtree(image, f, s, s.height, s.root, s.tree_at) != 0
+    is_path(image, f, s) && behind_subtree(image, f, s, s.height, s.root, s.tree_at).is_some()
 }
 
 // Whether all data buckets stand in their places.
@@ -260,15 +231,7 @@ fn all_datas(image: &[u8], f: Figures) -> bool
     requires { Holding f image.now }
     ensures { Decides (DataMatches (plan_in f Source.Image image.now) image.now 0 f.d) result }
 {
-    let count = segment_count(f);
-    let mut i = 0;
-    while i < count {
-        if !are_datas(image, f, segment_of(f, i)) {
-            return false;
-        }
-        i += 1;
-    }
-    true
+    (0..segment_count(f)).all(|i| are_datas(image, f, segment_of(f, i)))
 }
 
 // Whether all segments stand in their places, as their data buckets do.
@@ -276,15 +239,7 @@ fn all_segments(image: &[u8], f: Figures) -> bool
     requires { Holding f image.now × DataMatches (plan_in f Source.Image image.now) image.now 0 f.d }
     ensures { Decides (Matches (plan_in f Source.Image image.now) image.now 0 f.size) result }
 {
-    let count = segment_count(f);
-    let mut i = 0;
-    while i < count {
-        if !is_segment(image, f, segment_of(f, i)) {
-            return false;
-        }
-        i += 1;
-    }
-    true
+    (0..segment_count(f)).all(|i| is_segment(image, f, segment_of(f, i)))
 }
 
 // Whether the image is the cycle of the lines that stand in it. Once its data buckets are known to be good, so are the index
@@ -293,10 +248,7 @@ fn is_cycle(image: &[u8], f: Figures) -> bool
     requires { Holding f image.now }
     ensures { Decides (Matches (plan_in f Source.Image image.now) image.now 0 f.size) result }
 {
-    if !all_datas(image, f) {
-        return false;
-    }
-    all_segments(image, f)
+    all_datas(image, f) && all_segments(image, f)
 }
 
 // How many lines the image has: p for each data bucket but the last, and what the last one's count says.
@@ -304,18 +256,14 @@ fn line_count(image: &[u8], p: u64) -> u64
     requires { (length image.now ≤ bucket_length * buckets_most) × (p ≤ 8) }
     ensures { result ≡ counted p image.now }
 {
-    let count = image.len() / Bucket::LENGTH;
-    let mut x = 0;
-    let mut d: u64 = 0;
-    let mut last: u8 = b'0';
-    while x < count {
-        let at = Bucket::LENGTH * x;
-        let data = image[at + Bucket::LETTER] == Bucket::DATA;
+    let mut d = 0;
+    let mut last = b'0';
+    for bucket in image.chunks_exact(Bucket::LENGTH) {
+        let data = bucket[Bucket::LETTER] == Bucket::DATA;
         if data {
             d += 1;
-            last = image[at + Bucket::ITEM_DIGIT];
+            last = bucket[Bucket::ITEM_DIGIT];
         }
-        x += 1;
     }
     if d == 0 {
         return 0;
@@ -333,16 +281,12 @@ fn write_lines(out: &mut [u8], image: &[u8], f: Figures, s: Segment)
         put out.old (line_length * (s.first * f.p))
         (list_text f image.now (s.first * f.p) (min f.lines (s.last * f.p))) }
 {
-    let mut x = s.data_at;
-    let mut q = s.first;
-    while q < s.last {
+    for q in s.first..s.last {
         let line = q * f.p;
         let count = lesser(f.p, f.lines - line) as usize;
         let to = (LINE * line) as usize;
-        let from = (BUCKET * x + LINES) as usize;
+        let from = (BUCKET * s.place_of(q) + LINES) as usize;
         copy_lines(out, to, image, from, count);
-        x += 1;
-        q += 1;
     }
 }
 
@@ -351,11 +295,8 @@ fn write_list(out: &mut [u8], image: &[u8], f: Figures)
     requires { Holding f image.now × (line_length * f.lines ≤ length out.old) }
     ensures { out.new ≡ put out.old 0 (list_text f image.now 0 f.lines) }
 {
-    let count = segment_count(f);
-    let mut i = 0;
-    while i < count {
+    for i in 0..segment_count(f) {
         write_lines(out, image, f, segment_of(f, i));
-        i += 1;
     }
 }
 

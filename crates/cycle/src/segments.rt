@@ -1,14 +1,25 @@
 // The segments of a cycle, and where they stand.
-ghost use Rattle.std.specs.Prelude.{◌≡◌, List, [], ◌+◌, ◌-◌, ◌*◌, ◌<◌, length};
+ghost use Rattle.std.specs.Prelude.{◌≡◌, List, [], ◌+◌, ◌-◌, ◌*◌, ◌≤◌, ◌<◌, length};
 ghost use Rattle.columns.specs.Lists.{joined, range};
 ghost use Rattle.buckets.specs.declared.Line.{Line};
 ghost use Rattle.cycle.specs.Layouts.{path_top, distributed_segment, whole_segment};
 ghost use Rattle.cycle.specs.Waits.{segment_start};
 ghost use Rattle.cycle.specs.Judging.{tree_at};
-ghost use Rattle.cycle.specs.Inner.Held.{plan_of, Ready, HoldsSegment, segment_count};
+ghost use Rattle.cycle.specs.Inner.Held.{plan_of, Ready, HoldsSegment, segment_count, DataPlace};
 
 use super::measures::{lesser, paths_before, up};
 use super::{Figures, Segment};
+
+impl Segment {
+    // The position of its data bucket q.
+    #[inline]
+    pub fn place_of(self, q: u64) -> u64
+        requires { (self.first ≤ q) × (q < self.last) × (self.end ≡ self.data_at + (self.last - self.first)) }
+        ensures { DataPlace self q result }
+    {
+        self.data_at + (q - self.first)
+    }
+}
 
 // How many segments there are.
 pub fn segment_count(f: Figures) -> u64
@@ -32,14 +43,12 @@ pub fn path_top(f: Figures, b: u64) -> u64
     if b == 0 {
         return 1;
     }
-    let mut level = f.copies;
     let mut place = b;
-    while 1 < level {
+    for level in (2..f.copies + 1).rev() {
         if place % f.n != 0 {
             return level;
         }
-        place = place / f.n;
-        level -= 1;
+        place /= f.n;
     }
     1
 }

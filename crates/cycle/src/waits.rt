@@ -33,8 +33,7 @@ fn add_waits(list: &[u8], f: Figures) -> WaitSum
     let mut first = 0;
     let mut tags = 1;
     let mut sum = 0;
-    let mut i = 1;
-    while i < f.lines {
+    for i in 1..f.lines {
         let next = tag_of(list, f, Source::List, i);
         let other = next != tag;
         if other {
@@ -43,7 +42,6 @@ fn add_waits(list: &[u8], f: Figures) -> WaitSum
             tag = next;
             first = i / f.p;
         }
-        i += 1;
     }
     sum += waits_between(f, first, (f.lines - 1) / f.p);
     WaitSum {

@@ -1,12 +1,12 @@
 -- How a test that decides a statement is put together.
 -- Assumes nothing.
 use mathlib.Core.Path.{◌≡◌, refl, sym}
-use Prim.Native.Nat.{ℕ, ◌≤◌}
+use Prim.Native.Nat.{ℕ}
 use native.Mathlib.Omega.{arith}
 use mathlib.Core.Bool.{Bool, true, false, not, ◌&&◌, true≢false}
 use lib.Dec.{eqb}
 use borrow.Author.Tests.{eqb-true, eqb-false}
-use Rattle.cycle.specs.Inner.Comparing.{Decides, Finds}
+use Rattle.cycle.specs.Inner.Comparing.{Decides}
 
 module _ {P : Type 0} where
   pub decides_no : (P → ⊥) → Decides P false
@@ -35,20 +35,3 @@ decides_eqb a b = record { yes = eqb-true a b; no = eqb-false a b }
 pub decides_both : {P Q : Type 0} {a b : Bool} → Decides P a → Decides Q b → Decides (P × Q) (a && b)
 decides_both {a = true} {b} d e = decides_by (λ q. (d.yes refl, q)) (λ p. p.1) e
 decides_both {a = false} {b} d e = decides_no (λ p. d.no refl p.0)
-
--- ---- searches
-
-module _ {P : Type 0} {y : ℕ} where
-  pub finds_none : (P → ⊥) → Finds P y 0
-  finds_none f = record { found = λ n. absurd (n refl); none = λ e. f }
-
-  pub finds_some : P → (r : ℕ) → r ≡ y → 1 ≤ r → Finds P y r
-  finds_some p r e h = record { found = λ n. (p, e); none = λ z. absurd (omega arith) }
-
-  -- the test of its answer
-  pub finds_decides : {r : ℕ} → Finds P y r → Decides P (not (eqb r 0))
-  finds_decides {r} d = go (eqb r 0) refl
-    where
-      go : (b : Bool) → eqb r 0 ≡ b → Decides P (not b)
-      go true e = decides_no (d.none (eqb-true r 0 e))
-      go false e = decides_yes (d.found (eqb-false r 0 e)).0

@@ -1,8 +1,7 @@
 -- Bytes that move in a list's buffer when a line is put in or taken out, and what the buffer holds then.
---     take_place, at_before, at_behind        what a write does not touch
+--     take_place                              what a write does not touch
 --     put_before, put_onto                    a write that ends where another begins; a write by the buffer's front
---     opened_none, opened_more, opened_all    bytes moved on: none yet, one more, all
---     closed_none, closed_more, closed_all    bytes moved back: none yet, one more, all
+--     pasted                                  a part moved within a list
 --     line_in, line_out                       a place opened and filled, a place closed and blanked
 --     line_put, line_removed                  the same by the list that the buffer holds
 --     onto_..                                 a buffer with bytes written at its front
@@ -13,7 +12,7 @@ use mathlib.Core.List.{List, [], ◌∷◌, ◌++◌, append_assoc}
 use native.Mathlib.Nat.{add-zero}
 use native.Mathlib.Omega.{arith}
 use lib.ListN.{length, take, drop, get_or, set, length-append, length-drop, length-set}
-use lib.Seq.{length-take-le, take-take, take_at, take-suc, drop_at, drop-cons, drop-drop, drop-append-add, take-append_seam, get_or-take, get_or-drop, take-add}
+use lib.Seq.{length-take-le, take-take, take_at, take-suc, drop_at, drop-cons, drop-drop, drop-append-add, take-append_seam, get_or-take, get_or-drop, take-add, paste}
 use Rattle.columns.specs.Lists.{put, onto}
 use Rattle.columns.specs.PrintedNumbers.{blanks}
 use Rattle.columns.proofs.Put.{put_nil, put_put, put_part, put_set, drop_place, drop_put, length_part}
@@ -26,18 +25,6 @@ use Rattle.cycle.specs.Inner.Changing.{with_line, without_line}
 take_place : (d : List ℕ) (k : ℕ) (s : List ℕ) → k ≤ length d → take k (put d k s) ≡ take k d
 unfolding put
 take_place d k s h = take_at (take k d) (s ++ drop (k + length s) d) k (length-take-le k d h)
-
--- a byte in front of what is written
-at_before : (d : List ℕ) (k : ℕ) (s : List ℕ) (j : ℕ) → k ≤ length d → j < k → get_or (put d k s) j 0 ≡ get_or d j 0
-at_before d k s j h b =
-    sym (get_or-take k (put d k s) j 0 b) ∙ ap (λ (x : List ℕ). get_or x j 0) (take_place d k s h) ∙ get_or-take k d j 0 b
-
--- a byte behind it
-at_behind : (d : List ℕ) (k : ℕ) (s : List ℕ) (j : ℕ) → k ≤ length d → k + length s ≤ j → get_or (put d k s) j 0 ≡ get_or d j 0
-at_behind d k s j h b =
-    let at : (x : List ℕ) → get_or x j 0 ≡ get_or (drop j x) 0 0 =
-    λ x. sym (get_or-drop j x 0 0 ∙ ap (λ (i : ℕ). get_or x i 0) (add-zero j)) in
-    at (put d k s) ∙ ap (λ (x : List ℕ). get_or x 0 0) (drop_put d k s j h b) ∙ sym (at d)
 
 -- a write that ends where the one before it begins
 put_before : (d : List ℕ) (k : ℕ) (s : List ℕ) (j : ℕ) (t : List ℕ) → k ≤ length d → j + length t ≡ k →
@@ -52,108 +39,14 @@ put_before d k s j t h e =
     ap₂ (λ (x y : List ℕ). x ++ (t ++ y)) front (back ∙ ap (λ (i : ℕ). s ++ drop i d) end)
     ∙ ap (λ (x : List ℕ). take j d ++ x) (sym (append_assoc t s (drop (j + length (t ++ s)) d)))
 
--- ---- a place opens: the bytes from `at` up to `end` move on by w, the last first, and those from i on have
+-- ---- a part moved within a list
 
-pub record Opened (b : List ℕ) (w at end : ℕ) (list : List ℕ) (i : ℕ) : Type 0 where
-  pub from : at ≤ i
-  pub to : i ≤ end
-  pub long : length list ≡ length b
-  pub is : list ≡ put b (i + w) (take (end - i) (drop i b))
-
-pub opened_none : (b : List ℕ) (w at end : ℕ) → at ≤ end → Opened b w at end b end
-opened_none b w at end h =
-    let none : 0 ≡ end - end = omega arith in
-    record {
-      from = h;
-      to = omega arith;
-      long = refl;
-      is = sym (put_nil b (end + w)) ∙ ap (λ (c : ℕ). put b (end + w) (take c (drop end b))) none;
-    }
-
--- the byte in front of them moves too
-pub opened_more :
-    (b : List ℕ) (w at end : ℕ) (list : List ℕ) (i j : ℕ) → end + w ≤ length b → Opened b w at end list i → at < i → i ≡ suc j →
-    Opened b w at end (set list (j + w) (get_or list j 0)) j
-opened_more b w at end list i j room o h e =
-    let rest : List ℕ = take (end - i) (drop i b) in
-    let there : j + w < length list = omega arith in
-    let near : j + w + 1 ≡ i + w = omega arith in
-    let byte : get_or list j 0 ≡ get_or b j 0 =
-    ap (λ (x : List ℕ). get_or x j 0) o.is ∙ at_before b (i + w) rest j (omega arith) (omega arith) in
-    let one : end - j ≡ suc (end - i) = omega arith in
-    let part : get_or b j 0 ∷ rest ≡ take (end - j) (drop j b) =
-    ap (λ (k : ℕ). get_or b j 0 ∷ take (end - i) (drop k b)) e
-    ∙ ap (take (suc (end - i))) (sym (drop-cons b j 0 (omega arith)))
-    ∙ ap (λ (c : ℕ). take c (drop j b)) (sym one) in
-    record {
-      from = omega arith;
-      to = omega arith;
-      long = simp length-set o.long;
-      is =
-          put_set list (j + w) (get_or list j 0) there
-          ∙ ap₂ (λ (x : List ℕ) (v : ℕ). put x (j + w) (v ∷ [])) o.is byte
-          ∙ put_before b (i + w) rest (j + w) (get_or b j 0 ∷ []) (omega arith) near
-          ∙ ap (put b (j + w)) part;
-    }
-
-pub opened_all :
-    (b : List ℕ) (w at end : ℕ) (list : List ℕ) (i : ℕ) → Opened b w at end list i → i ≤ at →
-    list ≡ put b (at + w) (take (end - at) (drop at b))
-opened_all b w at end list i o h =
-    let e : i ≡ at = omega arith in
-    o.is ∙ ap (λ (k : ℕ). put b (k + w) (take (end - k) (drop k b))) e
-
--- ---- a place closes: the bytes from `at` + w on move back by w, the first first, and those up to i stand
-
-pub record Closed (b : List ℕ) (w at end : ℕ) (list : List ℕ) (i : ℕ) : Type 0 where
-  pub from : at ≤ i
-  pub to : i + w ≤ end
-  pub long : length list ≡ length b
-  pub is : list ≡ put b at (take (i - at) (drop (at + w) b))
-
-pub closed_none : (b : List ℕ) (w at end : ℕ) → at + w ≤ end → Closed b w at end b at
-closed_none b w at end h =
-    let none : 0 ≡ at - at = omega arith in
-    record {
-      from = omega arith;
-      to = h;
-      long = refl;
-      is = sym (put_nil b at) ∙ ap (λ (c : ℕ). put b at (take c (drop (at + w) b))) none;
-    }
-
--- the byte behind them moves too
-pub closed_more :
-    (b : List ℕ) (w at end : ℕ) (list : List ℕ) (i j : ℕ) → end ≤ length b → Closed b w at end list i → i + w < end → j ≡ i + 1 →
-    Closed b w at end (set list i (get_or list (i + w) 0)) j
-closed_more b w at end list i j room o h e =
-    let rest : List ℕ = drop (at + w) b in
-    let done : List ℕ = take (i - at) rest in
-    let count : length done ≡ i - at = length_part b (at + w) (i - at) (omega arith) in
-    let far : at + w + (i - at) ≡ i + w = omega arith in
-    let byte : get_or list (i + w) 0 ≡ get_or rest (i - at) 0 =
-    ap (λ (x : List ℕ). get_or x (i + w) 0) o.is
-    ∙ at_behind b at done (i + w) (omega arith) (omega arith)
-    ∙ ap (λ (k : ℕ). get_or b k 0) (sym far)
-    ∙ sym (get_or-drop (at + w) b (i - at) 0) in
-    let next : suc (i - at) ≡ j - at = omega arith in
-    let more : i - at < length rest = simp length-drop (omega arith) in
-    record {
-      from = omega arith;
-      to = omega arith;
-      long = simp length-set o.long;
-      is =
-          put_set list i (get_or list (i + w) 0) (omega arith)
-          ∙ ap₂ (λ (x : List ℕ) (v : ℕ). put x i (v ∷ [])) o.is byte
-          ∙ put_put b at done i (get_or rest (i - at) 0 ∷ []) (omega arith) (omega arith)
-          ∙ ap (put b at) (sym (take-suc rest (i - at) 0 more) ∙ ap (λ (c : ℕ). take c rest) next);
-    }
-
-pub closed_all :
-    (b : List ℕ) (w at end : ℕ) (list : List ℕ) (i : ℕ) → Closed b w at end list i → end ≤ i + w →
-    list ≡ put b at (take (end - (at + w)) (drop (at + w) b))
-closed_all b w at end list i o h =
-    let e : i - at ≡ end - (at + w) = omega arith in
-    o.is ∙ ap (λ (c : ℕ). put b at (take c (drop (at + w) b))) e
+pub pasted : (d : List ℕ) (k at c : ℕ) → at + c ≤ length d → paste d k (drop at d) c ≡ put d k (take c (drop at d))
+unfolding put
+pasted d k at c h =
+    let long : length (take c (drop at d)) ≡ c = length_part d at c h in
+    append_assoc (take k d) (take c (drop at d)) (drop (k + c) d)
+    ∙ ap (λ (i : ℕ). take k d ++ (take c (drop at d) ++ drop (k + i) d)) (sym long)
 
 -- ---- the place filled, the last place blanked
 

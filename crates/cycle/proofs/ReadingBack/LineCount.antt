@@ -9,9 +9,9 @@ use Rattle.std.specs.Prelude.{Option, None}
 use mathlib.Core.List.{List, [], ◌∷◌, ◌++◌, map, append_assoc, append-nil}
 use lib.Dec.{eqb, lit<}
 use lib.ListN
-use lib.ListN.{length, drop, get_or, length-drop, length-take}
-use lib.Seq.{get_or-take, get_or-drop, drop-drop}
-use borrow.Author.Tests.{ne_eqb, le-ltb}
+use lib.ListN.{length, drop, get_or, length-append, length-take, length-drop}
+use lib.Seq.{take_at, drop_at}
+use borrow.Author.Tests.{eq-eqb, ne_eqb, lt-ltb, le-ltb}
 use Rattle.columns.specs.Lists.{pick, joined, parts, up}
 use Rattle.columns.proofs.Joined.{length_joined_if, parts_joined_if}
 use Rattle.buckets.specs.Bucket.{Bucket, print_head, print_bucket, good, letter, item_count}
@@ -134,18 +134,27 @@ counted_lines t a short =
 
 -- one bucket more of an image
 pub counted_bucket :
-    (bytes : List ℕ) (p d last count x : ℕ) → x < count →
-    counted_from p d last (parts (count - x) bucket_length (drop (bucket_length * x) bytes)) ≡
-    pick (eqb (get_or bytes (bucket_length * x + letter_column) 0) letter_data)
-    (counted_from p (d + 1) (get_or bytes (bucket_length * x + item_digit_column) 0) (parts (count - (x + 1)) bucket_length (drop (bucket_length * (x + 1)) bytes)))
-    (counted_from p d last (parts (count - (x + 1)) bucket_length (drop (bucket_length * (x + 1)) bytes)))
-counted_bucket bytes p d last count x h =
-    let left : count - x ≡ suc (count - (x + 1)) = omega arith in
-    let on : bucket_length * x + bucket_length ≡ bucket_length * (x + 1) = omega arith in
-    let letter_at : get_or (ListN.take bucket_length (drop (bucket_length * x) bytes)) letter_column 0 ≡ get_or bytes (bucket_length * x + letter_column) 0 =
-    get_or-take bucket_length (drop (bucket_length * x) bytes) letter_column 0 (omega arith) ∙ get_or-drop (bucket_length * x) bytes letter_column 0 in
-    let digit_at : get_or (ListN.take bucket_length (drop (bucket_length * x) bytes)) item_digit_column 0 ≡ get_or bytes (bucket_length * x + item_digit_column) 0 =
-    get_or-take bucket_length (drop (bucket_length * x) bytes) item_digit_column 0 (omega arith) ∙ get_or-drop (bucket_length * x) bytes item_digit_column 0 in
-    let behind : drop bucket_length (drop (bucket_length * x) bytes) ≡ drop (bucket_length * (x + 1)) bytes =
-    drop-drop bucket_length (bucket_length * x) bytes ∙ ap (λ k. drop k bytes) on in
-    rw (left, letter_at, digit_at, behind)
+    (p d last : ℕ) (bucket rest : List ℕ) → length bucket ≡ bucket_length →
+    counted_from p d last (parts (length (bucket ++ rest) / bucket_length) bucket_length (bucket ++ rest)) ≡
+    pick (eqb (get_or bucket letter_column 0) letter_data)
+    (counted_from p (d + 1) (get_or bucket item_digit_column 0) (parts (length rest / bucket_length) bucket_length rest))
+    (counted_from p d last (parts (length rest / bucket_length) bucket_length rest))
+counted_bucket p d last bucket rest wide =
+    let both : length (bucket ++ rest) ≡ bucket_length + length rest = simp length-append (omega arith) in
+    let more : length (bucket ++ rest) / bucket_length ≡ suc (length rest / bucket_length) = omega arith in
+    let first : ListN.take bucket_length (bucket ++ rest) ≡ bucket = take_at bucket rest bucket_length wide in
+    let behind : drop bucket_length (bucket ++ rest) ≡ rest = drop_at bucket rest bucket_length wide in
+    rw (more, first, behind)
+
+-- what the data buckets tell
+pub by_none : (p d last : ℕ) → d ≡ 0 → lines_by p d last ≡ 0
+unfolding lines_by
+by_none p d last e = rw (eq-eqb d 0 e)
+
+pub by_low : (p d last : ℕ) → (d ≡ 0 → ⊥) → last < 48 → lines_by p d last ≡ 0
+unfolding lines_by
+by_low p d last f h = rw (ne_eqb d 0 f, lt-ltb last 48 h)
+
+pub by_digit : (p d last : ℕ) → (d ≡ 0 → ⊥) → 48 ≤ last → lines_by p d last ≡ (d - 1) * p + (last - 48)
+unfolding lines_by
+by_digit p d last f h = rw (ne_eqb d 0 f, le-ltb last 48 h)

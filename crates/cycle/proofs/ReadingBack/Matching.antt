@@ -10,6 +10,7 @@ use Rattle.cycle.specs.Tree.{Plan}
 use Rattle.cycle.specs.Inner.Comparing.{Decides, MatchesAt, Matches, DataMatches}
 use Rattle.cycle.proofs.Basics.Deciding.{decides_yes, decides_not}
 use Rattle.cycle.proofs.Basics.Ranges.{le_or_lt}
+use Rattle.cycle.proofs.Basics.RangeTests.{Each}
 use Rattle.cycle.proofs.Segmenting.BucketRows.{RowAt, row_inside, row_end}
 
 module _ {t : Plan} {bytes : List ℕ} where
@@ -46,6 +47,19 @@ module _ {t : Plan} {bytes : List ℕ} where
 
     pub row_all : last ≤ q → Matches t bytes at x → Decides (Matches t bytes at end) true
     row_all h m = decides_yes (matches_to (row_end ends r h) m)
+
+  module _ {first last at end : ℕ} (ends : end ≡ at + (last - first)) (rising : first ≤ last) where
+    pub matches_row : Each (λ q. MatchesAt t bytes (at + (q - first))) first last → Matches t bytes at end
+    matches_row e =
+        record {
+          each = λ z low high.
+              let q : ℕ = first + (z - at) in
+              let here : at + (q - first) ≡ z = omega arith in
+              subst (MatchesAt t bytes) here (e.at q (omega arith) (omega arith));
+        }
+
+    pub row_matches : Matches t bytes at end → Each (λ q. MatchesAt t bytes (at + (q - first))) first last
+    row_matches m = record { at = λ q low high. m.each (at + (q - first)) (omega arith) (omega arith) }
 
   -- ---- data buckets
 

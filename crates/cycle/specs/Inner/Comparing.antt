@@ -2,7 +2,7 @@
 -- when a part of it is that part of a plan's cycle.
 -- Assumes nothing.
 use Rattle.std.specs.Prelude.{◌≡◌, ℕ, ◌+◌, ◌-◌, ◌*◌, ◌/◌, ◌≤◌, ◌<◌, Bool, true, false, List, [], ◌∷◌, map, eqb, ltb, length, drop, get_or}
-use Rattle.std.specs.Prelude.{Some}
+use Rattle.std.specs.Prelude.{Option, Some, MatchOption}
 use Rattle.columns.specs.Lists.{pick, parts, joined, range}
 use Rattle.buckets.specs.Bucket.{read_bucket, follow_on}
 use Rattle.buckets.specs.declared.Line.{Line}
@@ -21,10 +21,9 @@ pub record Decides (P : Type 0) (answer : Bool) : Type 0 where
   pub yes : answer ≡ true → P
   pub no : answer ≡ false → P → ⊥
 
--- the search's answer is y where P holds, and 0 where it does not
-pub record Finds (P : Type 0) (y answer : ℕ) : Type 0 where
-  pub found : (answer ≡ 0 → ⊥) → P × (answer ≡ y)
-  pub none : answer ≡ 0 → P → ⊥
+-- the search finds y where P holds, and nothing where it does not
+abbrev pub Finds : Type 0 → ℕ → Option ℕ → Type 0
+Finds P y answer = MatchOption answer (P → ⊥) (λ z. P × (z ≡ y))
 
 -- two tags' columns, each by the digit that it adds: a blank as a 0
 abbrev pub SameDigits : List ℕ → List ℕ → Type 0

@@ -1,0 +1,14 @@
+-- The height falls. The bucket and the subtrees of the children before i stand in their places, and `next` is the place behind
+-- them.
+use Rattle.std.proofs.Common.{◌+◌}
+use Rattle.cycle.specs.Inner.Held.{plan_in}
+use Rattle.cycle.specs.Inner.Comparing.{Matches}
+use Rattle.cycle.specs.declared.Source.TheVariants.{Image as InImage}
+use Rattle.cycle.proofs.Segmenting.Subtrees.{Behind}
+use Rattle.cycle.proofs.read_back.+behind_subtree.Given as goal
+
+abbrev pub decreases-behind_subtree : goal.decreases-behind_subtree
+decreases-behind_subtree l = l.e
+
+abbrev pub invariant-loop-i : goal.invariant-loop-i
+invariant-loop-i l = Behind l.f l.e l.j l.x l.count l.i l.next × Matches (plan_in l.f InImage l.image) l.image l.x l.next
