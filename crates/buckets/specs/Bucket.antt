@@ -12,15 +12,9 @@ use Rattle.buckets.specs.Lengths.{pair_count_start, item_count_start, pairs_most
 use Rattle.buckets.specs.Lengths.{entry_width, pairs_start, pairs_width, entries_start, entries_width, lines_start, lines_width}
 use Rattle.buckets.specs.Lengths.{buckets_most}
 
--- a control pair: its tag, none if blank, and its distance
-pub record Pair : Type 0 where
-  pub tag : Option ℕ
-  pub distance : ℕ
-
--- an index entry
-pub record Entry : Type 0 where
-  pub tag : ℕ
-  pub distance : ℕ
+-- a control pair: its tag, none if blank, and its distance; and an index entry
+pub use Rattle.buckets.specs.declared.Pair.{Pair}
+pub use Rattle.buckets.specs.declared.Entry.{Entry}
 
 -- what tells the two kinds of bucket apart: control pairs and entries, or follow-on and lines
 pub data Body : Type 0 where
