@@ -1,87 +1,75 @@
--- Blanks in front of a number are passed over.
+-- Blanks in front of a number are passed over, and what stands behind them is read.
 -- Assumes nothing.
-use Rattle.std.proofs.Common.{◌≡◌, ℕ, zero, suc, ◌+◌, ◌<◌, ◌≤◌, Bool, true, ◌&&◌, eqb, leb, List, [], ◌∷◌, length, get_or, take, drop, sym, refl, ap, ◌∙◌, arith, length-drop, get_or-drop, take_all, drop-drop, eqb-true, leb-true}
-use Rattle.columns.specs.PrintedNumbers.{all_blank, read_number, or_misprint}
-use Rattle.columns.specs.Inner.Starts.{Starts}
-use Rattle.columns.proofs.Strict.{both}
-use Rattle.columns.proofs.OnePass.{read_blank}
-
-past_blanks : (i : ℕ) (s : List ℕ) → i < length s → all_blank (take i s) ≡ true → read_number s ≡ read_number (drop i s)
-unfolding all_blank
-past_blanks i [] h b = absurd (omega arith)
-past_blanks zero (c ∷ s) h b = refl
-past_blanks (suc i) (c ∷ s) h b =
-    let told = both (eqb c 32) (all_blank (take i s)) b in
-    rw (eqb-true c 32 told.0) (read_blank s (omega arith)) ∙ past_blanks i s (omega arith) told.1
+use Rattle.std.proofs.Common.{◌≡◌, ◌⊎◌, inl, inr, ℕ, zero, suc, ◌+◌, ◌-◌, ◌<◌, ◌≤◌, List, [], ◌∷◌, length, get_or, take, drop, sym, refl, ap, ◌∙◌, arith, length-drop, get_or-drop}
+use Rattle.std.specs.Prelude.{None, Some}
+use Rattle.std.specs.List.{AllWithin}
+use Rattle.columns.specs.Lists.{pick, every}
+use Rattle.columns.specs.PrintedNumbers.{value, digit, read_number}
+use Rattle.columns.proofs.OnePass.{read_blank, read_zero, read_digits_lem}
+use Rattle.columns.proofs.Put.{to_the_end}
 
 pub past_one : (s : List ℕ) → 1 < length s → get_or s 0 0 ≡ 32 → read_number s ≡ read_number (drop 1 s)
 past_one [] h a = absurd (omega arith)
 past_one (c ∷ s) h a = rw a (read_blank s (omega arith))
 
--- the columns of s from i on are the last w
-module _ (i w : ℕ) (s : List ℕ) (e : length s ≡ i + w) where
-  last_columns : take w (drop i s) ≡ drop i s
-  last_columns = take_all w (drop i s) (simp length-drop (omega arith))
+-- i blanks, and columns behind them
+pub past_blanks : (i : ℕ) (s : List ℕ) → i < length s → AllWithin (λ c. c ≡ 32) s 0 i → read_number s ≡ read_number (drop i s)
+past_blanks i [] h b = absurd (omega arith)
+past_blanks zero (c ∷ s) h b = refl
+past_blanks (suc i) (c ∷ s) h b =
+    rw (b 0 0 (omega arith) (omega arith)) (read_blank s (omega arith))
+    ∙ past_blanks i s (omega arith) (λ k d l m. b (suc k) d (omega arith) (omega arith))
 
-  -- those before them are passed over
-  read_on : {r : ℕ} → read_number s ≡ read_number (drop i s) → r ≡ or_misprint (read_number (take w (drop i s)))
-      → r ≡ or_misprint (read_number s)
-  read_on h is = is ∙ ap or_misprint (ap read_number last_columns ∙ sym h)
+-- blanks alone
+pub none_used : (s : List ℕ) → 1 ≤ length s → AllWithin (λ c. c ≡ 32) s 0 (length s) → read_number s ≡ None
+none_used [] h b = absurd (omega arith)
+none_used (c ∷ []) h b =
+    rw (b 0 0 (omega arith) (omega arith))
+    (read_digits_lem 32 [] (λ p. absurd (omega arith)) (λ p. absurd (omega arith)))
+none_used (c ∷ d ∷ s) h b =
+    rw (b 0 0 (omega arith) (omega arith)) (read_blank (d ∷ s) (omega arith))
+    ∙ none_used (d ∷ s) (omega arith) (λ k e l m. b (suc k) e (omega arith) (omega arith))
 
-  -- the first of them is used, or the only one
-  starts_last : leb 1 w && leb w 10 ≡ true → (get_or s i 0 ≡ 32 → w ≡ 1) → Starts (take w (drop i s))
-  starts_last few u =
-      let told = both (leb 1 w) (leb w 10) few in
-      let some : 1 ≤ w = leb-true 1 w told.0 in
-      let most : w ≤ 10 = leb-true w 10 told.1 in
-      let same : i + 0 ≡ i = omega arith in
-      rw last_columns
-      (record {
-        some = simp length-drop (omega arith);
-        most = simp length-drop (omega arith);
-        used = λ b. simp length-drop (let z = u (rw (get_or-drop i s 0 0, same) at b) in omega arith);
-      })
+-- a number whose first column is used
+pub read_leading_zero : (s : List ℕ) → get_or s 0 0 ≡ 48 → 1 < length s → read_number s ≡ None
+read_leading_zero [] e h = absurd (omega arith)
+read_leading_zero (c ∷ s) e h = rw e (read_zero s (omega arith))
 
-pub second_last : (s : List ℕ) → length s ≡ 2 → Starts (take 1 (drop 1 s))
-second_last s e = starts_last 1 1 s (omega arith) refl (λ b. refl)
+pub read_used : (s : List ℕ) → 1 ≤ length s → (get_or s 0 0 ≡ 32 → ⊥) → (1 < length s → get_or s 0 0 ≡ 48 → ⊥)
+    → read_number s ≡ pick (every digit s) (Some (value 0 s)) None
+read_used [] h n z = absurd (omega arith)
+read_used (c ∷ s) h n z = read_digits_lem c s (λ p. n) (λ p. z (omega arith))
 
--- ---- what is read of columns whose first ones were looked at
+-- the columns of s from the first that is used on, lent as `&s[i..]`
+abbrev pub from : List ℕ → ℕ → List ℕ
+from s i = take (length s - i) (drop i s)
 
-module _ (w : ℕ) (s : List ℕ) where
-  pub first_used : length s ≡ w → (get_or s 0 0 ≡ 32 → ⊥) → leb 1 w && leb w 10 ≡ true → Starts (take w s)
-  first_used e u few = starts_last 0 w s (omega arith) few (λ b. absurd (u b))
+-- column i of s is the first that is used
+pub record FirstUsed (s : List ℕ) (i : ℕ) : Type 0 where
+  pub within : i < length s
+  pub used : get_or s i 0 ≡ 32 → ⊥
+  pub blank_before : AllWithin (λ c. c ≡ 32) s 0 i
 
-  pub second_used : length s ≡ suc w → (get_or s 1 0 ≡ 32 → ⊥) → leb 1 w && leb w 10 ≡ true → Starts (take w (drop 1 s))
-  second_used e u few = starts_last 1 w s (omega arith) few (λ b. absurd (u b))
+module _ (s : List ℕ) (i : ℕ) (u : FirstUsed s i) where
+  pub read_from : read_number s ≡ read_number (from s i)
+  read_from = past_blanks i s u.within u.blank_before ∙ ap read_number (sym (to_the_end s i (omega (arith, u.within))))
 
-  pub all_read : {r : ℕ} → length s ≡ w → r ≡ or_misprint (read_number (take w s)) → r ≡ or_misprint (read_number s)
-  all_read e is = read_on 0 w s (omega arith) refl is
+  pub length_from : length (from s i) ≡ length s - i
+  length_from = rw (to_the_end s i (omega (arith, u.within))) (length-drop i s)
 
--- n columns are i and the last w, one of them at least
-abbrev split : ℕ → ℕ → ℕ → Bool
-split n i w = eqb n (i + w) && leb 1 w
+  first_from : get_or (from s i) 0 0 ≡ get_or s i 0
+  first_from = let same : i + 0 ≡ i = omega arith in rw (to_the_end s i (omega (arith, u.within)), get_or-drop i s 0 0, same)
 
-module _ (n w : ℕ) (s : List ℕ) {r : ℕ} (e : length s ≡ n) where
-  behind : (i : ℕ) → split n i w ≡ true → (i < length s → read_number s ≡ read_number (drop i s))
-      → r ≡ or_misprint (read_number (take w (drop i s))) → r ≡ or_misprint (read_number s)
-  behind i h past is =
-      let told = both (eqb n (i + w)) (leb 1 w) h in
-      let all : n ≡ i + w = eqb-true n (i + w) told.0 in
-      let some : 1 ≤ w = leb-true 1 w told.1 in
-      read_on i w s (omega arith) (past (omega arith)) is
+  pub zero_read : get_or (from s i) 0 0 ≡ 48 → 1 < length (from s i) → read_number s ≡ None
+  zero_read e h = read_from ∙ read_leading_zero (from s i) e h
 
-  pub behind_one : get_or s 0 0 ≡ 32 → r ≡ or_misprint (read_number (take w (drop 1 s))) → split n 1 w ≡ true
-      → r ≡ or_misprint (read_number s)
-  behind_one a is h = behind 1 h (λ long. past_one s long a) is
-
-  pub behind_two : get_or s 0 0 ≡ 32 → get_or s 1 0 ≡ 32 → r ≡ or_misprint (read_number (take w (drop 2 s))) → split n 2 w ≡ true
-      → r ≡ or_misprint (read_number s)
-  behind_two a b is h =
-      behind 2 h
-      (λ long.
-      past_one s (omega arith) a ∙ past_one (drop 1 s) (simp length-drop (omega arith)) (rw get_or-drop b) ∙ ap read_number (drop-drop 1 1 s))
-      is
-
-  pub behind_four : {t : Bool} → t ≡ all_blank (take 4 s) → t ≡ true → r ≡ or_misprint (read_number (take w (drop 4 s)))
-      → split n 4 w ≡ true → r ≡ or_misprint (read_number s)
-  behind_four test told is h = behind 4 h (λ long. past_blanks 4 s long (sym test ∙ told)) is
+  pub digits_read : (get_or (from s i) 0 0 ≡ 48 × length (from s i) ≤ 1) ⊎ (get_or (from s i) 0 0 ≡ 48 → ⊥)
+      → read_number s ≡ pick (every digit (from s i)) (Some (value 0 (from s i))) None
+  digits_read z =
+      read_from
+      ∙ read_used (from s i) (omega (arith, length_from, u.within)) (λ e. u.used (sym first_from ∙ e)) (no_zero z)
+    where
+      no_zero : (get_or (from s i) 0 0 ≡ 48 × length (from s i) ≤ 1) ⊎ (get_or (from s i) 0 0 ≡ 48 → ⊥)
+          → 1 < length (from s i) → get_or (from s i) 0 0 ≡ 48 → ⊥
+      no_zero (inl (e, l)) h k = omega arith
+      no_zero (inr n) h k = n k

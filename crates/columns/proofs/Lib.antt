@@ -5,7 +5,6 @@ pub mod OnePass
 pub mod Digits
 pub mod Joined
 pub mod LeadingBlanks
-pub mod Answered
 pub mod Put
 pub mod FromTheRight
 pub mod Padded

@@ -1,3 +1,2 @@
 -- Definitions that only the contracts of inner functions cite, and laws.
 pub mod Places
-pub mod Starts

@@ -3,33 +3,21 @@
 
 ghost use Rattle.std.specs.Prelude.{◌≡◌, ◌-◌, ◌^◌, ◌<◌, ◌≤◌, true, ◌&&◌, ◌||◌, [], ◌∷◌, length, take, drop, ◌==◌};
 ghost use Rattle.columns.specs.Lists.{pick, put, every};
-ghost use Rattle.columns.specs.Inner.Places.{column_printed, column_digits};
-ghost use Rattle.columns.specs.PrintedNumbers.{print, blanks, all_blank, value, digit, read_number, or_misprint, blanks_digits, blank_zeros};
-ghost use Rattle.columns.specs.Inner.Starts.{Starts};
+ghost use Rattle.columns.specs.Inner.Places.{leading, column_printed, column_digits};
+ghost use Rattle.columns.specs.PrintedNumbers.{print, blanks, all_blank, value, digit, read_number, blanks_digits, blank_zeros};
 
-// What a strict reading of columns finds.
-#[derive(Clone, Copy)]
-pub enum Number {
-    Value(u64),
-    Misprinted,
+// The place of a column in its field.
+#[derive(Clone, Copy, PartialEq, Eq)]
+pub enum Place {
+    First,
+    Between,
+    Last,
 }
 
 // The bytes of columns: a blank, and the first digit.
 const BLANK: u8 = 32;
 
 const ZERO: u8 = 48;
-
-const ONE: u8 = 49;
-
-// The place of a column in its field: the first, the last, or one between them.
-pub const BETWEEN: u8 = 0;
-
-pub const FIRST: u8 = 1;
-
-pub const LAST: u8 = 2;
-
-// What is answered of misprinted columns in the place of their number.
-pub const MISPRINT: u64 = 18446744073709551615;
 
 // n to the power e, by multiplying.
 pub fn power(n: u64, e: usize) -> u64
@@ -249,124 +237,48 @@ pub fn lenient_number(part: &[u8]) -> u64
     x
 }
 
-// The number in one column, or MISPRINT.
-pub fn read_digit(c: u8) -> u64
-    ensures { result ≡ or_misprint (read_number (c ∷ [])) }
+// The number in all the columns of part: blanks, then digits to the end, the first no 0 unless it is the only one.
+pub fn read_number(part: &[u8]) -> Option<u64>
+    requires { (1 ≤ length part.now) × (length part.now ≤ 10) }
+    ensures { result ≡ read_number part.now }
 {
-    let x = std::num::wrapping_sub_u8(c, ZERO);
-    if 9 < x {
-        return MISPRINT;
+    let first = part.iter().position(|c| *c != BLANK)?;
+    let number = &part[first..];
+    if number[0] == ZERO && 1 < number.len() {
+        return None;
     }
-    x as u64
+    if !all_digits(number) {
+        return None;
+    }
+    Some(spelled(number))
 }
 
-// The number in all the columns of part, or MISPRINT, where the first column is used or the only one: digits to the end, the
-// first no 0 unless it is the only one. Each call lends a part of constant length, for which it is compiled.
-fn read_digits(part: &[u8]) -> u64
-    requires { Starts part.now }
-    ensures { result ≡ or_misprint (read_number part.now) }
+// Whether a column in this place may be unused: no column of its field before it is used, and it is not the last.
+fn may_be_blank(place: Place, before: u8) -> bool
+    ensures { result ≡ leading place before }
 {
-    if part.len() == 1 {
-        return read_digit(part[0]);
+    match place {
+        Place::First => true,
+        Place::Between => before == BLANK,
+        Place::Last => false,
     }
-    if 8 < std::num::wrapping_sub_u8(part[0], ONE) {
-        return MISPRINT;
-    }
-    if !all_digits(&part[1..]) {
-        return MISPRINT;
-    }
-    spelled(part)
-}
-
-// The number in two columns, or MISPRINT.
-fn read_two(part: &[u8]) -> u64
-    requires { length part.now ≡ 2 }
-    ensures { result ≡ or_misprint (read_number part.now) }
-{
-    if part[0] != BLANK {
-        return read_digits(&part[0..2]);
-    }
-    read_digits(&part[1..2])
-}
-
-// The number in four columns, or MISPRINT.
-pub fn read_four(part: &[u8]) -> u64
-    requires { length part.now ≡ 4 }
-    ensures { result ≡ or_misprint (read_number part.now) }
-{
-    if part[0] != BLANK {
-        return read_digits(&part[0..4]);
-    }
-    if part[1] != BLANK {
-        return read_digits(&part[1..4]);
-    }
-    read_two(&part[2..4])
-}
-
-// The number in six columns, or MISPRINT.
-pub fn read_six(part: &[u8]) -> u64
-    requires { length part.now ≡ 6 }
-    ensures { result ≡ or_misprint (read_number part.now) }
-{
-    if part[0] != BLANK {
-        return read_digits(&part[0..6]);
-    }
-    if part[1] != BLANK {
-        return read_digits(&part[1..6]);
-    }
-    read_four(&part[2..6])
-}
-
-// The number in eight columns, or MISPRINT.
-fn read_eight(part: &[u8]) -> u64
-    requires { length part.now ≡ 8 }
-    ensures { result ≡ or_misprint (read_number part.now) }
-{
-    if part[0] != BLANK {
-        return read_digits(&part[0..8]);
-    }
-    if part[1] != BLANK {
-        return read_digits(&part[1..8]);
-    }
-    read_six(&part[2..8])
-}
-
-// The number in ten columns, or MISPRINT.
-pub fn read_ten(part: &[u8]) -> u64
-    requires { length part.now ≡ 10 }
-    ensures { result ≡ or_misprint (read_number part.now) }
-{
-    if all_blank(&part[0..4]) {
-        return read_six(&part[4..10]);
-    }
-    if part[0] != BLANK {
-        return read_digits(&part[0..10]);
-    }
-    if part[1] != BLANK {
-        return read_digits(&part[1..10]);
-    }
-    read_eight(&part[2..10])
 }
 
 // Whether c is well printed and the columns before it are. Behind unused columns of its field, and in the first one, c is blank
 // or a digit that is no 0; in the last column, and behind a used one, it is a digit.
-pub fn still_printed(still: bool, place: u8, before: u8, c: u8) -> bool
+pub fn still_printed(still: bool, place: Place, before: u8, c: u8) -> bool
     ensures { result ≡ (still && column_printed place before c) }
 {
-    let digit = std::num::wrapping_sub_u8(c, ZERO) < 10;
-    let unused = (before == BLANK) | (place == FIRST);
-    let nought = (c == ZERO) & unused & (place != LAST);
-    let blank = (c == BLANK) & unused & (place != LAST);
-    still & ((digit & !nought) | blank)
+    let leading = may_be_blank(place, before);
+    let nought = leading & (c == ZERO);
+    let blank = leading & (c == BLANK);
+    still & ((c.is_ascii_digit() & !nought) | blank)
 }
 
 // Whether c may stand in a list line and the columns before it may. Behind unused columns of its field, and in the first one, c
 // is blank or a digit; in the last column, and behind a used one, it is a digit.
-pub fn still_digits(still: bool, place: u8, before: u8, c: u8) -> bool
+pub fn still_digits(still: bool, place: Place, before: u8, c: u8) -> bool
     ensures { result ≡ (still && column_digits place before c) }
 {
-    let digit = std::num::wrapping_sub_u8(c, ZERO) < 10;
-    let unused = (before == BLANK) | (place == FIRST);
-    let blank = (c == BLANK) & unused & (place != LAST);
-    still & (digit | blank)
+    still & (c.is_ascii_digit() | (may_be_blank(place, before) & (c == BLANK)))
 }
