@@ -1,6 +1,6 @@
 -- The lines of a bucket stand in their columns, one behind the other.
 -- Assumes nothing.
-use mathlib.Core.Path.{◌≡◌, refl, ap, ◌∙◌}
+use mathlib.Core.Path.{◌≡◌, refl, sym, ap, ◌∙◌}
 use Prim.Native.Nat.{ℕ, zero, suc, ◌+◌, ◌-◌, ◌*◌, ◌≤◌, ◌<◌}
 use native.Mathlib.Omega.{arith}
 use mathlib.Core.Bool.{true}
@@ -93,9 +93,9 @@ data_told bytes b f ls e body =
 -- ---- what a reading of each kind tells
 
 pub of_index : (i : ℕ) (b : Bucket) (ps : ArrayVec Pair) (es : ArrayVec Entry) → contents_of b.body ≡ Index ps es → bucket_line i (Some b) ≡ Ok None
-of_index i b ps es e = by_body b.body e
+of_index i b ps es e = ap Ok (by_body b.body e)
   where
-    by_body : (x : Body) → contents_of x ≡ Index ps es → Ok (nth i (body_lines x)) ≡ Ok None
+    by_body : (x : Body) → contents_of x ≡ Index ps es → nth i (body_lines x) ≡ None
     by_body (index_body qs fs) e = refl
     by_body (data_body f ls) e = cc
 

@@ -5,14 +5,14 @@
 -- Assumes nothing.
 use Prim.Native.Nat.{ℕ, suc, ◌+◌, ◌-◌, ◌*◌, ◌^◌, ◌≤◌, ◌<◌}
 use mathlib.Core.Path.{◌≡◌, refl, sym, ap, ap₂, ◌∙◌}
-use mathlib.Core.Bool.{Bool, true, false, ◌&&◌, not, true≢false}
+use mathlib.Core.Bool.{Bool, true, false, ◌&&◌, true≢false}
 use Rattle.std.specs.Prelude.{Option, None, Some}
 use Rattle.std.specs.Option.{option_map}
 use mathlib.Core.List.{List, [], ◌∷◌, ◌++◌}
 use native.Mathlib.Omega.{arith}
 use lib.ListN.{length, take, drop, get_or, length-drop, drop_of_length-le}
 use lib.Seq.{drop-cons, get_or-drop}
-use borrow.Author.Tests.{le-leb, not-true, not-false}
+use borrow.Author.Tests.{le-leb}
 use Rattle.columns.specs.Lists.{pick, same}
 use Rattle.columns.specs.PrintedNumbers.{value, blanks_digits, read_lenient}
 use Rattle.columns.specs.Inner.Places.{column_digits, columns_by}
@@ -158,13 +158,13 @@ module _ (s : List ℕ) where
   no_newline n = not_read (λ r. n (sym (get_or-drop line_columns_width s 0 0) ∙ ap (λ (t : List ℕ). get_or t 0 0) r.ends))
 
   module _ (long : length s ≡ line_length) where
-    pub no_numbers : {t : Bool} → t ≡ columns_by column_digits line_places 32 (take line_columns_width s) → not t ≡ true
+    pub no_numbers : false ≡ columns_by column_digits line_places 32 (take line_columns_width s)
         → None ≡ option_map (λ (l : Line). l.tag) (read_line s)
-    no_numbers {t} test n =
+    no_numbers test =
         not_read
         (λ r.
         let told : four_numbers s ≡ true = rw (r.tag_number, r.tare_number, r.code_number, r.weighing_number) in
-        true≢false (sym told ∙ sym (line_digits s (omega arith)) ∙ sym test ∙ not-true t n))
+        true≢false (sym told ∙ sym (line_digits s (omega arith)) ∙ sym test))
 
     -- the tare's columns, the first one apart
     tare_columns : take tare_width (drop tare_start s) ≡ get_or s tare_start 0 ∷ take (tare_width - 1) (drop (suc tare_start) s)
@@ -190,20 +190,19 @@ module _ (s : List ℕ) where
     tag_over_lem is h = not_read (λ r. omega (arith, (line_fits (spelled s) r.in_range).small_tag))
 
     -- the tag's columns hold a number
-    pub tag_holds : {t : Bool} → t ≡ columns_by column_digits line_places 32 (take line_columns_width s) → not t ≡ false
+    pub tag_holds : true ≡ columns_by column_digits line_places 32 (take line_columns_width s)
         → (length (take tag_width s) ≤ 10) × (blanks_digits (take tag_width s) ≡ true)
-    tag_holds {t} test all = (
+    tag_holds test = (
       omega (arith, length_part s 0 tag_width (omega arith)),
-      (both (blanks_digits (take tag_width s)) _ (sym (line_digits s (omega arith)) ∙ sym test ∙ not-false t all)).0,
+      (both (blanks_digits (take tag_width s)) _ (sym (line_digits s (omega arith)) ∙ sym test)).0,
     )
 
-    module _ (last : get_or s line_columns_width 0 ≡ newline) {t : Bool}
-        (test : t ≡ columns_by column_digits line_places 32 (take line_columns_width s)) (all : not t ≡ false)
+    module _ (last : get_or s line_columns_width 0 ≡ newline) (test : true ≡ columns_by column_digits line_places 32 (take line_columns_width s))
         (tare_small : get_or s tare_start 0 ≤ 48) {x : ℕ} (is : x ≡ value 0 (take tag_width s)) (most : x ≤ tag_most) where
       all_tested : LineReads s
       unfolding spelled fits tag_fits
       all_tested =
-          let tag = both (blanks_digits (take tag_width s)) _ (sym (line_digits s (omega arith)) ∙ sym test ∙ not-false t all) in
+          let tag = both (blanks_digits (take tag_width s)) _ (sym (line_digits s (omega arith)) ∙ sym test) in
           let tare = both (blanks_digits (take tare_width (drop tare_start s))) _ tag.1 in
           let code = both (blanks_digits (take code_width (drop code_start s))) _ tare.1 in
           let code_small : value 0 (take code_width (drop code_start s)) < 10 ^ code_width =

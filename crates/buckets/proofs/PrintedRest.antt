@@ -76,14 +76,14 @@ module _ (m : ℕ) (s : List ℕ) (long : line_columns_width ≤ length s) where
       rest_printed_lem s long
       ∙ rw (read_found 0 tare_most _ second.1, read_found 0 code_most _ third.1, read_found 0 weighing_most _ fourth.1)
 
-  -- what the code answers where r tells whether the columns behind the tag are well printed
-  pub rest_misprinted : {r : Bool} → r ≡ columns_by column_printed rest_places 32 (columns tare_start rest_width s) → r ≡ false
+  -- what the code answers by whether the columns behind the tag are well printed
+  pub rest_misprinted : false ≡ columns_by column_printed rest_places 32 (columns tare_start rest_width s)
       → None ≡ option_map (λ (l : Line). l.tag) (read_line_columns m s)
-  rest_misprinted test h = go (read_line_columns m s) refl
+  rest_misprinted test = go (read_line_columns m s) refl
     where
       go : (o : Option Line) → read_line_columns m s ≡ o → None ≡ option_map (λ (l : Line). l.tag) (read_line_columns m s)
       go None e = rw e
-      go (Some l) e = absurd (true≢false (sym (line_columns_printed e) ∙ sym test ∙ h))
+      go (Some l) e = absurd (true≢false (sym (line_columns_printed e) ∙ sym test))
 
   -- the first column of the tare
   tare_first : get_or (columns tare_start tare_width s) 0 0 ≡ get_or s tare_start 0
@@ -94,11 +94,11 @@ module _ (m : ℕ) (s : List ℕ) (long : line_columns_width ≤ length s) where
     unfolding read_line_columns
     tare_too_long n = rw (tag, first_used 0 tare_most (tare_width - 2) (columns tare_start tare_width s) (length_columns tare_start tare_width s (omega arith)) (omega arith) (λ e. n (sym tare_first ∙ e)))
 
-    pub tag_answered : {r : Bool} → get_or s tare_start 0 ≡ 32 → r ≡ columns_by column_printed rest_places 32 (columns tare_start rest_width s) → r ≡ true
+    pub tag_answered : get_or s tare_start 0 ≡ 32 → true ≡ columns_by column_printed rest_places 32 (columns tare_start rest_width s)
         → Some t ≡ option_map (λ (l : Line). l.tag) (read_line_columns m s)
     unfolding read_line_columns
-    tag_answered b test h =
-        let told = both (found (read_number (columns tare_start tare_width s))) _ (sym (rest_printed_lem s long) ∙ sym test ∙ h) in
+    tag_answered b test =
+        let told = both (found (read_number (columns tare_start tare_width s))) _ (sym (rest_printed_lem s long) ∙ sym test) in
         let two = both (found (read_number (columns code_start code_width s))) (found (read_number (columns weighing_start weighing_width s))) told.1 in
         let tare = tare_within (columns tare_start tare_width s) (length_columns tare_start tare_width s (omega arith)) (tare_first ∙ b) told.0 in
         let code = all_within code_most code_width (columns code_start code_width s) (length_columns code_start code_width s (omega arith)) (omega arith) two.0 in

@@ -11,7 +11,6 @@ use Rattle.buckets.specs.Lengths.{position_start, to_cycle_start, to_segment_sta
 use Rattle.buckets.specs.Lengths.{pair_count_start, item_count_start, pairs_most, entries_most, bucket_lines_most, distance_start}
 use Rattle.buckets.specs.Lengths.{entry_width, pairs_start, pairs_width, entries_start, entries_width, lines_start, lines_width}
 use Rattle.buckets.specs.Lengths.{buckets_most}
-
 -- a control pair: its tag, none if blank, and its distance; and an index entry
 pub use Rattle.buckets.specs.declared.Pair.{Pair}
 pub use Rattle.buckets.specs.declared.Entry.{Entry}

@@ -16,7 +16,9 @@ pub fn line_of(bucket: &[u8], i: u64) -> Result<Option<Line>, Misprinted>
         return Err(Misprinted);
     };
     match reading.contents {
-        Contents::Data { tags, .. } if i < tags.len() as u64 => Ok(Some(line_at(bucket, i as usize))),
+        Contents::Data { tags, .. } if i < tags.len() as u64 => Ok(Some(line_at(
+            bucket, i as usize,
+        ))),
         _ => Ok(None),
     }
 }

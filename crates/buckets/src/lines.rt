@@ -29,6 +29,7 @@ const LINE_PLACES: [Place; Line::COLUMNS] = [
 ];
 
 // The line in the first columns of part, as a bucket has it, its tag at least low.
+#[tactic(auto, unfolding(crate::specs::Inner::Columns::read_line_columns, crate::specs::Bucket::columns))]
 pub fn read_columns(part: &[u8], low: u64) -> Option<Line>
     requires { line_columns_width ≤ length part.now }
     ensures { result ≡ read_line_columns low part.now }
@@ -109,7 +110,11 @@ pub fn line_tag(part: &[u8]) -> Option<u64>
         return None;
     }
     let tag = columns::lenient_number(&part[Line::TAG..Line::TARE]);
-    if Line::TAG_MOST < tag { None } else { Some(tag) }
+    if Line::TAG_MOST < tag {
+        None
+    } else {
+        Some(tag)
+    }
 }
 
 // The list line that part is.

@@ -5,7 +5,7 @@ ghost use Rattle.buckets.specs.Lengths.{entry_width, pairs_width, entries_width,
 ghost use Rattle.buckets.specs.Lengths.{pairs_most, entries_most, bucket_lines_most};
 ghost use Rattle.buckets.specs.Bucket.{read_bucket};
 ghost use Rattle.buckets.specs.Inner.Held.{vector, tags_held, reading_of};
-ghost use Rattle.buckets.specs.Inner.Columns.{read_entry, read_pair, read_pairs, read_entries, read_lines, read_head, read_index, read_data};
+ghost use Rattle.buckets.specs.Inner.Columns.{read_entry, read_blank_pair, read_printed_pair, read_pair, read_pairs, read_entries, read_lines, read_head, read_index, read_data};
 
 use super::fields::number_within;
 use super::{Bucket, Contents, Entry, Head, Line, NEWLINE, Pair, Reading, lines};
@@ -13,6 +13,7 @@ use arrayvec::ArrayVec;
 use columns;
 
 // The entry in part, its tag at least low, its distance at most n.
+#[tactic(auto, unfolding(crate::specs::Inner::Columns::read_entry, crate::specs::Bucket::columns))]
 fn read_entry(part: &[u8], low: u64, n: u64) -> Option<Entry>
     requires { length part.now ≡ entry_width }
     ensures { result ≡ read_entry n low part.now }
@@ -23,6 +24,7 @@ fn read_entry(part: &[u8], low: u64, n: u64) -> Option<Entry>
 }
 
 // The pair in part, whose tag is blank.
+#[tactic(auto, unfolding(crate::specs::Inner::Columns::read_blank_pair, crate::specs::Bucket::columns))]
 fn read_blank_pair(part: &[u8], n: u64) -> Option<Pair>
     requires { length part.now ≡ entry_width }
     ensures { result ≡ read_blank_pair n part.now }
@@ -35,6 +37,7 @@ fn read_blank_pair(part: &[u8], n: u64) -> Option<Pair>
 }
 
 // The pair in part, whose tag is printed.
+#[tactic(auto, unfolding(crate::specs::Inner::Columns::read_printed_pair))]
 fn read_printed_pair(part: &[u8], n: u64) -> Option<Pair>
     requires { length part.now ≡ entry_width }
     ensures { result ≡ read_printed_pair n part.now }
@@ -47,6 +50,7 @@ fn read_printed_pair(part: &[u8], n: u64) -> Option<Pair>
 }
 
 // Pair i, in part: only the first one's tag may be blank.
+#[tactic(auto, unfolding(crate::specs::Inner::Columns::read_pair, crate::specs::Bucket::columns))]
 fn read_pair(part: &[u8], i: usize, n: u64) -> Option<Pair>
     requires { length part.now ≡ entry_width }
     ensures { result ≡ read_pair n i part.now }
@@ -116,6 +120,7 @@ fn read_tags(part: &[u8], count: usize) -> Option<ArrayVec<u64, 8>>
 }
 
 // The first three numbers of a bucket.
+#[tactic(auto, unfolding(crate::specs::Inner::Columns::read_head, crate::specs::Bucket::columns))]
 fn read_head(part: &[u8]) -> Option<Head>
     requires { length part.now ≡ bucket_length }
     ensures { result ≡ read_head part.now }
@@ -130,11 +135,7 @@ fn read_head(part: &[u8]) -> Option<Head>
         1,
         Bucket::BUCKETS_MOST - position,
     )?;
-    let to_segment = number_within(
-        &part[Bucket::TO_SEGMENT..Bucket::FOLLOW_ON],
-        1,
-        to_cycle,
-    )?;
+    let to_segment = number_within(&part[Bucket::TO_SEGMENT..Bucket::FOLLOW_ON], 1, to_cycle)?;
     Some(Head {
         position,
         to_cycle,
@@ -143,6 +144,7 @@ fn read_head(part: &[u8]) -> Option<Head>
 }
 
 // The index bucket that part is, behind its head.
+#[tactic(auto, unfolding(crate::specs::Inner::Columns::read_index, crate::specs::Bucket::columns))]
 fn read_index(part: &[u8], head: Head) -> Option<Reading>
     requires { length part.now ≡ bucket_length }
     ensures { result ≡ option_map reading_of (read_index head part.now) }
@@ -175,6 +177,7 @@ fn read_index(part: &[u8], head: Head) -> Option<Reading>
 }
 
 // The data bucket that part is, behind its head.
+#[tactic(auto, unfolding(crate::specs::Inner::Columns::read_data, crate::specs::Bucket::columns))]
 fn read_data(part: &[u8], head: Head) -> Option<Reading>
     requires { (length part.now ≡ bucket_length) × (1 ≤ head.to_cycle) }
     ensures { result ≡ option_map reading_of (read_data head part.now) }

@@ -29,6 +29,17 @@ fn write_head(part: &mut [u8], head: Head, follow_on: u64, letter: u8, pairs: u6
     columns::print_at(part, Bucket::ITEM_COUNT, Bucket::PAIRS, items);
 }
 
+// A control pair over blank columns.
+fn write_pair(part: &mut [u8], pair: Pair)
+    requires { part.old ≡ blanks entry_width }
+    ensures { part.new ≡ print_pair pair }
+{
+    if let Some(tag) = pair.tag {
+        columns::print_at(part, Line::TAG, Bucket::DISTANCE, tag);
+    }
+    columns::print_at(part, Bucket::DISTANCE, Bucket::ENTRY, pair.distance);
+}
+
 // Control pairs over blank columns.
 fn write_pairs(part: &mut [u8], pairs: &[Pair])
     requires { (part.old ≡ blanks pairs_width) × (length pairs.now ≤ pairs_most) }
@@ -36,11 +47,7 @@ fn write_pairs(part: &mut [u8], pairs: &[Pair])
 {
     for (i, pair) in pairs.iter().enumerate() {
         let at = i * Bucket::ENTRY;
-        let distance = at + Bucket::DISTANCE;
-        if let Some(tag) = pair.tag {
-            columns::print_at(part, at, distance, tag);
-        }
-        columns::print_at(part, distance, at + Bucket::ENTRY, pair.distance);
+        write_pair(&mut part[at..at + Bucket::ENTRY], *pair);
     }
 }
 

@@ -5,6 +5,7 @@ use Rattle.std.specs.Prelude.{ℕ, zero, suc, ◌-◌, ◌*◌, ◌≡◌, ◌&&
 use Rattle.std.specs.Prelude.{Option, None, Some}
 use Rattle.columns.specs.Lists.{pick, joined, strict}
 use Rattle.columns.specs.PrintedNumbers.{all_blank, read_number, blank_zeros}
+use Rattle.columns.specs.declared.Place.{Place}
 use Rattle.columns.specs.Inner.Places.{places}
 use Rattle.buckets.specs.declared.Line.{Line}
 use Rattle.buckets.specs.declared.Head.{Head}
@@ -52,11 +53,11 @@ abbrev pub blanked_columns : List ℕ → List ℕ
 blanked_columns s = joined blank_zeros (line_fields s)
 
 -- the places of the columns behind a line's tag in their fields: tare, material code and weighing number
-abbrev pub rest_places : List ℕ
+abbrev pub rest_places : List Place
 rest_places = places (tare_width - 2) ++ (places (code_width - 2) ++ places (weighing_width - 2))
 
 -- those of all its columns
-abbrev pub line_places : List ℕ
+abbrev pub line_places : List Place
 line_places = places (tag_width - 2) ++ rest_places
 
 -- an entry's columns, its tag at least m, its distance at most n
