@@ -14,7 +14,9 @@ use Rattle.columns.proofs.Joined.{joined_at, every_at}
 use Rattle.buckets.specs.Lengths.{bucket_length, bucket_lines_most, line_columns_width, lines_start, lines_width, newline}
 use Rattle.buckets.specs.declared.Line.{Line}
 use Rattle.buckets.specs.ListLine.{fits, line_columns, spelled}
-use Rattle.buckets.specs.Bucket.{Pair, Entry, Body, index_body, data_body, Bucket, print_head, print_body, print_bucket, spelled_line, read_bucket}
+use Rattle.buckets.specs.declared.Pair.{Pair}
+use Rattle.buckets.specs.declared.Entry.{Entry}
+use Rattle.buckets.specs.Bucket.{Body, index_body, data_body, Bucket, print_head, print_body, print_bucket, spelled_line, read_bucket}
 use Rattle.buckets.specs.BucketLines.{body_lines, nth, bucket_line, line_bytes}
 use Rattle.arrayvec.specs.ArrayVec.{ArrayVec}
 use Rattle.buckets.specs.declared.Contents.{Contents}

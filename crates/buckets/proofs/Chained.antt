@@ -1,14 +1,15 @@
 -- Readings that go on with what the one before found, and when two readings are one.
 -- Assumes nothing.
 use Prim.Native.Nat.{ℕ}
-use mathlib.Core.Path.{◌≡◌, refl, sym}
-use mathlib.Core.Bool.{Bool, true, false, ◌&&◌}
+use mathlib.Core.Path.{◌≡◌, refl, sym, ap, ◌∙◌}
+use mathlib.Core.Bool.{Bool, true, false, ◌&&◌, true≢false}
 use Rattle.std.specs.Prelude.{Option, None, Some}
 use mathlib.Core.List.{List}
 use native.Mathlib.Omega.{arith}
 use lib.Dec.{eqb}
 use borrow.Author.Tests.{eq-eqb, ne_eqb}
-use Rattle.std.specs.Option.{option_map}
+use Rattle.std.specs.Option.{option_map, is_some}
+use Rattle.buckets.specs.ListLine.{taken}
 use Rattle.columns.specs.Lists.{pick}
 use Rattle.buckets.specs.Inner.Columns.{and_then}
 
@@ -34,6 +35,15 @@ map_found f (Some a) b h = (a, refl, cc)
 pub map_none : {A B : Type 0} (f : A → B) (o : Option A) → ◌≡◌ {A = Option B} None (option_map f o) → None ≡ o
 map_none f None h = refl
 map_none f (Some a) h = absurd (none_not_some h)
+
+-- whether what was mapped is there
+pub mapped_none : {A B : Type 0} (f : A → B) (o : Option A) {r : Option B} → r ≡ option_map f o → is_some r ≡ false → o ≡ None
+mapped_none f None e h = refl
+mapped_none f (Some a) e h = absurd (true≢false (sym (ap is_some e) ∙ h))
+
+pub mapped_some : {A B : Type 0} (f : A → B) (o : Option A) {r : Option B} → r ≡ option_map f o → is_some r ≡ true → taken o ≡ true
+mapped_some f None e h = absurd (true≢false (sym h ∙ ap is_some e))
+mapped_some f (Some a) e h = refl
 
 -- a reading under two tests of numbers
 module _ {B : Type 0} (x y u v : ℕ) (o : Option B) where

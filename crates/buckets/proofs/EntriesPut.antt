@@ -19,7 +19,9 @@ use Rattle.columns.proofs.Put.{length_put, part_behind, put_put, put_front}
 use Rattle.columns.proofs.Padded.{padded_on, padded_blank, padded_behind, put_padded}
 use Rattle.columns.proofs.Joined.{length_joined}
 use Rattle.buckets.specs.declared.Head.{Head}
-use Rattle.buckets.specs.Bucket.{Pair, Entry, index_body, print_entry, print_bucket}
+use Rattle.buckets.specs.declared.Pair.{Pair}
+use Rattle.buckets.specs.declared.Entry.{Entry}
+use Rattle.buckets.specs.Bucket.{index_body, print_entry, print_bucket}
 use Rattle.buckets.specs.Inner.Held.{bucket_with, index_front, entry_start, EntryBlank, EntriesBlank}
 use Rattle.buckets.specs.Lengths.{newline, letter_index, tag_width, place_width, head_width, entry_width, entries_start, entries_width}
 use Rattle.buckets.specs.Lengths.{pairs_most, entries_most, bucket_end, bucket_length}

@@ -19,7 +19,8 @@ use Rattle.columns.proofs.Padded.{padded_blanks, padded_full, padded_on, set_pad
 use Rattle.buckets.specs.declared.Line.{Line}
 use Rattle.buckets.specs.declared.Head.{Head}
 use Rattle.buckets.specs.ListLine.{line_columns}
-use Rattle.buckets.specs.Bucket.{Pair, Body, data_body, follow_on, letter, pair_count, item_count, head_columns, print_head, print_body, print_bucket, print_pair}
+use Rattle.buckets.specs.declared.Pair.{Pair}
+use Rattle.buckets.specs.Bucket.{Body, data_body, follow_on, letter, pair_count, item_count, head_columns, print_head, print_body, print_bucket, print_pair}
 use Rattle.buckets.specs.Inner.Held.{bucket_with, index_front}
 use Rattle.buckets.specs.Lengths.{newline, letter_index, letter_data, pairs_most, bucket_end, bucket_length}
 use Rattle.buckets.specs.Lengths.{pairs_width, entries_start, entries_width, lines_width}

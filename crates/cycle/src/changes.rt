@@ -20,7 +20,7 @@ use super::measures::{figures_of, settings_fit};
 use super::{Changed, Counts, Figures, Judged, LINE};
 use buckets::Line;
 use buckets::lines::{line_tag, plain_tag, spelled_line, spelled_tag};
-use columns::{MISPRINT, copy_columns, print_blanks};
+use columns::{copy_columns, print_blanks};
 
 // What is found of settings, a list and a given line: a refusal by 1 to 4, or whether the list is known to have no leading zeros.
 #[derive(Clone, Copy)]
@@ -46,13 +46,13 @@ fn judge_lines_given(list: &[u8], lines: u64, given: &[u8]) -> GivenJudged
     match told {
         LinesJudged::Misprinted(place) => GivenJudged::Refused(3, place),
         LinesJudged::Falls(place) => {
-            if line_tag(given) == MISPRINT {
+            if line_tag(given).is_none() {
                 return GivenJudged::Refused(3, lines);
             }
             GivenJudged::Refused(4, place)
         }
         LinesJudged::Passed(plain) => {
-            if line_tag(given) == MISPRINT {
+            if line_tag(given).is_none() {
                 return GivenJudged::Refused(3, lines);
             }
             GivenJudged::Passed(plain)
@@ -97,32 +97,13 @@ fn first_over(list: &[u8], lines: u64, tag: u64) -> u64
     lines
 }
 
-// Whether two lines have the same four numbers.
-fn same_numbers(a: Line, b: Line) -> bool
-    ensures { result ≡ same_numbers a b }
-{
-    if a.tag != b.tag {
-        return false;
-    }
-    if a.tare != b.tare {
-        return false;
-    }
-    if a.code != b.code {
-        return false;
-    }
-    a.weighing == b.weighing
-}
-
 // Whether the line that stands at a place of a list has these four numbers.
 fn equals_at(list: &[u8], at: usize, line: Line) -> bool
     requires { at + line_columns_width ≤ length list.now }
     ensures { result ≡ same_numbers line (spelled (drop at list.now)) }
 {
-    if spelled_tag(list, at) != line.tag {
-        return false;
-    }
     let end = at + Line::COLUMNS;
-    same_numbers(line, spelled_line(&list[at..end]))
+    spelled_tag(list, at) == line.tag && line == spelled_line(&list[at..end])
 }
 
 // The first line with these four numbers, or the number of lines if there is none.
@@ -191,10 +172,7 @@ fn remove_line(list: &mut [u8], at: usize, end: usize)
 fn plain_with(plain: bool, line: &[u8]) -> bool
     ensures { result ≡ true → (plain ≡ true) × (taken (read_plain line.now) ≡ true) }
 {
-    if plain {
-        return plain_tag(line) != MISPRINT;
-    }
-    false
+    plain && plain_tag(line).is_some()
 }
 
 // The answer of a change whose list has these figures.

@@ -10,7 +10,9 @@ use Rattle.columns.specs.Inner.Places.{places}
 use Rattle.buckets.specs.declared.Line.{Line}
 use Rattle.buckets.specs.declared.Head.{Head}
 use Rattle.buckets.specs.ListLine.{fits, print_line, spelled, line_fields, list_lines}
-use Rattle.buckets.specs.Bucket.{Pair, Entry, index_body, data_body, Bucket, columns}
+use Rattle.buckets.specs.declared.Pair.{Pair}
+use Rattle.buckets.specs.declared.Entry.{Entry}
+use Rattle.buckets.specs.Bucket.{index_body, data_body, Bucket, columns}
 use Rattle.buckets.specs.Inner.Held.{printed_pair, bucket_with}
 use Rattle.buckets.specs.Lengths.{newline, letter_index, letter_data, tag_width, tare_width, code_width, weighing_width}
 use Rattle.buckets.specs.Lengths.{tag_start, tare_start, code_start, weighing_start, line_columns_width, tag_most, tare_most}

@@ -10,7 +10,9 @@ use Rattle.buckets.specs.declared.Head.{Head}
 use Rattle.buckets.specs.declared.Contents.{Contents}
 use Rattle.buckets.specs.declared.Contents.TheVariants.{Index, Data}
 use Rattle.buckets.specs.declared.Reading.{Reading}
-use Rattle.buckets.specs.Bucket.{Pair, Entry, Body, index_body, data_body, Bucket, head_columns, print_pair}
+use Rattle.buckets.specs.declared.Pair.{Pair}
+use Rattle.buckets.specs.declared.Entry.{Entry}
+use Rattle.buckets.specs.Bucket.{Body, index_body, data_body, Bucket, head_columns, print_pair}
 use Rattle.buckets.specs.Lengths.{letter_index, place_width, distance_start, entry_width, pairs_width, entries_start, entries_most}
 
 abbrev pub printed_pair : Entry → Pair

@@ -11,7 +11,7 @@ use borrow.Author.Tests.{leb-true, ne_eqb}
 use Rattle.columns.specs.Lists.{pick, every}
 use Rattle.columns.proofs.Strict.{both}
 use Rattle.buckets.specs.Lengths.{buckets_most}
-use Rattle.buckets.specs.Bucket.{Entry}
+use Rattle.buckets.specs.declared.Entry.{Entry}
 use Rattle.buckets.specs.Inner.Held.{printed_pair, pairs_of}
 use Rattle.listener.specs.Listener.{Choice, dozes, misses, entry_choice, later_choice, index_choice}
 use Rattle.listener.specs.Inner.OnReading.{chosen, below, reached, first_chosen, near}

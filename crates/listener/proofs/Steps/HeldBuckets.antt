@@ -12,7 +12,9 @@ use Rattle.columns.specs.Lists.{every}
 use Rattle.columns.proofs.Strict.{both}
 use Rattle.buckets.specs.Lengths.{buckets_most}
 use Rattle.buckets.specs.declared.Line.{Line}
-use Rattle.buckets.specs.Bucket.{Pair, Entry, Bucket, pair_fits, entry_fits}
+use Rattle.buckets.specs.declared.Pair.{Pair}
+use Rattle.buckets.specs.declared.Entry.{Entry}
+use Rattle.buckets.specs.Bucket.{Bucket, pair_fits, entry_fits}
 use Rattle.buckets.specs.Inner.Held.{filled, tag_or0, held_index, head_of}
 use Rattle.buckets.proofs.Holding.{length_filled, entries_of_lem, in_numbers}
 use Rattle.buckets.proofs.Good.{Good, GoodIndex, Reaches, pair_fits_lem, entry_fits_lem}

@@ -12,7 +12,7 @@ use lib.ListN.{length, take, drop, get_or, length-take, length-map, drop_of_leng
 use lib.Seq.{drop-cons, get_or-take, length-take-le}
 use Rattle.columns.specs.Lists.{pick}
 use Rattle.buckets.specs.declared.IndexItems.{IndexItems}
-use Rattle.buckets.specs.Bucket.{Entry}
+use Rattle.buckets.specs.declared.Entry.{Entry}
 use Rattle.buckets.specs.Inner.Held.{entries_of}
 use Rattle.buckets.proofs.Fronts.{length_entries}
 use Rattle.listener.specs.Listener.{before, matching}

@@ -8,7 +8,8 @@ use Rattle.buckets.specs.declared.Line.{Line}
 use Rattle.buckets.specs.declared.Head.{Head}
 use Rattle.buckets.specs.declared.IndexItems.{IndexItems}
 use Rattle.buckets.specs.declared.Reading.{Reading}
-use Rattle.buckets.specs.Bucket.{Entry, read_bucket}
+use Rattle.buckets.specs.declared.Entry.{Entry}
+use Rattle.buckets.specs.Bucket.{read_bucket}
 use Rattle.buckets.specs.Inner.Held.{entries_of, as_reading}
 use Rattle.listener.specs.declared.Phase.{Phase}
 use Rattle.listener.specs.declared.Phase.TheVariants

@@ -4,7 +4,9 @@ use Rattle.columns.proofs.Put.{length_part}
 use Rattle.arrayvec.specs.ArrayVec.{ArrayVec}
 use Rattle.buckets.specs.declared.Reading.{Reading}
 use Rattle.buckets.specs.declared.Contents.TheVariants.{Index}
-use Rattle.buckets.specs.Bucket.{Pair, Entry, columns}
+use Rattle.buckets.specs.declared.Pair.{Pair}
+use Rattle.buckets.specs.declared.Entry.{Entry}
+use Rattle.buckets.specs.Bucket.{columns}
 use Rattle.buckets.specs.Lengths.{pairs_most, entries_most, pairs_start, pairs_width, entries_start, entries_width}
 use Rattle.buckets.specs.Inner.Held.{vector, head_of, bucket_with, reading_of}
 use Rattle.buckets.specs.Inner.Columns.{read_index}

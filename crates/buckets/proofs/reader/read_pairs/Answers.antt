@@ -1,7 +1,7 @@
 -- The pairs read so far, and what the reading of all of them is.
 use Rattle.std.proofs.Common.{ℕ, suc, refl, sym, ap, ◌∙◌}
 use Rattle.std.specs.Option.{option_map}
-use Rattle.buckets.specs.Bucket.{Pair}
+use Rattle.buckets.specs.declared.Pair.{Pair}
 use Rattle.buckets.specs.Lengths.{entry_width}
 use Rattle.buckets.specs.Inner.Held.{vector}
 use Rattle.buckets.specs.Inner.Columns.{read_pair, read_pairs}

@@ -5,7 +5,8 @@ use Rattle.columns.specs.Lists.{joined, padded}
 use Rattle.columns.proofs.FromTheRight.{length_blanks}
 use Rattle.columns.proofs.Joined.{length_joined}
 use Rattle.columns.proofs.Padded.{padded_nil, lent_blank, back_padded}
-use Rattle.buckets.specs.Bucket.{Pair, print_pair}
+use Rattle.buckets.specs.declared.Pair.{Pair}
+use Rattle.buckets.specs.Bucket.{print_pair}
 use Rattle.buckets.specs.Lengths.{pairs_width, entry_width}
 use Rattle.buckets.proofs.Buckets.{length_print_pair}
 use Rattle.buckets.proofs.Fronts.{item_written}
