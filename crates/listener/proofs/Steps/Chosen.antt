@@ -27,11 +27,13 @@ pub chosen_near :
 chosen_near f distance [] h e = absurd (let z : ◌≡◌ {A = ℕ} 0 1 = cc in omega arith)
 chosen_near f distance (x ∷ xs) h {d} e =
     let told = both (leb (distance x) buckets_most) (every (λ y. leb (distance y) buckets_most) xs) h in
-    passed (f x) e
+    passed (f x) (leb-true (distance x) buckets_most told.0) (λ k. chosen_near f distance xs told.1 k) e
   where
-    passed : (t : Bool) → Some d ≡ pick t (Some (distance x)) (chosen f distance xs) → d ≤ buckets_most
-    passed true k = let is : d ≡ distance x = cc in omega (arith, leb-true (distance x) buckets_most (both (leb (distance x) buckets_most) (every (λ y. leb (distance y) buckets_most) xs) h).0)
-    passed false k = chosen_near f distance xs (both (leb (distance x) buckets_most) (every (λ y. leb (distance y) buckets_most) xs) h).1 k
+    passed :
+        (t : Bool) → distance x ≤ buckets_most → (Some d ≡ chosen f distance xs → d ≤ buckets_most) →
+        Some d ≡ pick t (Some (distance x)) (chosen f distance xs) → d ≤ buckets_most
+    passed true near rest k = let is : d ≡ distance x = cc in omega arith
+    passed false near rest k = rest k
 
 pub first_near : (tag : ℕ) (ps : List Pair) → every (λ p. leb p.distance buckets_most) ps ≡ true → {d : ℕ} → Some d ≡ first_chosen tag ps → d ≤ buckets_most
 first_near tag [] h e = absurd (let z : ◌≡◌ {A = ℕ} 0 1 = cc in omega arith)

@@ -19,7 +19,7 @@ use Rattle.buckets.specs.declared.Contents.TheVariants.{Index, Data}
 use Rattle.buckets.specs.Bucket.{Body, index_body, data_body, Bucket, read_bucket}
 use Rattle.buckets.specs.Inner.Held.{bucket_with, head_of, contents_of, reading_of}
 use Rattle.buckets.proofs.Chained.{map_found}
-use Rattle.buckets.proofs.Good.{GoodIndex, GoodData, bucket_good}
+use Rattle.buckets.proofs.Good.{Good, GoodIndex, GoodData, bucket_good}
 use Rattle.buckets.proofs.Buckets.{print_of_read_bucket}
 use Rattle.listener.specs.Listener.{heed, heed_read}
 use Rattle.listener.specs.Inner.OnReading.{SoundHead, Near, tagged_lines}
@@ -41,7 +41,7 @@ pub record DataRead (h : Head) (f : ℕ) (tags : List ℕ) (o : Option Bucket) :
   pub is : (s : Listener) → heed s (bucket_with h (data_body f (tagged_lines tags))) ≡ heed_read s o
 
 module _ (bytes : List ℕ) (b : Bucket) (read : Some b ≡ read_bucket bytes) where
-  fine : _
+  fine : Good b
   fine = bucket_good b (print_of_read_bucket bytes (sym read)).1
 
   index_of : (qs : List Pair) (fs : List Entry) → b.body ≡ index_body qs fs → IndexRead (head_of b) qs fs (read_bucket bytes)
