@@ -20,7 +20,7 @@ ghost use Rattle.listener.specs.Mean;
 ghost use Rattle.listener.specs.State.{saved, restored};
 ghost use Rattle.pansdaoh.specs.Calls.{built_answer, read_back_answer, looked_answer, step_answer, step_from, lost_from, was_ended, state_after, line_answer, size_answer, change_answer, mean_answer};
 
-use buckets::{BucketLine, bucket_line};
+use buckets::{Line, Misprinted, bucket_line};
 use cycle::{Built, Changed, ReadBack, Sized, build, changes, read_back, size};
 use listener::{Averaged, Listener, Looked, Stepped, lookup, mean};
 
@@ -240,11 +240,11 @@ fn hand_back(state: &mut [u64; 8], r: Stepped) -> StepAnswer
 }
 
 // A bucket's line as numbers.
-fn line_answer(answer: BucketLine) -> LineAnswer
+fn line_answer(answer: Result<Option<Line>, Misprinted>) -> LineAnswer
     ensures { result ≡ line_answer (BucketLines.numbers answer) }
 {
     match answer {
-        BucketLine::Line(line) => LineAnswer {
+        Ok(Some(line)) => LineAnswer {
             number: 0,
             place: 0,
             present: 1,
@@ -253,8 +253,8 @@ fn line_answer(answer: BucketLine) -> LineAnswer
             code: line.code,
             weighing: line.weighing,
         },
-        BucketLine::Nothing => no_line(0),
-        BucketLine::Misprinted => no_line(8),
+        Ok(None) => no_line(0),
+        Err(Misprinted) => no_line(8),
     }
 }
 
