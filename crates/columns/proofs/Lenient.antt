@@ -4,12 +4,13 @@
 --     blank_print                 a print has no leading zeros
 --     blanked_digits, value_digits   no column adds another digit to the value
 -- Assumes nothing.
-use Rattle.std.proofs.Common.{◌≡◌, ℕ, zero, suc, ◌+◌, ◌-◌, ◌*◌, ◌%◌, ◌^◌, ◌<◌, ◌≤◌, Bool, true, false, ◌&&◌, ◌||◌, eqb, leb, List, [], ◌∷◌, map, length, get_or, sym, refl, ap, ◌∙◌, ap₂, arith, eqb-true, leb-true}
+use Rattle.std.proofs.Common.{not, cond, ◌++◌, take, drop, replicate, ◌≡◌, ℕ, zero, suc, ◌+◌, ◌-◌, ◌*◌, ◌%◌, ◌^◌, ◌<◌, ◌≤◌, Bool, true, false, ◌&&◌, ◌||◌, eqb, leb, List, [], ◌∷◌, map, length, get_or, sym, refl, ap, ◌∙◌, ap₂, arith, eqb-true, leb-true}
 use Rattle.std.specs.Prelude.{None, Some}
+use Rattle.std.specs.List.{position_or_len}
 use borrow.Author.Tests.{eqb-false}
 use Rattle.columns.specs.Lists.{pick, every}
 use Rattle.columns.specs.PrintedNumbers.{print, value, digit, read_number, blanks_digits, blank_zeros}
-use Rattle.columns.proofs.Strict.{both, and_false}
+use Rattle.columns.proofs.Strict.{both}
 use Rattle.columns.proofs.Joined.{every_at}
 use Rattle.columns.proofs.Printed.{length_print, value_print, read_of_print, print_of_read}
 use Rattle.columns.proofs.OnePass.{digits_small, read_blank, read_zero, read_digits_lem}
@@ -39,24 +40,27 @@ blank_one [] h = refl
 blank_one (c ∷ []) h = refl
 blank_one (c ∷ d ∷ s) h = absurd (omega arith)
 
--- one column, where `leading` says that none before it is the number's and `more` that columns are left
-pub blank_column : (leading more : Bool) (c : ℕ) (s : List ℕ) → (more ≡ true → 1 ≤ length s) → (more ≡ false → length s ≡ 0)
-    → pick leading (blank_zeros (c ∷ s)) (c ∷ s)
-    ≡ pick ((leading && (eqb c 32 || eqb c 48)) && more) 32 c ∷ pick ((leading && (eqb c 32 || eqb c 48)) && more) (blank_zeros s) s
-blank_column false more c s left gone = refl
-blank_column true more c [] left gone = go more left
+-- a column that a number may begin behind
+abbrev pub is_leading : ℕ → Bool
+is_leading c = eqb c 32 || eqb c 48
+
+-- those before the first of another kind are blank, the last column aside
+pub blank_front : (s : List ℕ) (n : ℕ) → n ≡ length s - 1
+    → blank_zeros s ≡ replicate (position_or_len (λ c. not (is_leading c)) (take n s)) 32 ++ drop (position_or_len (λ c. not (is_leading c)) (take n s)) s
+blank_front [] n e = rw e
+blank_front (c ∷ []) n e = let none : n ≡ 0 = omega arith in rw none
+blank_front (c ∷ d ∷ s) n e =
+    let more : n ≡ suc (length s) = omega arith in
+    rw more (go (is_leading c) (blank_front (d ∷ s) (length s) (omega arith)))
   where
-    go : (m : Bool) → (m ≡ true → 1 ≤ length {A = ℕ} [])
-        → c ∷ [] ≡ pick ((eqb c 32 || eqb c 48) && m) 32 c ∷ pick ((eqb c 32 || eqb c 48) && m) [] []
-    go true k = absurd (omega (arith, k refl))
-    go false k = rw (and_false (eqb c 32 || eqb c 48))
-blank_column true more c (d ∷ s) left gone = go more (eqb c 32 || eqb c 48) gone
-  where
-    go : (m t : Bool) → (m ≡ false → length (d ∷ s) ≡ 0)
-        → pick t (32 ∷ blank_zeros (d ∷ s)) (c ∷ d ∷ s) ≡ pick (t && m) 32 c ∷ pick (t && m) (blank_zeros (d ∷ s)) (d ∷ s)
-    go true true k = refl
-    go true false k = refl
-    go false t k = absurd (omega (arith, k refl))
+    k : ℕ
+    k = position_or_len (λ b. not (is_leading b)) (take (length s) (d ∷ s))
+
+    go : (t : Bool) → blank_zeros (d ∷ s) ≡ replicate k 32 ++ drop k (d ∷ s)
+        → pick t (32 ∷ blank_zeros (d ∷ s)) (c ∷ d ∷ s)
+        ≡ replicate (cond (not (not t)) (1 + k) 0) 32 ++ drop (cond (not (not t)) (1 + k) 0) (c ∷ d ∷ s)
+    go true rest = let more : 1 + k ≡ suc k = omega arith in rw more (ap (λ (r : List ℕ). 32 ∷ r) rest)
+    go false rest = refl
 
 -- no column adds another digit to the value
 pub blanked_digits : (s : List ℕ) → map (λ c. c - 48) (blank_zeros s) ≡ map (λ c. c - 48) s

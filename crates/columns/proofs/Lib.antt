@@ -10,5 +10,6 @@ pub mod FromTheRight
 pub mod Padded
 pub mod Places
 pub mod Lenient
+pub mod SpelledSoFar
 pub mod Rows
 pub mod Blank

@@ -25,10 +25,8 @@ pub fn power(n: u64, e: usize) -> u64
     ensures { result ≡ n ^ e }
 {
     let mut x = 1;
-    let mut done = 0;
-    while done < e {
+    for _ in 0..e {
         x = x * n;
-        done += 1;
     }
     x
 }
@@ -45,11 +43,7 @@ pub fn ten_to(e: usize) -> u64
 pub fn print_blanks(part: &mut [u8])
     ensures { part.new ≡ blanks (length part.old) }
 {
-    let mut i = 0;
-    while i < part.len() {
-        part[i] = BLANK;
-        i += 1;
-    }
+    part.fill(BLANK);
 }
 
 // x over columns that are blank: its digits, from the right, two a turn.
@@ -96,31 +90,12 @@ pub fn print_number(part: &mut [u8], x: u64)
     print_digits(part, x);
 }
 
-// The columns of `from`, as they are: four a turn, each read before the first is written, and then one by one.
+// The columns of `from`, as they are.
 pub fn copy_columns(part: &mut [u8], from: &[u8])
     requires { length from.now ≡ length part.old }
     ensures { part.new ≡ from.now }
 {
-    let n = part.len();
-    let mut i = 0;
-    'four: while 4 <= n - i {
-        let j = i + 1;
-        let k = i + 2;
-        let l = i + 3;
-        let a = from[i];
-        let b = from[j];
-        let c = from[k];
-        let d = from[l];
-        part[i] = a;
-        part[j] = b;
-        part[k] = c;
-        part[l] = d;
-        i += 4;
-    }
-    while i < n {
-        part[i] = from[i];
-        i += 1;
-    }
+    part.copy_from_slice(from);
 }
 
 // Whether c may stand before a number: a blank or a leading zero.
@@ -132,81 +107,37 @@ fn is_leading(c: u8) -> bool
 
 // Leading zeros made blank. The last column stays.
 pub fn blank_zeros(part: &mut [u8])
-    requires { 1 ≤ length part.old }
     ensures { part.new ≡ blank_zeros part.old }
 {
-    let last = part.len() - 1;
-    let mut i = 0;
-    while i < last {
-        if !is_leading(part[i]) {
-            return;
-        }
-        part[i] = BLANK;
-        i += 1;
-    }
+    let last = part.len().saturating_sub(1);
+    let used = part[..last]
+        .iter()
+        .position(|c| !is_leading(*c))
+        .unwrap_or(last);
+    part[..used].fill(BLANK);
 }
 
-fn blank_if(leading: bool, c: u8) -> u8
-    ensures { result ≡ pick leading 32 c }
-{
-    if leading {
-        return BLANK;
-    }
-    c
-}
-
-// The columns of `from` with leading zeros made blank. It is for a few columns: a copy that is then blanked in place would be made
-// byte by byte, also where nothing is to be blanked.
+// The columns of `from` with leading zeros made blank.
 pub fn copy_blanked(part: &mut [u8], from: &[u8])
     requires { length from.now ≡ length part.old }
     ensures { part.new ≡ blank_zeros from.now }
 {
-    let n = part.len();
-    let mut leading = true;
-    let mut i = 0;
-    while i < n {
-        let c = from[i];
-        leading = leading & is_leading(c) & (i + 1 < n);
-        part[i] = blank_if(leading, c);
-        i += 1;
-    }
-}
-
-// Whether c is blank and the columns before it are.
-fn still_blank(before: bool, c: u8) -> bool
-    ensures { result ≡ (before && c == 32) }
-{
-    if c == BLANK {
-        return before;
-    }
-    false
+    part.copy_from_slice(from);
+    blank_zeros(part);
 }
 
 // Whether every column of part is blank. It looks at each of them, so that many are tested at once.
 pub fn all_blank(part: &[u8]) -> bool
     ensures { result ≡ all_blank part.now }
 {
-    let mut blank = true;
-    let mut i = 0;
-    while i < part.len() {
-        blank = still_blank(blank, part[i]);
-        i += 1;
-    }
-    blank
+    part.iter().fold(true, |blank, c| blank & (*c == BLANK))
 }
 
 // Whether every column is a digit.
 fn all_digits(part: &[u8]) -> bool
     ensures { result ≡ every digit part.now }
 {
-    let mut i = 0;
-    while i < part.len() {
-        if 9 < std::num::wrapping_sub_u8(part[i], ZERO) {
-            return false;
-        }
-        i += 1;
-    }
-    true
+    part.iter().all(|c| c.is_ascii_digit())
 }
 
 // The number that digits in every column spell.
@@ -215,10 +146,8 @@ fn spelled(part: &[u8]) -> u64
     ensures { result ≡ value 0 part.now }
 {
     let mut x = 0;
-    let mut i = 0;
-    while i < part.len() {
-        x = x * ten_to(1) + part[i] as u64 - 48;
-        i += 1;
+    for c in part {
+        x = x * ten_to(1) + u64::from(*c - ZERO);
     }
     x
 }
@@ -229,10 +158,8 @@ pub fn lenient_number(part: &[u8]) -> u64
     ensures { result ≡ value 0 part.now }
 {
     let mut x = 0;
-    let mut i = 0;
-    while i < part.len() {
-        x = x * ten_to(1) + (part[i] % 16) as u64;
-        i += 1;
+    for c in part {
+        x = x * ten_to(1) + u64::from(*c % 16);
     }
     x
 }
