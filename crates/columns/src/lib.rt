@@ -1,9 +1,10 @@
 // Decimal columns: document 01, "Printed numbers".
 #![tactic(auto)]
 
-ghost use Rattle.std.specs.Prelude.{◌≡◌, ◌-◌, ◌^◌, ◌<◌, ◌≤◌, true, ◌&&◌, ◌||◌, [], ◌∷◌, length, take, drop, ◌==◌};
+ghost use Rattle.std.specs.Prelude.{not, ◌≡◌, ◌-◌, ◌^◌, ◌<◌, ◌≤◌, true, ◌&&◌, ◌||◌, [], ◌∷◌, length, take, drop, ◌==◌};
 ghost use Rattle.columns.specs.Lists.{pick, put, every};
 ghost use Rattle.columns.specs.Inner.Places.{leading, column_printed, column_digits};
+ghost use Rattle.columns.specs.Inner.Starts.{IsUsed};
 ghost use Rattle.columns.specs.PrintedNumbers.{print, blanks, all_blank, value, digit, read_number, blanks_digits, blank_zeros};
 
 // The place of a column in its field.
@@ -39,38 +40,31 @@ pub fn ten_to(e: usize) -> u64
     power(10, e)
 }
 
-// Blanks in every column.
+// Blanks in every column. The loop counts by hand, since `fill` and a `for` become `memset` of the C library, which the library must
+// not need.
 pub fn print_blanks(part: &mut [u8])
     ensures { part.new ≡ blanks (length part.old) }
 {
-    part.fill(BLANK);
+    let mut i = 0;
+    while i < part.len() {
+        part[i] = BLANK;
+        i += 1;
+    }
 }
 
-// x over columns that are blank: its digits, from the right, two a turn.
+// x over columns that are blank: its digits, from the right.
 pub fn print_digits(part: &mut [u8], x: u64)
     requires { part.old ≡ blanks (length part.old) }
     ensures { part.new ≡ print (length part.old) x }
 {
     let ten = ten_to(1);
-    let hundred = ten_to(2);
-    let mut i = part.len();
     let mut rest = x;
-    while 1 < i {
-        if rest < ten {
-            part[i - 1] = ZERO + rest as u8;
-            return;
-        }
-        let two = rest % hundred;
-        part[i - 1] = ZERO + (two % ten) as u8;
-        part[i - 2] = ZERO + (two / ten) as u8;
-        i -= 2;
-        rest = rest / hundred;
+    for i in (0..part.len()).rev() {
+        part[i] = ZERO + (rest % ten) as u8;
+        rest = rest / ten;
         if rest == 0 {
             return;
         }
-    }
-    if i == 1 {
-        part[0] = ZERO + (rest % ten) as u8;
     }
 }
 
@@ -114,7 +108,7 @@ pub fn blank_zeros(part: &mut [u8])
         .iter()
         .position(|c| !is_leading(*c))
         .unwrap_or(last);
-    part[..used].fill(BLANK);
+    print_blanks(&mut part[..used]);
 }
 
 // The columns of `from` with leading zeros made blank.
@@ -147,7 +141,7 @@ fn spelled(part: &[u8]) -> u64
 {
     let mut x = 0;
     for c in part {
-        x = x * ten_to(1) + u64::from(*c - ZERO);
+        x = x * ten_to(1) + u64::from(*c) - u64::from(ZERO);
     }
     x
 }
@@ -164,20 +158,58 @@ pub fn lenient_number(part: &[u8]) -> u64
     x
 }
 
+// Whether a number may begin with c: a digit, and no 0 unless it stands alone.
+fn begins_number(c: u8, alone: bool) -> bool
+    ensures { result ≡ (digit c && (alone || not (c == 48))) }
+{
+    c.is_ascii_digit() & (alone | (c != ZERO))
+}
+
+// The number in WIDTH columns, of which the first is used: digits, the first no 0 unless it is the only one.
+fn read_digits<const WIDTH: usize>(number: &[u8]) -> Option<u64>
+    requires used { IsUsed number.now }
+    requires width { length number.now ≡ WIDTH }
+    ensures { result ≡ read_number number.now }
+{
+    let digits = &number[..WIDTH];
+    if !begins_number(digits[0], WIDTH == 1) {
+        return None;
+    }
+    if !all_digits(&digits[1..]) {
+        return None;
+    }
+    Some(spelled(digits))
+}
+
+// The number in columns of which the first is used. Each width has a `read_digits` that is compiled for it: over a width that is
+// not known a step takes a quarter more instructions.
+#[inline(always)]
+fn read_used(number: &[u8]) -> Option<u64>
+    requires { IsUsed number.now }
+    ensures { result ≡ read_number number.now }
+{
+    match number.len() {
+        1 => read_digits::<1>(number),
+        2 => read_digits::<2>(number),
+        3 => read_digits::<3>(number),
+        4 => read_digits::<4>(number),
+        5 => read_digits::<5>(number),
+        6 => read_digits::<6>(number),
+        7 => read_digits::<7>(number),
+        8 => read_digits::<8>(number),
+        9 => read_digits::<9>(number),
+        _ => read_digits::<10>(number),
+    }
+}
+
 // The number in all the columns of part: blanks, then digits to the end, the first no 0 unless it is the only one.
+#[inline(always)]
 pub fn read_number(part: &[u8]) -> Option<u64>
     requires { (1 ≤ length part.now) × (length part.now ≤ 10) }
     ensures { result ≡ read_number part.now }
 {
     let first = part.iter().position(|c| *c != BLANK)?;
-    let number = &part[first..];
-    if number[0] == ZERO && 1 < number.len() {
-        return None;
-    }
-    if !all_digits(number) {
-        return None;
-    }
-    Some(spelled(number))
+    read_used(&part[first..])
 }
 
 // Whether a column in this place may be unused: no column of its field before it is used, and it is not the last.
