@@ -26,20 +26,6 @@ length_blanked (c ∷ d ∷ s) = go (eqb c 32 || eqb c 48) (length_blanked (d �
     go true rest = ap suc rest
     go false rest = refl
 
--- a column that is passed over, and one that is not
-pub blank_on : (c : ℕ) (s : List ℕ) → 1 ≤ length s → (eqb c 32 || eqb c 48) ≡ true → blank_zeros (c ∷ s) ≡ 32 ∷ blank_zeros s
-blank_on c [] h e = absurd (omega arith)
-blank_on c (d ∷ s) h e = rw e
-
-pub blank_stop : (c : ℕ) (s : List ℕ) → (eqb c 32 || eqb c 48) ≡ false → blank_zeros (c ∷ s) ≡ c ∷ s
-blank_stop c [] e = refl
-blank_stop c (d ∷ s) e = rw e
-
-pub blank_one : (s : List ℕ) → length s ≡ 1 → blank_zeros s ≡ s
-blank_one [] h = refl
-blank_one (c ∷ []) h = refl
-blank_one (c ∷ d ∷ s) h = absurd (omega arith)
-
 -- a column that a number may begin behind
 abbrev pub is_leading : ℕ → Bool
 is_leading c = eqb c 32 || eqb c 48
