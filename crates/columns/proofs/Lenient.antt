@@ -4,9 +4,11 @@
 --     blank_print                 a print has no leading zeros
 --     blanked_digits, value_digits   no column adds another digit to the value
 -- Assumes nothing.
-use Rattle.std.proofs.Common.{not, cond, ◌++◌, take, drop, replicate, ◌≡◌, ℕ, zero, suc, ◌+◌, ◌-◌, ◌*◌, ◌%◌, ◌^◌, ◌<◌, ◌≤◌, Bool, true, false, ◌&&◌, ◌||◌, eqb, leb, List, [], ◌∷◌, map, length, get_or, sym, refl, ap, ◌∙◌, ap₂, arith, eqb-true, leb-true}
+use Rattle.std.proofs.Common.{Bool, List, [], add-one, ap, ap₂, arith, drop, drop-cons, eqb, eqb-true, false, get_or, leb, leb-true, length, length-drop, length-set, map, refl, replicate, set, suc, sym, true, zero, ℕ, ◌%◌, ◌&&◌, ◌*◌, ◌++◌, ◌+◌, ◌-◌, ◌<◌, ◌^◌, ◌||◌, ◌∙◌, ◌∷◌, ◌≡◌, ◌≤◌}
+use lib.ListN.{length-replicate}
+use lib.Seq.{get_or_at}
+use borrow.Author.Fill.{fill_more}
 use Rattle.std.specs.Prelude.{None, Some}
-use Rattle.std.specs.List.{position_or_len}
 use borrow.Author.Tests.{eqb-false}
 use Rattle.columns.specs.Lists.{pick, every}
 use Rattle.columns.specs.PrintedNumbers.{print, value, digit, read_number, blanks_digits, blank_zeros}
@@ -26,27 +28,66 @@ length_blanked (c ∷ d ∷ s) = go (eqb c 32 || eqb c 48) (length_blanked (d �
     go true rest = ap suc rest
     go false rest = refl
 
--- a column that a number may begin behind
-abbrev pub is_leading : ℕ → Bool
-is_leading c = eqb c 32 || eqb c 48
+-- a column that is passed over, and one that is not
+blank_on : (c : ℕ) (s : List ℕ) → 1 ≤ length s → (eqb c 32 || eqb c 48) ≡ true → blank_zeros (c ∷ s) ≡ 32 ∷ blank_zeros s
+blank_on c [] h e = absurd (omega arith)
+blank_on c (d ∷ s) h e = rw e
 
--- those before the first of another kind are blank, the last column aside
-pub blank_front : (s : List ℕ) (n : ℕ) → n ≡ length s - 1
-    → blank_zeros s ≡ replicate (position_or_len (λ c. not (is_leading c)) (take n s)) 32 ++ drop (position_or_len (λ c. not (is_leading c)) (take n s)) s
-blank_front [] n e = rw e
-blank_front (c ∷ []) n e = let none : n ≡ 0 = omega arith in rw none
-blank_front (c ∷ d ∷ s) n e =
-    let more : n ≡ suc (length s) = omega arith in
-    rw more (go (is_leading c) (blank_front (d ∷ s) (length s) (omega arith)))
-  where
-    k : ℕ
-    k = position_or_len (λ b. not (is_leading b)) (take (length s) (d ∷ s))
+blank_stop : (c : ℕ) (s : List ℕ) → (eqb c 32 || eqb c 48) ≡ false → blank_zeros (c ∷ s) ≡ c ∷ s
+blank_stop c [] e = refl
+blank_stop c (d ∷ s) e = rw e
 
-    go : (t : Bool) → blank_zeros (d ∷ s) ≡ replicate k 32 ++ drop k (d ∷ s)
-        → pick t (32 ∷ blank_zeros (d ∷ s)) (c ∷ d ∷ s)
-        ≡ replicate (cond (not (not t)) (1 + k) 0) 32 ++ drop (cond (not (not t)) (1 + k) 0) (c ∷ d ∷ s)
-    go true rest = let more : 1 + k ≡ suc k = omega arith in rw more (ap (λ (r : List ℕ). 32 ∷ r) rest)
-    go false rest = refl
+blank_one : (s : List ℕ) → length s ≤ 1 → blank_zeros s ≡ s
+blank_one [] h = refl
+blank_one (c ∷ []) h = refl
+blank_one (c ∷ d ∷ s) h = absurd (omega arith)
+
+-- the first i columns of s are made blank, and those from i on are still to be looked at
+pub record Blanked (s part : List ℕ) (i : ℕ) : Type 0 where
+  pub within : i ≤ length s - 1
+  pub long : length part ≡ length s
+  pub is : part ≡ replicate i 32 ++ drop i s
+  pub rest : blank_zeros s ≡ replicate i 32 ++ blank_zeros (drop i s)
+
+replicate_more : (i v : ℕ) (t : List ℕ) → replicate i v ++ v ∷ t ≡ replicate (suc i) v ++ t
+replicate_more zero v t = refl
+replicate_more (suc i) v t = ap (λ (r : List ℕ). v ∷ r) (replicate_more i v t)
+
+module _ (s part : List ℕ) (i : ℕ) (o : Blanked s part i) where
+  -- column i is still as it was
+  same_column : i < length s → get_or part i 0 ≡ get_or s i 0
+  same_column h =
+      ap (λ (t : List ℕ). get_or t i 0) (o.is ∙ ap (λ (t : List ℕ). replicate i 32 ++ t) (drop-cons s i 0 h))
+      ∙ get_or_at (replicate i 32) (get_or s i 0) (drop (suc i) s) 0 i (length-replicate i 32)
+
+  pub stops : i < length s → {t : Bool} → t ≡ (eqb (get_or part i 0) 32 || eqb (get_or part i 0) 48) → t ≡ false → part ≡ blank_zeros s
+  stops h told e =
+      let test : (eqb (get_or s i 0) 32 || eqb (get_or s i 0) 48) ≡ false = rw (same_column h) at (sym told ∙ e) in
+      o.is
+      ∙ ap (λ (t : List ℕ). replicate i 32 ++ t)
+      (drop-cons s i 0 h ∙ sym (blank_stop (get_or s i 0) (drop (suc i) s) test) ∙ ap blank_zeros (sym (drop-cons s i 0 h)))
+      ∙ sym o.rest
+
+  pub goes_on : i < length s - 1 → {t : Bool} → t ≡ (eqb (get_or part i 0) 32 || eqb (get_or part i 0) 48) → t ≡ true → Blanked s (set part i 32) (i + 1)
+  goes_on h told e =
+      let below : i < length s = omega arith in
+      let test : (eqb (get_or s i 0) 32 || eqb (get_or s i 0) 48) ≡ true = rw (same_column below) at (sym told ∙ e) in
+      let more : 1 ≤ length (drop (suc i) s) = simp length-drop (omega arith) in
+      record {
+        within = omega arith;
+        long = simp length-set o.long;
+        is = rw o.is (fill_more i 32 s below);
+        rest =
+            o.rest
+            ∙ ap (λ (t : List ℕ). replicate i 32 ++ t)
+            (ap blank_zeros (drop-cons s i 0 below) ∙ blank_on (get_or s i 0) (drop (suc i) s) more test)
+            ∙ rw (add-one i) (replicate_more i 32 (blank_zeros (drop (suc i) s)));
+      }
+
+  pub ends : length s - 1 ≤ i → part ≡ blank_zeros s
+  ends h =
+      let last : length (drop i s) ≤ 1 = simp length-drop (omega (arith, o.within)) in
+      o.is ∙ ap (λ (t : List ℕ). replicate i 32 ++ t) (sym (blank_one (drop i s) last)) ∙ sym o.rest
 
 -- no column adds another digit to the value
 pub blanked_digits : (s : List ℕ) → map (λ c. c - 48) (blank_zeros s) ≡ map (λ c. c - 48) s

@@ -40,16 +40,11 @@ pub fn ten_to(e: usize) -> u64
     power(10, e)
 }
 
-// Blanks in every column. The loop counts by hand, since `fill` and a `for` become `memset` of the C library, which the library must
-// not need.
+// Blanks in every column.
 pub fn print_blanks(part: &mut [u8])
     ensures { part.new ≡ blanks (length part.old) }
 {
-    let mut i = 0;
-    while i < part.len() {
-        part[i] = BLANK;
-        i += 1;
-    }
+    part.fill(BLANK);
 }
 
 // x over columns that are blank: its digits, from the right.
@@ -99,16 +94,17 @@ fn is_leading(c: u8) -> bool
     (c == BLANK) | (c == ZERO)
 }
 
-// Leading zeros made blank. The last column stays.
+// Leading zeros made blank. The last column stays. One loop looks and writes: to fill the columns that a search found takes `memset`
+// of the C library, which the library must not need.
 pub fn blank_zeros(part: &mut [u8])
     ensures { part.new ≡ blank_zeros part.old }
 {
-    let last = part.len().saturating_sub(1);
-    let used = part[..last]
-        .iter()
-        .position(|c| !is_leading(*c))
-        .unwrap_or(last);
-    print_blanks(&mut part[..used]);
+    for i in 0..part.len().saturating_sub(1) {
+        if !is_leading(part[i]) {
+            return;
+        }
+        part[i] = BLANK;
+    }
 }
 
 // The columns of `from` with leading zeros made blank.
