@@ -178,7 +178,7 @@ fn read_digits<const WIDTH: usize>(number: &[u8]) -> Option<u64>
 }
 
 // The number in columns of which the first is used. Each width has a `read_digits` that is compiled for it: over a width that is
-// not known a step takes a quarter more instructions.
+// not known a step takes a quarter to a third more instructions, and misses its aims (docs/SPEED.md).
 #[inline(always)]
 fn read_used(number: &[u8]) -> Option<u64>
     requires { IsUsed number.now }
