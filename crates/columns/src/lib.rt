@@ -116,7 +116,8 @@ pub fn copy_blanked(part: &mut [u8], from: &[u8])
     blank_zeros(part);
 }
 
-// Whether every column of part is blank. It looks at each of them, so that many are tested at once.
+// Whether every column of part is blank. It looks at each of them, so that many are tested at once: with `all`, which stops at the
+// first that is used, a step misses its aim by half (docs/SPEED.md).
 pub fn all_blank(part: &[u8]) -> bool
     ensures { result ≡ all_blank part.now }
 {
