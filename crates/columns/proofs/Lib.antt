@@ -2,7 +2,6 @@
 pub mod Strict
 pub mod Printed
 pub mod OnePass
-pub mod Digits
 pub mod Joined
 pub mod LeadingBlanks
 pub mod Put
@@ -10,5 +9,6 @@ pub mod FromTheRight
 pub mod Padded
 pub mod Places
 pub mod Lenient
+pub mod SpelledSoFar
 pub mod Rows
 pub mod Blank

@@ -1,2 +1,3 @@
 -- Definitions that only the contracts of inner functions cite, and laws.
 pub mod Places
+pub mod Starts

@@ -1,9 +1,10 @@
 // Decimal columns: document 01, "Printed numbers".
 #![tactic(auto)]
 
-ghost use Rattle.std.specs.Prelude.{◌≡◌, ◌-◌, ◌^◌, ◌<◌, ◌≤◌, true, ◌&&◌, ◌||◌, [], ◌∷◌, length, take, drop, ◌==◌};
+ghost use Rattle.std.specs.Prelude.{not, ◌≡◌, ◌-◌, ◌^◌, ◌<◌, ◌≤◌, true, ◌&&◌, ◌||◌, [], ◌∷◌, length, take, drop, ◌==◌};
 ghost use Rattle.columns.specs.Lists.{pick, put, every};
 ghost use Rattle.columns.specs.Inner.Places.{leading, column_printed, column_digits};
+ghost use Rattle.columns.specs.Inner.Starts.{IsUsed};
 ghost use Rattle.columns.specs.PrintedNumbers.{print, blanks, all_blank, value, digit, read_number, blanks_digits, blank_zeros};
 
 // The place of a column in its field.
@@ -25,10 +26,8 @@ pub fn power(n: u64, e: usize) -> u64
     ensures { result ≡ n ^ e }
 {
     let mut x = 1;
-    let mut done = 0;
-    while done < e {
+    for _ in 0..e {
         x = x * n;
-        done += 1;
     }
     x
 }
@@ -45,38 +44,22 @@ pub fn ten_to(e: usize) -> u64
 pub fn print_blanks(part: &mut [u8])
     ensures { part.new ≡ blanks (length part.old) }
 {
-    let mut i = 0;
-    while i < part.len() {
-        part[i] = BLANK;
-        i += 1;
-    }
+    part.fill(BLANK);
 }
 
-// x over columns that are blank: its digits, from the right, two a turn.
+// x over columns that are blank: its digits, from the right.
 pub fn print_digits(part: &mut [u8], x: u64)
     requires { part.old ≡ blanks (length part.old) }
     ensures { part.new ≡ print (length part.old) x }
 {
     let ten = ten_to(1);
-    let hundred = ten_to(2);
-    let mut i = part.len();
     let mut rest = x;
-    while 1 < i {
-        if rest < ten {
-            part[i - 1] = ZERO + rest as u8;
-            return;
-        }
-        let two = rest % hundred;
-        part[i - 1] = ZERO + (two % ten) as u8;
-        part[i - 2] = ZERO + (two / ten) as u8;
-        i -= 2;
-        rest = rest / hundred;
+    for i in (0..part.len()).rev() {
+        part[i] = ZERO + (rest % ten) as u8;
+        rest = rest / ten;
         if rest == 0 {
             return;
         }
-    }
-    if i == 1 {
-        part[0] = ZERO + (rest % ten) as u8;
     }
 }
 
@@ -96,31 +79,12 @@ pub fn print_number(part: &mut [u8], x: u64)
     print_digits(part, x);
 }
 
-// The columns of `from`, as they are: four a turn, each read before the first is written, and then one by one.
+// The columns of `from`, as they are.
 pub fn copy_columns(part: &mut [u8], from: &[u8])
     requires { length from.now ≡ length part.old }
     ensures { part.new ≡ from.now }
 {
-    let n = part.len();
-    let mut i = 0;
-    'four: while 4 <= n - i {
-        let j = i + 1;
-        let k = i + 2;
-        let l = i + 3;
-        let a = from[i];
-        let b = from[j];
-        let c = from[k];
-        let d = from[l];
-        part[i] = a;
-        part[j] = b;
-        part[k] = c;
-        part[l] = d;
-        i += 4;
-    }
-    while i < n {
-        part[i] = from[i];
-        i += 1;
-    }
+    part.copy_from_slice(from);
 }
 
 // Whether c may stand before a number: a blank or a leading zero.
@@ -130,83 +94,41 @@ fn is_leading(c: u8) -> bool
     (c == BLANK) | (c == ZERO)
 }
 
-// Leading zeros made blank. The last column stays.
+// Leading zeros made blank. The last column stays. One loop looks and writes: to fill the columns that a search found takes `memset`
+// of the C library, which the library must not need.
 pub fn blank_zeros(part: &mut [u8])
-    requires { 1 ≤ length part.old }
     ensures { part.new ≡ blank_zeros part.old }
 {
-    let last = part.len() - 1;
-    let mut i = 0;
-    while i < last {
+    for i in 0..part.len().saturating_sub(1) {
         if !is_leading(part[i]) {
             return;
         }
         part[i] = BLANK;
-        i += 1;
     }
 }
 
-fn blank_if(leading: bool, c: u8) -> u8
-    ensures { result ≡ pick leading 32 c }
-{
-    if leading {
-        return BLANK;
-    }
-    c
-}
-
-// The columns of `from` with leading zeros made blank. It is for a few columns: a copy that is then blanked in place would be made
-// byte by byte, also where nothing is to be blanked.
+// The columns of `from` with leading zeros made blank.
 pub fn copy_blanked(part: &mut [u8], from: &[u8])
     requires { length from.now ≡ length part.old }
     ensures { part.new ≡ blank_zeros from.now }
 {
-    let n = part.len();
-    let mut leading = true;
-    let mut i = 0;
-    while i < n {
-        let c = from[i];
-        leading = leading & is_leading(c) & (i + 1 < n);
-        part[i] = blank_if(leading, c);
-        i += 1;
-    }
+    part.copy_from_slice(from);
+    blank_zeros(part);
 }
 
-// Whether c is blank and the columns before it are.
-fn still_blank(before: bool, c: u8) -> bool
-    ensures { result ≡ (before && c == 32) }
-{
-    if c == BLANK {
-        return before;
-    }
-    false
-}
-
-// Whether every column of part is blank. It looks at each of them, so that many are tested at once.
+// Whether every column of part is blank. It looks at each of them, so that many are tested at once: with `all`, which stops at the
+// first that is used, a step misses its aim by half (docs/SPEED.md).
 pub fn all_blank(part: &[u8]) -> bool
     ensures { result ≡ all_blank part.now }
 {
-    let mut blank = true;
-    let mut i = 0;
-    while i < part.len() {
-        blank = still_blank(blank, part[i]);
-        i += 1;
-    }
-    blank
+    part.iter().fold(true, |blank, c| blank & (*c == BLANK))
 }
 
 // Whether every column is a digit.
 fn all_digits(part: &[u8]) -> bool
     ensures { result ≡ every digit part.now }
 {
-    let mut i = 0;
-    while i < part.len() {
-        if 9 < std::num::wrapping_sub_u8(part[i], ZERO) {
-            return false;
-        }
-        i += 1;
-    }
-    true
+    part.iter().all(|c| c.is_ascii_digit())
 }
 
 // The number that digits in every column spell.
@@ -215,10 +137,8 @@ fn spelled(part: &[u8]) -> u64
     ensures { result ≡ value 0 part.now }
 {
     let mut x = 0;
-    let mut i = 0;
-    while i < part.len() {
-        x = x * ten_to(1) + part[i] as u64 - 48;
-        i += 1;
+    for c in part {
+        x = x * ten_to(1) + u64::from(*c) - u64::from(ZERO);
     }
     x
 }
@@ -229,28 +149,64 @@ pub fn lenient_number(part: &[u8]) -> u64
     ensures { result ≡ value 0 part.now }
 {
     let mut x = 0;
-    let mut i = 0;
-    while i < part.len() {
-        x = x * ten_to(1) + (part[i] % 16) as u64;
-        i += 1;
+    for c in part {
+        x = x * ten_to(1) + u64::from(*c % 16);
     }
     x
 }
 
+// Whether a number may begin with c: a digit, and no 0 unless it stands alone.
+fn begins_number(c: u8, alone: bool) -> bool
+    ensures { result ≡ (digit c && (alone || not (c == 48))) }
+{
+    c.is_ascii_digit() & (alone | (c != ZERO))
+}
+
+// The number in WIDTH columns, of which the first is used: digits, the first no 0 unless it is the only one.
+fn read_digits<const WIDTH: usize>(number: &[u8]) -> Option<u64>
+    requires used { IsUsed number.now }
+    requires width { length number.now ≡ WIDTH }
+    ensures { result ≡ read_number number.now }
+{
+    let digits = &number[..WIDTH];
+    if !begins_number(digits[0], WIDTH == 1) {
+        return None;
+    }
+    if !all_digits(&digits[1..]) {
+        return None;
+    }
+    Some(spelled(digits))
+}
+
+// The number in columns of which the first is used. Each width has a `read_digits` that is compiled for it: over a width that is
+// not known a step takes a quarter to a third more instructions, and misses its aims (docs/SPEED.md).
+#[inline(always)]
+fn read_used(number: &[u8]) -> Option<u64>
+    requires { IsUsed number.now }
+    ensures { result ≡ read_number number.now }
+{
+    match number.len() {
+        1 => read_digits::<1>(number),
+        2 => read_digits::<2>(number),
+        3 => read_digits::<3>(number),
+        4 => read_digits::<4>(number),
+        5 => read_digits::<5>(number),
+        6 => read_digits::<6>(number),
+        7 => read_digits::<7>(number),
+        8 => read_digits::<8>(number),
+        9 => read_digits::<9>(number),
+        _ => read_digits::<10>(number),
+    }
+}
+
 // The number in all the columns of part: blanks, then digits to the end, the first no 0 unless it is the only one.
+#[inline(always)]
 pub fn read_number(part: &[u8]) -> Option<u64>
     requires { (1 ≤ length part.now) × (length part.now ≤ 10) }
     ensures { result ≡ read_number part.now }
 {
     let first = part.iter().position(|c| *c != BLANK)?;
-    let number = &part[first..];
-    if number[0] == ZERO && 1 < number.len() {
-        return None;
-    }
-    if !all_digits(number) {
-        return None;
-    }
-    Some(spelled(number))
+    read_used(&part[first..])
 }
 
 // Whether a column in this place may be unused: no column of its field before it is used, and it is not the last.
