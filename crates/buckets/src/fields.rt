@@ -5,7 +5,8 @@ ghost use Rattle.buckets.specs.Inner.Columns.{number_within};
 
 use columns;
 
-// The number in the columns of part, if it is from low to high.
+// The number in the columns of part, if it is from low to high. It is compiled for each call, where the width is known.
+#[inline(always)]
 pub fn number_within(part: &[u8], low: u64, high: u64) -> Option<u64>
     requires { (1 ≤ length part.now) × (length part.now ≤ tag_width) }
     ensures { result ≡ number_within low high part.now }

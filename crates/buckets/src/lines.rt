@@ -189,7 +189,7 @@ fn spelled_columns(text: &[u8], at: usize, width: usize) -> u64
 {
     let mut x = 0;
     for c in &text[at..at + width] {
-        x = x * 10 + u64::from(c.saturating_sub(b'0'));
+        x = x * columns::ten_to(1) + u64::from(c.saturating_sub(b'0'));
     }
     x
 }
