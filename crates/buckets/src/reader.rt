@@ -63,6 +63,7 @@ fn read_pair(part: &[u8], i: usize, n: u64) -> Option<Pair>
 }
 
 // The control pairs in part, count of them, each distance at most n.
+#[inline(always)]
 fn read_pairs(part: &[u8], count: usize, n: u64) -> Option<ArrayVec<Pair, 4>>
     requires { (length part.now ≡ pairs_width) × (count ≤ pairs_most) }
     ensures { result ≡ option_map vector (read_pairs n count part.now) }
@@ -81,6 +82,7 @@ fn read_pairs(part: &[u8], count: usize, n: u64) -> Option<ArrayVec<Pair, 4>>
 }
 
 // The entries in part, count of them, each distance at most n.
+#[inline(always)]
 fn read_entries(part: &[u8], count: usize, n: u64) -> Option<ArrayVec<Entry, 8>>
     requires { (length part.now ≡ entries_width) × (count ≤ entries_most) }
     ensures { result ≡ option_map vector (read_entries n count part.now) }
@@ -101,6 +103,7 @@ fn read_entries(part: &[u8], count: usize, n: u64) -> Option<ArrayVec<Entry, 8>>
 }
 
 // The tags of the lines in part, count of them.
+#[inline(always)]
 fn read_tags(part: &[u8], count: usize) -> Option<ArrayVec<u64, 8>>
     requires { (length part.now ≡ lines_width) × (count ≤ bucket_lines_most) }
     ensures { result ≡ option_map tags_held (read_lines count part.now) }
@@ -144,6 +147,7 @@ fn read_head(part: &[u8]) -> Option<Head>
 }
 
 // The index bucket that part is, behind its head.
+#[inline(always)]
 #[tactic(auto, unfolding(crate::specs::Inner::Columns::read_index, crate::specs::Bucket::columns))]
 fn read_index(part: &[u8], head: Head) -> Option<Reading>
     requires { length part.now ≡ bucket_length }
@@ -177,6 +181,7 @@ fn read_index(part: &[u8], head: Head) -> Option<Reading>
 }
 
 // The data bucket that part is, behind its head.
+#[inline(always)]
 #[tactic(auto, unfolding(crate::specs::Inner::Columns::read_data, crate::specs::Bucket::columns))]
 fn read_data(part: &[u8], head: Head) -> Option<Reading>
     requires { (length part.now ≡ bucket_length) × (1 ≤ head.to_cycle) }
@@ -201,6 +206,7 @@ fn read_data(part: &[u8], head: Head) -> Option<Reading>
 }
 
 // The bucket that part is; of the lines of a data bucket the tags are held.
+#[inline(always)]
 pub fn read_bucket(part: &[u8]) -> Option<Reading>
     ensures { result ≡ option_map reading_of (read_bucket part.now) }
 {
