@@ -10,7 +10,9 @@ use lib.ListN.{length}
 use Rattle.columns.specs.Lists.{every, joined, padded}
 use Rattle.buckets.specs.declared.Line.{Line}
 use Rattle.buckets.specs.ListLine.{fits, line_columns}
-use Rattle.buckets.specs.Bucket.{Pair, Entry, print_pair, print_entry, pair_fits, entry_fits, later_printed, rising}
+use Rattle.buckets.specs.declared.Pair.{Pair}
+use Rattle.buckets.specs.declared.Entry.{Entry}
+use Rattle.buckets.specs.Bucket.{print_pair, print_entry, pair_fits, entry_fits, later_printed, rising}
 use Rattle.buckets.specs.Inner.Columns.{read_line_columns, read_entry, read_pair, read_pairs, read_entries, read_lines}
 use Rattle.buckets.specs.Lengths.{line_columns_width, pairs_most, entries_most, bucket_lines_most, entry_width, pairs_width}
 use Rattle.buckets.specs.Lengths.{entries_width, lines_width, buckets_most}

@@ -1,13 +1,17 @@
 -- A number that was read, held against its bounds.
 -- Assumes nothing.
 use Prim.Native.Nat.{ℕ, ◌≤◌, ◌<◌}
-use mathlib.Core.Path.{◌≡◌, refl}
-use Rattle.std.specs.Prelude.{Option, None, Some}
+use mathlib.Core.Path.{◌≡◌}
+use mathlib.Core.Bool.{◌&&◌}
+use Rattle.std.specs.Prelude.{None, Some}
 use mathlib.Core.List.{List}
-use native.Mathlib.Omega.{arith}
-use borrow.Author.Tests.{le-leb, lt-leb}
-use Rattle.columns.specs.PrintedNumbers.{read_number, or_misprint}
+use lib.Dec.{leb}
+use borrow.Author.Tests.{le-leb, lt-leb, leb-true}
+use Rattle.columns.specs.Lists.{pick}
+use Rattle.columns.specs.PrintedNumbers.{read_number}
+use Rattle.columns.proofs.Strict.{both}
 use Rattle.buckets.specs.Inner.Columns.{number_within}
+use Rattle.buckets.proofs.Chained.{then_found, pick_found}
 
 module _ (low high : ℕ) (s : List ℕ) where
   pub misprinted : read_number s ≡ None → number_within low high s ≡ None
@@ -26,29 +30,12 @@ module _ (low high : ℕ) (s : List ℕ) where
   unfolding number_within
   within x e l h = rw (e, le-leb low x l, le-leb x high h)
 
-  -- the same of a number alone: what a misprint is answered by is over the upper bound
-  module _ (x : ℕ) (e : x ≡ or_misprint (read_number s)) where
-    pub answer_low : x < low → number_within low high s ≡ None
-    answer_low h = go (read_number s) refl
-      where
-        go : (o : Option ℕ) → read_number s ≡ o → number_within low high s ≡ None
-        go None k = misprinted k
-        go (Some y) k = too_low y k (let is : x ≡ y = rw k at e in omega arith)
-
-    pub answer_high : low ≤ x → high < x → number_within low high s ≡ None
-    answer_high l h = go (read_number s) refl
-      where
-        go : (o : Option ℕ) → read_number s ≡ o → number_within low high s ≡ None
-        go None k = misprinted k
-        go (Some y) k =
-            let is : x ≡ y = rw k at e in
-            too_high y k (omega arith) (omega arith)
-
-    pub answer_within : high < 18446744073709551615 → low ≤ x → x ≤ high → number_within low high s ≡ Some x
-    answer_within u l h = go (read_number s) refl
-      where
-        go : (o : Option ℕ) → read_number s ≡ o → number_within low high s ≡ Some x
-        go None k = absurd (let is : x ≡ 18446744073709551615 = rw k at e in omega arith)
-        go (Some y) k =
-            let is : x ≡ y = rw k at e in
-            rw is (within y k (omega arith) (omega arith))
+-- a number read within bounds is within them
+pub number_most : (low high : ℕ) (s : List ℕ) (x : ℕ) → number_within low high s ≡ Some x → x ≤ high
+unfolding number_within
+number_most low high s x read =
+    let found = then_found (read_number s) (λ y. pick (leb low y && leb y high) (Some y) None) read in
+    let y = found.0 in
+    let kept = pick_found (leb low y && leb y high) (Some y) found.2 in
+    let is : y ≡ x = cc in
+    rw is at (leb-true y high (both (leb low y) (leb y high) kept.0).1)

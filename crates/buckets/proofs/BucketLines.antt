@@ -1,26 +1,27 @@
 -- The lines of a bucket stand in their columns, one behind the other.
 -- Assumes nothing.
-use mathlib.Core.Path.{◌≡◌, refl, ap, ◌∙◌}
+use mathlib.Core.Path.{◌≡◌, refl, sym, ap, ◌∙◌}
 use Prim.Native.Nat.{ℕ, zero, suc, ◌+◌, ◌-◌, ◌*◌, ◌≤◌, ◌<◌}
 use native.Mathlib.Omega.{arith}
-use mathlib.Core.Bool.{Bool, true, false, true≢false}
-use Rattle.std.specs.Prelude.{Option, None, Some}
-use mathlib.Core.List.{List, [], ◌∷◌, ◌++◌, append_assoc}
+use mathlib.Core.Bool.{true}
+use Rattle.std.specs.Prelude.{Option, None, Some, Ok}
+use mathlib.Core.List.{List, [], ◌∷◌, ◌++◌, map, append_assoc}
 use lib.ListN
-use lib.ListN.{length, get_or}
+use lib.ListN.{length, get_or, length-map}
 use lib.Seq.{drop-append-add}
 use Rattle.columns.specs.Lists.{joined, padded}
 use Rattle.columns.proofs.Joined.{joined_at, every_at}
 use Rattle.buckets.specs.Lengths.{bucket_length, bucket_lines_most, line_columns_width, lines_start, lines_width, newline}
 use Rattle.buckets.specs.declared.Line.{Line}
-use Rattle.buckets.specs.declared.Kind.{Kind}
-use Rattle.buckets.specs.declared.Kind.TheVariants.{Index as KindIndex, Data as KindData, Misprinted as KindMisprinted}
-use Rattle.buckets.specs.declared.BucketLine.{BucketLine}
-use Rattle.buckets.specs.declared.BucketLine.TheVariants.{Line as IsLine, Nothing, Misprinted}
 use Rattle.buckets.specs.ListLine.{fits, line_columns, spelled}
+use Rattle.buckets.specs.declared.Pair.{Pair}
+use Rattle.buckets.specs.declared.Entry.{Entry}
 use Rattle.buckets.specs.Bucket.{Body, index_body, data_body, Bucket, print_head, print_body, print_bucket, spelled_line, read_bucket}
-use Rattle.buckets.specs.BucketLines.{body_lines, nth, or_nothing, bucket_line, numbers, line_bytes}
-use Rattle.buckets.specs.Inner.Held.{head_of, held_body, as_reading}
+use Rattle.buckets.specs.BucketLines.{body_lines, nth, bucket_line, line_bytes}
+use Rattle.arrayvec.specs.ArrayVec.{ArrayVec}
+use Rattle.buckets.specs.declared.Contents.{Contents}
+use Rattle.buckets.specs.declared.Contents.TheVariants.{Index, Data}
+use Rattle.buckets.specs.Inner.Held.{contents_of, reading_of}
 use Rattle.buckets.proofs.ListLines.{length_line_columns, spelled_alone}
 use Rattle.buckets.proofs.Good.{GoodData, bucket_good}
 use Rattle.buckets.proofs.Buckets.{length_print_head, print_of_read_bucket}
@@ -57,25 +58,14 @@ nth_past (suc i) (l ∷ ls) h = nth_past i ls (omega arith)
 pub record LineStands (bytes : List ℕ) (i : ℕ) : Type 0 where
   pub line : Line
   pub spells : spelled_line (line_bytes bytes i) ≡ line
-  pub is : bucket_line i (read_bucket bytes) ≡ IsLine line
+  pub is : bucket_line i (read_bucket bytes) ≡ Ok (Some line)
 
 -- bytes that were read as a data bucket of so many lines
 pub record DataRead (bytes : List ℕ) (lines : ℕ) : Type 0 where
   pub long : length bytes ≡ bucket_length
   pub few : lines ≤ bucket_lines_most
-  pub past : (i : ℕ) → lines ≤ i → bucket_line i (read_bucket bytes) ≡ Nothing
+  pub past : (i : ℕ) → lines ≤ i → bucket_line i (read_bucket bytes) ≡ Ok None
   pub there : (i : ℕ) → i < lines → LineStands bytes i
-
--- the kinds apart
-abbrev misprinted : Kind → Bool
-misprinted KindIndex = false
-misprinted KindData = false
-misprinted KindMisprinted = true
-
-abbrev index : Kind → Bool
-index KindIndex = true
-index KindData = false
-index KindMisprinted = false
 
 line_alone : (l : Line) → fits l ≡ true → spelled_line (line_columns l) ≡ l
 unfolding spelled
@@ -91,59 +81,34 @@ data_told bytes b f ls e body =
     record {
       long = told.2;
       few = rules.few_lines_lem;
-      past = λ i h. lines i ∙ ap or_nothing (nth_past i ls h);
+      past = λ i h. lines i ∙ ap Ok (nth_past i ls h);
       there = λ i h. record {
         line = get_or ls i zeros;
         spells =
             ap (λ s. spelled_line (line_bytes s i)) told.0
             ∙ ap spelled_line (printed_line b f ls zeros i body h)
             ∙ line_alone (get_or ls i zeros) (every_at fits zeros ls i rules.lines_fit h);
-        is = lines i ∙ ap or_nothing (nth_at zeros i ls h);
+        is = lines i ∙ ap Ok (nth_at zeros i ls h);
       };
     }
 
 -- ---- what a reading of each kind tells
 
-pub of_misprinted : (i : ℕ) (o : Option Bucket) → (as_reading o).kind ≡ KindMisprinted → bucket_line i o ≡ Misprinted
-of_misprinted i None e = refl
-of_misprinted i (Some b) e = by_body b.body e
+pub of_index : (i : ℕ) (b : Bucket) (ps : ArrayVec Pair) (es : ArrayVec Entry) → contents_of b.body ≡ Index ps es → bucket_line i (Some b) ≡ Ok None
+of_index i b ps es e = ap Ok (by_body b.body e)
   where
-    by_body : (x : Body) → (held_body (head_of b) x).kind ≡ KindMisprinted → or_nothing (nth i (body_lines x)) ≡ Misprinted
-    by_body (index_body ps es) e = cc
-    by_body (data_body f ls) e = cc
-
-pub of_index : (i : ℕ) (o : Option Bucket) → (as_reading o).kind ≡ KindIndex → bucket_line i o ≡ Nothing
-of_index i None e = cc
-of_index i (Some b) e = by_body b.body e
-  where
-    by_body : (x : Body) → (held_body (head_of b) x).kind ≡ KindIndex → or_nothing (nth i (body_lines x)) ≡ Nothing
-    by_body (index_body ps es) e = refl
+    by_body : (x : Body) → contents_of x ≡ Index ps es → nth i (body_lines x) ≡ None
+    by_body (index_body qs fs) e = refl
     by_body (data_body f ls) e = cc
 
 pub of_data :
-    (bytes : List ℕ) (o : Option Bucket) → read_bucket bytes ≡ o → (as_reading o).kind ≡ KindData → DataRead bytes (as_reading o).lines
-of_data bytes None is e = absurd (no_data e)
+    (bytes : List ℕ) (b : Bucket) (f : ℕ) (tags : ArrayVec ℕ) → read_bucket bytes ≡ Some b → contents_of b.body ≡ Data f tags
+    → DataRead bytes (length tags.items)
+of_data bytes b f tags is e = by_body b.body refl e
   where
-    no_data : KindMisprinted ≡ KindData → ⊥
-    no_data k = true≢false (ap misprinted k)
-of_data bytes (Some b) is e = by_body b.body refl e
-  where
-    by_body : (x : Body) → b.body ≡ x → (held_body (head_of b) x).kind ≡ KindData → DataRead bytes (held_body (head_of b) x).lines
-    by_body (index_body ps es) body e = absurd (true≢false (ap index e))
-    by_body (data_body f ls) body e = data_told bytes b f ls is body
-
--- different answers have different numbers
-pub numbers_apart : (a b : BucketLine) → numbers a ≡ numbers b → a ≡ b
-numbers_apart (IsLine l) (IsLine m) e =
-    λ i. IsLine (record { tag = at 3 i; tare = at 4 i; code = at 5 i; weighing = at 6 i })
-  where
-    at : (k : ℕ) → get_or (numbers (IsLine l)) k 0 ≡ get_or (numbers (IsLine m)) k 0
-    at k = ap (λ s. get_or s k 0) e
-numbers_apart (IsLine l) Nothing e = cc
-numbers_apart (IsLine l) Misprinted e = cc
-numbers_apart Nothing (IsLine m) e = cc
-numbers_apart Nothing Nothing e = refl
-numbers_apart Nothing Misprinted e = cc
-numbers_apart Misprinted (IsLine m) e = cc
-numbers_apart Misprinted Nothing e = cc
-numbers_apart Misprinted Misprinted e = refl
+    by_body : (x : Body) → b.body ≡ x → contents_of x ≡ Data f tags → DataRead bytes (length tags.items)
+    by_body (index_body ps es) body e = absurd (let z : ◌≡◌ {A = ℕ} 0 1 = cc in omega arith)
+    by_body (data_body g ls) body e =
+        let held : map (λ (l : Line). l.tag) ls ≡ tags.items = cc in
+        let count : length ls ≡ length tags.items = sym (length-map ls (λ (l : Line). l.tag)) ∙ ap length held in
+        rw count at (data_told bytes b g ls is body)

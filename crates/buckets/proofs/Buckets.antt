@@ -15,7 +15,9 @@ use Rattle.columns.proofs.Printed.{value_print, print_not_blank, length_padded}
 use Rattle.columns.proofs.Joined.{length_joined, parts_joined, map_undone}
 use Rattle.buckets.specs.declared.Line.{Line}
 use Rattle.buckets.specs.ListLine.{fits, line_columns}
-use Rattle.buckets.specs.Bucket.{Pair, Entry, Body, index_body, data_body, Bucket, print_head, print_tag, print_pair, print_entry, print_body, print_bucket, pair_tag_fits, pair_fits, entry_fits, good, columns, field, spelled_pair, spelled_entry, spelled_line, spelled_body, spelled_bucket, read_bucket}
+use Rattle.buckets.specs.declared.Pair.{Pair}
+use Rattle.buckets.specs.declared.Entry.{Entry}
+use Rattle.buckets.specs.Bucket.{Body, index_body, data_body, Bucket, print_head, print_tag, print_pair, print_entry, print_body, print_bucket, pair_tag_fits, pair_fits, entry_fits, good, columns, field, spelled_pair, spelled_entry, spelled_line, spelled_body, spelled_bucket, read_bucket}
 use Rattle.buckets.specs.Lengths.{newline, tag_width, line_columns_width, tag_most, place_width, count_width, head_width, pairs_most}
 use Rattle.buckets.specs.Lengths.{entries_most, bucket_lines_most, distance_start, entry_width, bucket_length, pairs_width}
 use Rattle.buckets.specs.Lengths.{entries_width, lines_width, body_width, buckets_most}

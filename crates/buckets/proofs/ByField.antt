@@ -16,7 +16,9 @@ use Rattle.columns.proofs.Strict.{both}
 use Rattle.buckets.specs.declared.Line.{Line}
 use Rattle.buckets.specs.declared.Head.{Head}
 use Rattle.buckets.specs.ListLine.{fits, line_columns}
-use Rattle.buckets.specs.Bucket.{Pair, Entry, Body, index_body, data_body, Bucket, follow_on, letter, pair_count, item_count, print_head, print_pair, print_entry, print_body, print_bucket, pair_fits, entry_fits, later_printed, rising, good, columns, read_bucket}
+use Rattle.buckets.specs.declared.Pair.{Pair}
+use Rattle.buckets.specs.declared.Entry.{Entry}
+use Rattle.buckets.specs.Bucket.{Body, index_body, data_body, Bucket, follow_on, letter, pair_count, item_count, print_head, print_pair, print_entry, print_body, print_bucket, pair_fits, entry_fits, later_printed, rising, good, columns, read_bucket}
 use Rattle.buckets.specs.Inner.Held.{bucket_with, head_of}
 use Rattle.buckets.specs.Inner.Columns.{number_within, read_pairs, read_entries, read_lines, read_head, read_index, read_data, read_by_letter, read_fields}
 use Rattle.buckets.specs.Lengths.{newline, letter_index, letter_data, place_width, position_start, to_cycle_start}

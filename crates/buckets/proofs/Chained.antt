@@ -1,11 +1,15 @@
 -- Readings that go on with what the one before found, and when two readings are one.
 -- Assumes nothing.
 use Prim.Native.Nat.{ℕ}
-use mathlib.Core.Path.{◌≡◌, refl, sym}
-use mathlib.Core.Bool.{Bool, true, false}
+use mathlib.Core.Path.{◌≡◌, refl, sym, ap, ◌∙◌}
+use mathlib.Core.Bool.{Bool, true, false, ◌&&◌, true≢false}
 use Rattle.std.specs.Prelude.{Option, None, Some}
 use mathlib.Core.List.{List}
 use native.Mathlib.Omega.{arith}
+use lib.Dec.{eqb}
+use borrow.Author.Tests.{eq-eqb, ne_eqb}
+use Rattle.std.specs.Option.{option_map, is_some}
+use Rattle.buckets.specs.ListLine.{taken}
 use Rattle.columns.specs.Lists.{pick}
 use Rattle.buckets.specs.Inner.Columns.{and_then}
 
@@ -22,6 +26,35 @@ then_found (Some a) k h = (a, refl, h)
 pub pick_found : {B : Type 0} (t : Bool) (o : Option B) {b : B} → pick t o None ≡ Some b → (t ≡ true) × (o ≡ Some b)
 pick_found true o h = (refl, h)
 pick_found false o h = absurd (none_not_some h)
+
+-- a reading that was mapped
+pub map_found : {A B : Type 0} (f : A → B) (o : Option A) (b : B) → Some b ≡ option_map f o → (a : A) × (Some a ≡ o) × (b ≡ f a)
+map_found f None b h = absurd (none_not_some (sym h))
+map_found f (Some a) b h = (a, refl, cc)
+
+pub map_none : {A B : Type 0} (f : A → B) (o : Option A) → ◌≡◌ {A = Option B} None (option_map f o) → None ≡ o
+map_none f None h = refl
+map_none f (Some a) h = absurd (none_not_some h)
+
+-- whether what was mapped is there
+pub mapped_none : {A B : Type 0} (f : A → B) (o : Option A) {r : Option B} → r ≡ option_map f o → is_some r ≡ false → o ≡ None
+mapped_none f None e h = refl
+mapped_none f (Some a) e h = absurd (true≢false (sym (ap is_some e) ∙ h))
+
+pub mapped_some : {A B : Type 0} (f : A → B) (o : Option A) {r : Option B} → r ≡ option_map f o → is_some r ≡ true → taken o ≡ true
+mapped_some f None e h = absurd (true≢false (sym h ∙ ap is_some e))
+mapped_some f (Some a) e h = refl
+
+-- a reading under two tests of numbers
+module _ {B : Type 0} (x y u v : ℕ) (o : Option B) where
+  pub both_on : x ≡ y → u ≡ v → pick (eqb x y && eqb u v) o None ≡ o
+  both_on e k = rw (eq-eqb x y e, eq-eqb u v k)
+
+  pub first_out : (x ≡ y → ⊥) → pick (eqb x y && eqb u v) o None ≡ None
+  first_out n = rw (ne_eqb x y n)
+
+  pub second_out : x ≡ y → (u ≡ v → ⊥) → pick (eqb x y && eqb u v) o None ≡ None
+  second_out e n = rw (eq-eqb x y e, ne_eqb u v n)
 
 -- two readings that find the same are one
 pub same_found : {A : Type 0} (o p : Option A) → ((a : A) → o ≡ Some a → p ≡ Some a) → ((a : A) → p ≡ Some a → o ≡ Some a) → o ≡ p

@@ -7,19 +7,21 @@ use mathlib.Core.List.{List, [], ◌∷◌, ◌++◌, append-nil}
 use native.Mathlib.Numerals.{add-one}
 use lib.ListN.{length, drop, get_or, replicate, drop_of_length-le}
 use lib.Seq.{drop-cons}
+use Rattle.columns.specs.declared.Place.{Place}
+use Rattle.columns.specs.declared.Place.TheVariants.{First, Between, Last}
 use Rattle.columns.specs.Inner.Places.{places, columns_by}
 use Rattle.columns.proofs.Strict.{and_true, and_assoc}
 use Rattle.buckets.specs.Inner.Columns.{rest_places}
 use Rattle.buckets.specs.Lengths.{tare_width, code_width, weighing_width}
 
 -- column i, behind the columns before it
-module _ (test : ℕ → ℕ → ℕ → Bool) (ks s : List ℕ) (i b : ℕ) (still : Bool) (e : columns_by test ks 32 s ≡ (still && columns_by test (drop i ks) b (drop i s))) where
-  pub one_more : i < length ks → i < length s → (next : Bool) → next ≡ (still && test (get_or ks i 0) b (get_or s i 0))
-      → columns_by test ks 32 s ≡ (next && columns_by test (drop (i + 1) ks) (get_or s i 0) (drop (i + 1) s))
-  one_more h t next n =
+module _ (test : Place → ℕ → ℕ → Bool) (ks : List Place) (s : List ℕ) (i b : ℕ) (still : Bool) (e : columns_by test ks 32 s ≡ (still && columns_by test (drop i ks) b (drop i s))) where
+  pub one_more : i < length ks → i < length s → (k : Place) (c n : ℕ) (next : Bool) → k ≡ get_or ks i k → c ≡ get_or s i 0 → n ≡ i + 1
+      → next ≡ (still && test k b c) → columns_by test ks 32 s ≡ (next && columns_by test (drop n ks) c (drop n s))
+  one_more h t k c n next place column on is =
       e
-      ∙ rw (drop-cons ks i 0 h, drop-cons s i 0 t, n, add-one i)
-      (and_assoc still (test (get_or ks i 0) b (get_or s i 0)) (columns_by test (drop (suc i) ks) (get_or s i 0) (drop (suc i) s)))
+      ∙ rw (drop-cons ks i k h, drop-cons s i 0 t, is, on, add-one i, ← place, ← column)
+      (and_assoc still (test k b c) (columns_by test (drop (suc i) ks) c (drop (suc i) s)))
 
   pub all_passed : length ks ≤ i → still ≡ columns_by test ks 32 s
   all_passed h = sym (e ∙ rw (drop_of_length-le ks h) (and_true still))
@@ -27,13 +29,13 @@ module _ (test : ℕ → ℕ → ℕ → Bool) (ks s : List ℕ) (i b : ℕ) (st
 -- ---- a line's fields
 
 -- whatever stands behind a field, its columns pass exactly if the field reads
-abbrev pub FieldLaw : (ℕ → ℕ → ℕ → Bool) → (List ℕ → Bool) → Type 0
+abbrev pub FieldLaw : (Place → ℕ → ℕ → Bool) → (List ℕ → Bool) → Type 0
 FieldLaw test reads =
-    (ks t : List ℕ) (r : Bool) → ((b : ℕ) → columns_by test ks b t ≡ r) →
-    (w b : ℕ) (s : List ℕ) → length s ≡ suc (suc w) → columns_by test (1 ∷ (replicate w 0 ++ 2 ∷ ks)) b (s ++ t) ≡ (reads s && r)
+    (ks : List Place) (t : List ℕ) (r : Bool) → ((b : ℕ) → columns_by test ks b t ≡ r) →
+    (w b : ℕ) (s : List ℕ) → length s ≡ suc (suc w) → columns_by test (First ∷ (replicate w Between ++ Last ∷ ks)) b (s ++ t) ≡ (reads s && r)
 
 -- the three fields behind the tag
-module _ (test : ℕ → ℕ → ℕ → Bool) (reads : List ℕ → Bool) (law : FieldLaw test reads) (x : ℕ) (a b c : List ℕ)
+module _ (test : Place → ℕ → ℕ → Bool) (reads : List ℕ → Bool) (law : FieldLaw test reads) (x : ℕ) (a b c : List ℕ)
     (wide_tare : length a ≡ tare_width) (wide_code : length b ≡ code_width) (wide_weighing : length c ≡ weighing_width) where
   pub rest_fields : columns_by test rest_places x (a ++ (b ++ c)) ≡ (reads a && (reads b && reads c))
   rest_fields = law (places (code_width - 2) ++ places (weighing_width - 2)) (b ++ c) (reads b && reads c) second (tare_width - 2) x a wide_tare

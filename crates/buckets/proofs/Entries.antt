@@ -13,7 +13,9 @@ use Rattle.columns.specs.Lists.{pick, every}
 use Rattle.columns.specs.PrintedNumbers.{print, blanks, all_blank}
 use Rattle.columns.proofs.Strict.{both, and_false}
 use Rattle.buckets.specs.ListLine.{tag_fits}
-use Rattle.buckets.specs.Bucket.{Pair, Entry, print_tag, print_pair, print_entry, pair_tag_fits, pair_fits, entry_fits, printed_tag, later_printed, columns}
+use Rattle.buckets.specs.declared.Pair.{Pair}
+use Rattle.buckets.specs.declared.Entry.{Entry}
+use Rattle.buckets.specs.Bucket.{print_tag, print_pair, print_entry, pair_tag_fits, pair_fits, entry_fits, printed_tag, later_printed, columns}
 use Rattle.buckets.specs.Inner.Held.{printed_pair}
 use Rattle.buckets.specs.Inner.Columns.{number_within, read_entry, read_blank_pair, read_printed_pair, read_pair}
 use Rattle.buckets.specs.Lengths.{tag_width, tag_start, tag_most, place_width, distance_start, entry_width, buckets_most}

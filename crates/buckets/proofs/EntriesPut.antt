@@ -19,13 +19,15 @@ use Rattle.columns.proofs.Put.{length_put, part_behind, put_put, put_front}
 use Rattle.columns.proofs.Padded.{padded_on, padded_blank, padded_behind, put_padded}
 use Rattle.columns.proofs.Joined.{length_joined}
 use Rattle.buckets.specs.declared.Head.{Head}
-use Rattle.buckets.specs.Bucket.{Pair, Entry, index_body, print_entry, print_bucket}
+use Rattle.buckets.specs.declared.Pair.{Pair}
+use Rattle.buckets.specs.declared.Entry.{Entry}
+use Rattle.buckets.specs.Bucket.{index_body, print_entry, print_bucket}
 use Rattle.buckets.specs.Inner.Held.{bucket_with, index_front, entry_start, EntryBlank, EntriesBlank}
 use Rattle.buckets.specs.Lengths.{newline, letter_index, tag_width, place_width, head_width, entry_width, entries_start, entries_width}
 use Rattle.buckets.specs.Lengths.{pairs_most, entries_most, bucket_end, bucket_length}
 use Rattle.buckets.proofs.Buckets.{length_print_entry, length_pairs}
 use Rattle.buckets.proofs.Fronts.{joined_next}
-use Rattle.buckets.proofs.Pages.{front_of, pair_columns, pairs_from, few_from, bucket_parts}
+use Rattle.buckets.proofs.Pages.{front_of, pair_columns, bucket_parts}
 
 module _ (h : Head) (ps : List Pair) (count : ℕ) (few : length ps ≤ pairs_most) where
   abbrev front : List ℕ
@@ -50,11 +52,9 @@ module _ (h : Head) (ps : List Pair) (count : ℕ) (few : length ps ≤ pairs_mo
       ∙ take-append-le place_width (drop at (padded bucket_end before)) (newline ∷ []) (omega arith)
       ∙ padded_blank bucket_end at before long place_width (omega arith)
 
--- the same of the pairs that two arrays hold
-pub started_blank : {d : List ℕ} (h : Head) (blank : Bool) (n : ℕ) (ts ds : List ℕ) (count : ℕ) → n ≤ pairs_most →
-    d ≡ padded bucket_end (index_front h (pairs_from blank n ts ds) count) ++ newline ∷ [] → EntriesBlank d
-started_blank h blank n ts ds count few e i room =
-    rw e (blank_entries h (pairs_from blank n ts ds) count (few_from blank n ts ds few) i room)
+pub started_blank : {d : List ℕ} (h : Head) (ps : List Pair) (count : ℕ) → length ps ≤ pairs_most →
+    d ≡ padded bucket_end (index_front h ps count) ++ newline ∷ [] → EntriesBlank d
+started_blank h ps count few e i room = rw e (blank_entries h ps count few i room)
 
 -- bucket d with these entries put into it
 module _ (d : List ℕ) (long : length d ≡ bucket_length) (es : List Entry) where

@@ -11,7 +11,9 @@ use Rattle.columns.specs.Lists.{every}
 use Rattle.columns.proofs.Strict.{both}
 use Rattle.buckets.specs.declared.Line.{Line}
 use Rattle.buckets.specs.ListLine.{tag_fits, fits}
-use Rattle.buckets.specs.Bucket.{Pair, Entry, Body, index_body, data_body, Bucket, cycle_length, reaches, pair_tag_fits, pair_fits, entry_fits, later_printed, rising, body_good, good}
+use Rattle.buckets.specs.declared.Pair.{Pair}
+use Rattle.buckets.specs.declared.Entry.{Entry}
+use Rattle.buckets.specs.Bucket.{Body, index_body, data_body, Bucket, cycle_length, reaches, pair_tag_fits, pair_fits, entry_fits, later_printed, rising, body_good, good}
 use Rattle.buckets.specs.Lengths.{pairs_most, entries_most, bucket_lines_most, buckets_most}
 
 -- ---- a distance, an entry

@@ -5,13 +5,14 @@
 -- Assumes nothing.
 use Prim.Native.Nat.{ℕ, suc, ◌+◌, ◌-◌, ◌*◌, ◌^◌, ◌≤◌, ◌<◌}
 use mathlib.Core.Path.{◌≡◌, refl, sym, ap, ap₂, ◌∙◌}
-use mathlib.Core.Bool.{Bool, true, false, ◌&&◌, not, true≢false}
+use mathlib.Core.Bool.{Bool, true, false, ◌&&◌, true≢false}
 use Rattle.std.specs.Prelude.{Option, None, Some}
+use Rattle.std.specs.Option.{option_map}
 use mathlib.Core.List.{List, [], ◌∷◌, ◌++◌}
 use native.Mathlib.Omega.{arith}
 use lib.ListN.{length, take, drop, get_or, length-drop, drop_of_length-le}
 use lib.Seq.{drop-cons, get_or-drop}
-use borrow.Author.Tests.{le-leb, not-true, not-false}
+use borrow.Author.Tests.{le-leb}
 use Rattle.columns.specs.Lists.{pick, same}
 use Rattle.columns.specs.PrintedNumbers.{value, blanks_digits, read_lenient}
 use Rattle.columns.specs.Inner.Places.{column_digits, columns_by}
@@ -25,7 +26,6 @@ use Rattle.buckets.specs.Lengths.{newline, tag_width, tare_width, code_width, we
 use Rattle.buckets.specs.Lengths.{line_columns_width, rest_width, line_length, tag_most, tare_most, code_most, weighing_most}
 use Rattle.buckets.specs.ListLine.{tag_fits, fits, print_line, line_columns, spelled, taken, has_numbers, read_line}
 use Rattle.buckets.specs.Bucket.{columns}
-use Rattle.buckets.specs.Inner.Held.{tag_or_misprint}
 use Rattle.buckets.specs.Inner.Columns.{rest_places, line_places}
 use Rattle.buckets.proofs.ListLines.{line_fits, spelled_print_line}
 use Rattle.buckets.proofs.ColumnByColumn.{rest_fields}
@@ -141,30 +141,30 @@ module _ (s : List ℕ) (long : line_columns_width ≤ length s) where
 -- ---- what `line_tag` answers
 
 module _ (s : List ℕ) where
-  not_read : (LineReads s → ⊥) → 18446744073709551615 ≡ tag_or_misprint (read_line s)
+  not_read : (LineReads s → ⊥) → None ≡ option_map (λ (l : Line). l.tag) (read_line s)
   not_read n = go (read_line s) refl
     where
-      go : (o : Option Line) → read_line s ≡ o → 18446744073709551615 ≡ tag_or_misprint o
+      go : (o : Option Line) → read_line s ≡ o → None ≡ option_map (λ (l : Line). l.tag) o
       go None e = refl
       go (Some l) e = absurd (n (line_reads s (ap taken e)))
 
   pub reads_length : LineReads s → length s ≡ line_length
   reads_length r = let e : length s - line_columns_width ≡ 1 = sym (length-drop line_columns_width s) ∙ ap length r.ends in omega (arith, e)
 
-  pub no_line_length : (length s ≡ line_length → ⊥) → 18446744073709551615 ≡ tag_or_misprint (read_line s)
+  pub no_line_length : (length s ≡ line_length → ⊥) → None ≡ option_map (λ (l : Line). l.tag) (read_line s)
   no_line_length n = not_read (λ r. n (reads_length r))
 
-  pub no_newline : (get_or s line_columns_width 0 ≡ newline → ⊥) → 18446744073709551615 ≡ tag_or_misprint (read_line s)
+  pub no_newline : (get_or s line_columns_width 0 ≡ newline → ⊥) → None ≡ option_map (λ (l : Line). l.tag) (read_line s)
   no_newline n = not_read (λ r. n (sym (get_or-drop line_columns_width s 0 0) ∙ ap (λ (t : List ℕ). get_or t 0 0) r.ends))
 
   module _ (long : length s ≡ line_length) where
-    pub no_numbers : {t : Bool} → t ≡ columns_by column_digits line_places 32 (take line_columns_width s) → not t ≡ true
-        → 18446744073709551615 ≡ tag_or_misprint (read_line s)
-    no_numbers {t} test n =
+    pub no_numbers : false ≡ columns_by column_digits line_places 32 (take line_columns_width s)
+        → None ≡ option_map (λ (l : Line). l.tag) (read_line s)
+    no_numbers test =
         not_read
         (λ r.
         let told : four_numbers s ≡ true = rw (r.tag_number, r.tare_number, r.code_number, r.weighing_number) in
-        true≢false (sym told ∙ sym (line_digits s (omega arith)) ∙ sym test ∙ not-true t n))
+        true≢false (sym told ∙ sym (line_digits s (omega arith)) ∙ sym test))
 
     -- the tare's columns, the first one apart
     tare_columns : take tare_width (drop tare_start s) ≡ get_or s tare_start 0 ∷ take (tare_width - 1) (drop (suc tare_start) s)
@@ -173,7 +173,7 @@ module _ (s : List ℕ) where
     tare_rest : length (take (tare_width - 1) (drop (suc tare_start) s)) ≡ tare_width - 1
     tare_rest = length_part s (suc tare_start) (tare_width - 1) (omega arith)
 
-    pub tare_over : 48 < get_or s tare_start 0 → 18446744073709551615 ≡ tag_or_misprint (read_line s)
+    pub tare_over : 48 < get_or s tare_start 0 → None ≡ option_map (λ (l : Line). l.tag) (read_line s)
     unfolding spelled
     tare_over h =
         not_read
@@ -185,25 +185,24 @@ module _ (s : List ℕ) where
         let all : value 0 (take tare_width (drop tare_start s)) ≡ (0 + (c - 48)) * 10 ^ (tare_width - 1) + value 0 rest = rw tare_rest at is in
         omega (arith, (line_fits (spelled s) r.in_range).small_tare, all))
 
-    pub tag_over_lem : {x : ℕ} → x ≡ value 0 (take tag_width s) → tag_most < x → 18446744073709551615 ≡ tag_or_misprint (read_line s)
+    pub tag_over_lem : {x : ℕ} → x ≡ value 0 (take tag_width s) → tag_most < x → None ≡ option_map (λ (l : Line). l.tag) (read_line s)
     unfolding spelled
     tag_over_lem is h = not_read (λ r. omega (arith, (line_fits (spelled s) r.in_range).small_tag))
 
     -- the tag's columns hold a number
-    pub tag_holds : {t : Bool} → t ≡ columns_by column_digits line_places 32 (take line_columns_width s) → not t ≡ false
+    pub tag_holds : true ≡ columns_by column_digits line_places 32 (take line_columns_width s)
         → (length (take tag_width s) ≤ 10) × (blanks_digits (take tag_width s) ≡ true)
-    tag_holds {t} test all = (
+    tag_holds test = (
       omega (arith, length_part s 0 tag_width (omega arith)),
-      (both (blanks_digits (take tag_width s)) _ (sym (line_digits s (omega arith)) ∙ sym test ∙ not-false t all)).0,
+      (both (blanks_digits (take tag_width s)) _ (sym (line_digits s (omega arith)) ∙ sym test)).0,
     )
 
-    module _ (last : get_or s line_columns_width 0 ≡ newline) {t : Bool}
-        (test : t ≡ columns_by column_digits line_places 32 (take line_columns_width s)) (all : not t ≡ false)
+    module _ (last : get_or s line_columns_width 0 ≡ newline) (test : true ≡ columns_by column_digits line_places 32 (take line_columns_width s))
         (tare_small : get_or s tare_start 0 ≤ 48) {x : ℕ} (is : x ≡ value 0 (take tag_width s)) (most : x ≤ tag_most) where
       all_tested : LineReads s
       unfolding spelled fits tag_fits
       all_tested =
-          let tag = both (blanks_digits (take tag_width s)) _ (sym (line_digits s (omega arith)) ∙ sym test ∙ not-false t all) in
+          let tag = both (blanks_digits (take tag_width s)) _ (sym (line_digits s (omega arith)) ∙ sym test) in
           let tare = both (blanks_digits (take tare_width (drop tare_start s))) _ tag.1 in
           let code = both (blanks_digits (take code_width (drop code_start s))) _ tare.1 in
           let code_small : value 0 (take code_width (drop code_start s)) < 10 ^ code_width =
@@ -228,6 +227,6 @@ module _ (s : List ℕ) where
                 );
           }
 
-      pub tag_read : x ≡ tag_or_misprint (read_line s)
+      pub tag_read : Some x ≡ option_map (λ (l : Line). l.tag) (read_line s)
       unfolding spelled
-      tag_read = is ∙ sym (ap tag_or_misprint (reads_line s all_tested))
+      tag_read = ap Some is ∙ sym (ap (option_map (λ (l : Line). l.tag)) (reads_line s all_tested))

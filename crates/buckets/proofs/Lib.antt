@@ -20,8 +20,6 @@ pub mod Entries
 pub mod EntriesPut
 pub mod BodyItems
 pub mod ByField
-pub mod Answers
-pub mod Stages
 pub mod Progress
 pub mod Holding
 pub mod Fronts

@@ -11,7 +11,7 @@ use lib.ListN.{length, get_or}
 use lib.Seq.{get_or_at}
 use borrow.Author.Tests.{leb-true, le-leb, eqb-true}
 use Rattle.columns.specs.Lists.{pick}
-use Rattle.columns.specs.PrintedNumbers.{print, as_number}
+use Rattle.columns.specs.PrintedNumbers.{print}
 use Rattle.columns.proofs.Strict.{both}
 use Rattle.buckets.specs.declared.Line.{Line}
 use Rattle.buckets.specs.ListLine.{fits, line_columns, print_line}
@@ -22,7 +22,7 @@ use Rattle.buckets.specs.Lengths.{weighing_start, line_columns_width, rest_width
 use Rattle.buckets.specs.Lengths.{weighing_most}
 use Rattle.buckets.proofs.ListLines.{Fits, line_fits, small_tag, length_line_columns, length_print_line, read_of_print_plain, print_of_read_plain}
 use Rattle.buckets.proofs.Chained.{then_found, pick_found, same_reading}
-use Rattle.buckets.proofs.Stages.{number_most}
+use Rattle.buckets.proofs.Bounds.{number_most}
 use Rattle.buckets.proofs.Within.{within_back, columns_split, columns_all, columns_one, field_only}
 
 -- a line that keeps its rules, its tag at least m
@@ -141,4 +141,4 @@ line_columns_tag_small m s l h =
     let third = then_found (number_within 0 code_most (columns code_start code_width s)) _ second.2 in
     let fourth = then_found (number_within 0 weighing_most (columns weighing_start weighing_width s)) _ third.2 in
     let is : l.tag ≡ first.0 = cc in
-    rw is (number_most m tag_most (columns tag_start tag_width s) first.0 refl (ap as_number first.1))
+    rw is (number_most m tag_most (columns tag_start tag_width s) first.0 first.1)

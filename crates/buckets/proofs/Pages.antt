@@ -1,6 +1,5 @@
 -- A bucket as its parts: the head's columns, the body's, and the newline.
 --     bucket_parts                 a printed bucket
---     length_pairs_of, few_from    as many pairs as entries, and no more than are taken
 --     index_front_lem              the columns before an index bucket's entries
 --     data_parts                   a printed data bucket
 --     newline_filled               a bucket's last column
@@ -20,11 +19,11 @@ use Rattle.columns.proofs.Padded.{padded_blanks, padded_full, padded_on, set_pad
 use Rattle.buckets.specs.declared.Line.{Line}
 use Rattle.buckets.specs.declared.Head.{Head}
 use Rattle.buckets.specs.ListLine.{line_columns}
-use Rattle.buckets.specs.Bucket.{Pair, Entry, Body, data_body, follow_on, letter, pair_count, item_count, head_columns, print_head, print_body, print_bucket, print_pair}
-use Rattle.buckets.specs.Inner.Held.{entries_of, printed_pair, pairs_of, bucket_with, index_front}
+use Rattle.buckets.specs.declared.Pair.{Pair}
+use Rattle.buckets.specs.Bucket.{Body, data_body, follow_on, letter, pair_count, item_count, head_columns, print_head, print_body, print_bucket, print_pair}
+use Rattle.buckets.specs.Inner.Held.{bucket_with, index_front}
 use Rattle.buckets.specs.Lengths.{newline, letter_index, letter_data, pairs_most, bucket_end, bucket_length}
 use Rattle.buckets.specs.Lengths.{pairs_width, entries_start, entries_width, lines_width}
-use Rattle.buckets.proofs.Fronts.{length_entries}
 
 -- the columns before the body, their first three numbers in h
 abbrev pub front_of : Head → ℕ → ℕ → ℕ → ℕ → List ℕ
@@ -35,28 +34,14 @@ pub bucket_parts : (h : Head) (b : Body) →
 unfolding print_bucket bucket_with print_head
 bucket_parts h b = refl
 
-pub length_pairs_of : (blank : Bool) (es : List Entry) → length (pairs_of blank es) ≡ length es
-length_pairs_of blank [] = refl
-length_pairs_of blank (e ∷ es) = ap suc (length-map es printed_pair)
-
 -- the columns before an index bucket's entries
 abbrev pub pair_columns : List Pair → List ℕ
 pair_columns ps = padded pairs_width (joined print_pair ps)
 
--- the pairs that two arrays hold
-abbrev pub pairs_from : Bool → ℕ → List ℕ → List ℕ → List Pair
-pairs_from blank n ts ds = pairs_of blank (take n (entries_of ts ds))
-
-pub few_from : (blank : Bool) (n : ℕ) (ts ds : List ℕ) → n ≤ pairs_most → length (pairs_from blank n ts ds) ≤ pairs_most
-few_from blank n ts ds few =
-    omega (arith, length_pairs_of blank (take n (entries_of ts ds)), length-take n (entries_of ts ds))
-
-pub index_front_lem : (h : Head) (blank : Bool) (n : ℕ) (ts ds : List ℕ) (count : ℕ) → n ≤ length ts → n ≤ length ds →
-    front_of h 0 letter_index n count ++ pair_columns (pairs_from blank n ts ds) ≡ index_front h (pairs_from blank n ts ds) count
+pub index_front_lem : (h : Head) (ps : List Pair) (count : ℕ) →
+    front_of h 0 letter_index (length ps) count ++ pair_columns ps ≡ index_front h ps count
 unfolding index_front
-index_front_lem h blank n ts ds count p q =
-    let pairs : length (pairs_from blank n ts ds) ≡ n = length_pairs_of blank (take n (entries_of ts ds)) ∙ length_entries ts ds n p q in
-    ap (λ (k : ℕ). front_of h 0 letter_index k count ++ pair_columns (pairs_from blank n ts ds)) (sym pairs)
+index_front_lem h ps count = refl
 
 pub data_parts : (h : Head) (f n : ℕ) (ls : List Line) → length ls ≡ n →
     (front_of h f letter_data 0 n ++ padded lines_width (joined line_columns ls)) ++ newline ∷ [] ≡ print_bucket (bucket_with h (data_body f ls))

@@ -5,12 +5,13 @@ use Prim.Native.Nat.{ℕ, suc, ◌^◌, ◌≤◌, ◌<◌, ◌+◌, ◌-◌}
 use mathlib.Core.Path.{◌≡◌, refl, sym, ap, ◌∙◌}
 use mathlib.Core.Bool.{Bool, true, false, ◌&&◌, true≢false}
 use Rattle.std.specs.Prelude.{Option, None, Some}
+use Rattle.std.specs.Option.{option_map}
 use mathlib.Core.List.{List, ◌++◌}
 use native.Mathlib.Omega.{arith}
 use lib.Dec.{leb}
 use lib.ListN.{length, drop, get_or, length-drop}
 use Rattle.columns.specs.Lists.{pick}
-use Rattle.columns.specs.PrintedNumbers.{read_number, or_misprint}
+use Rattle.columns.specs.PrintedNumbers.{read_number}
 use Rattle.columns.specs.Inner.Places.{column_printed, columns_by}
 use Rattle.columns.proofs.Strict.{both}
 use Rattle.columns.proofs.Printed.{print_of_read}
@@ -18,11 +19,10 @@ use Rattle.columns.proofs.LeadingBlanks.{past_one}
 use Rattle.columns.proofs.Places.{found, field_printed}
 use Rattle.buckets.specs.declared.Line.{Line}
 use Rattle.buckets.specs.Bucket.{columns}
-use Rattle.buckets.specs.Inner.Held.{tag_or_misprint}
 use Rattle.buckets.specs.Inner.Columns.{number_within, read_line_columns, rest_places}
 use Rattle.buckets.specs.Lengths.{tag_width, tare_width, code_width, weighing_width, tag_start, tare_start, code_start}
 use Rattle.buckets.specs.Lengths.{weighing_start, line_columns_width, rest_width, tag_most, tare_most, code_most, weighing_most}
-use Rattle.buckets.proofs.Bounds.{within, answer_within}
+use Rattle.buckets.proofs.Bounds.{within}
 use Rattle.buckets.proofs.Chained.{then_found}
 use Rattle.buckets.proofs.ColumnByColumn.{rest_fields}
 use Rattle.buckets.proofs.Within.{length_columns, columns_split, columns_first, first_used}
@@ -76,32 +76,29 @@ module _ (m : ℕ) (s : List ℕ) (long : line_columns_width ≤ length s) where
       rest_printed_lem s long
       ∙ rw (read_found 0 tare_most _ second.1, read_found 0 code_most _ third.1, read_found 0 weighing_most _ fourth.1)
 
-  -- what the code answers where r tells whether the columns behind the tag are well printed
-  pub rest_misprinted : {r : Bool} → r ≡ columns_by column_printed rest_places 32 (columns tare_start rest_width s) → r ≡ false
-      → 18446744073709551615 ≡ tag_or_misprint (read_line_columns m s)
-  rest_misprinted test h = go (read_line_columns m s) refl
+  -- what the code answers by whether the columns behind the tag are well printed
+  pub rest_misprinted : false ≡ columns_by column_printed rest_places 32 (columns tare_start rest_width s)
+      → None ≡ option_map (λ (l : Line). l.tag) (read_line_columns m s)
+  rest_misprinted test = go (read_line_columns m s) refl
     where
-      go : (o : Option Line) → read_line_columns m s ≡ o → 18446744073709551615 ≡ tag_or_misprint (read_line_columns m s)
+      go : (o : Option Line) → read_line_columns m s ≡ o → None ≡ option_map (λ (l : Line). l.tag) (read_line_columns m s)
       go None e = rw e
-      go (Some l) e = absurd (true≢false (sym (line_columns_printed e) ∙ sym test ∙ h))
+      go (Some l) e = absurd (true≢false (sym (line_columns_printed e) ∙ sym test))
 
   -- the first column of the tare
   tare_first : get_or (columns tare_start tare_width s) 0 0 ≡ get_or s tare_start 0
   tare_first = columns_first tare_start (tare_width - 1) s (omega arith)
 
-  module _ (t : ℕ) (read : t ≡ or_misprint (read_number (columns tag_start tag_width s))) (low : m ≤ t) (high : t ≤ tag_most) where
-    tag : number_within m tag_most (columns tag_start tag_width s) ≡ Some t
-    tag = answer_within m tag_most (columns tag_start tag_width s) t read (omega arith) low high
-
-    pub tare_too_long : (get_or s tare_start 0 ≡ 32 → ⊥) → 18446744073709551615 ≡ tag_or_misprint (read_line_columns m s)
+  module _ (t : ℕ) (tag : number_within m tag_most (columns tag_start tag_width s) ≡ Some t) where
+    pub tare_too_long : (get_or s tare_start 0 ≡ 32 → ⊥) → None ≡ option_map (λ (l : Line). l.tag) (read_line_columns m s)
     unfolding read_line_columns
     tare_too_long n = rw (tag, first_used 0 tare_most (tare_width - 2) (columns tare_start tare_width s) (length_columns tare_start tare_width s (omega arith)) (omega arith) (λ e. n (sym tare_first ∙ e)))
 
-    pub tag_answered : {r : Bool} → get_or s tare_start 0 ≡ 32 → r ≡ columns_by column_printed rest_places 32 (columns tare_start rest_width s) → r ≡ true
-        → t ≡ tag_or_misprint (read_line_columns m s)
+    pub tag_answered : get_or s tare_start 0 ≡ 32 → true ≡ columns_by column_printed rest_places 32 (columns tare_start rest_width s)
+        → Some t ≡ option_map (λ (l : Line). l.tag) (read_line_columns m s)
     unfolding read_line_columns
-    tag_answered b test h =
-        let told = both (found (read_number (columns tare_start tare_width s))) _ (sym (rest_printed_lem s long) ∙ sym test ∙ h) in
+    tag_answered b test =
+        let told = both (found (read_number (columns tare_start tare_width s))) _ (sym (rest_printed_lem s long) ∙ sym test) in
         let two = both (found (read_number (columns code_start code_width s))) (found (read_number (columns weighing_start weighing_width s))) told.1 in
         let tare = tare_within (columns tare_start tare_width s) (length_columns tare_start tare_width s (omega arith)) (tare_first ∙ b) told.0 in
         let code = all_within code_most code_width (columns code_start code_width s) (length_columns code_start code_width s (omega arith)) (omega arith) two.0 in

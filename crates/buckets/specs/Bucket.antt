@@ -5,23 +5,14 @@ use Rattle.std.specs.Prelude.{Option, None, Some}
 use Rattle.columns.specs.Lists.{pick, joined, every, parts, same, strict, padded}
 use Rattle.columns.specs.PrintedNumbers.{print, blanks, value}
 use Rattle.buckets.specs.declared.Line.{Line}
+use Rattle.buckets.specs.declared.Pair.{Pair}
+use Rattle.buckets.specs.declared.Entry.{Entry}
 use Rattle.buckets.specs.ListLine.{tag_fits, fits, line_columns, spelled_columns}
 use Rattle.buckets.specs.Lengths.{newline, letter_index, letter_data, tag_width, tag_start, line_columns_width, place_width}
 use Rattle.buckets.specs.Lengths.{position_start, to_cycle_start, to_segment_start, follow_on_start, letter_column, count_width}
 use Rattle.buckets.specs.Lengths.{pair_count_start, item_count_start, pairs_most, entries_most, bucket_lines_most, distance_start}
 use Rattle.buckets.specs.Lengths.{entry_width, pairs_start, pairs_width, entries_start, entries_width, lines_start, lines_width}
 use Rattle.buckets.specs.Lengths.{buckets_most}
-
--- a control pair: its tag, none if blank, and its distance
-pub record Pair : Type 0 where
-  pub tag : Option ℕ
-  pub distance : ℕ
-
--- an index entry
-pub record Entry : Type 0 where
-  pub tag : ℕ
-  pub distance : ℕ
-
 -- what tells the two kinds of bucket apart: control pairs and entries, or follow-on and lines
 pub data Body : Type 0 where
   index_body : List Pair → List Entry → Body

@@ -1,4 +1,3 @@
 -- Definitions that only the contracts of inner functions cite, and laws.
 pub mod Columns
-pub mod Read
 pub mod Held

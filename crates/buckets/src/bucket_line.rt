@@ -2,28 +2,24 @@
 ghost use Rattle.std.specs.Prelude.{◌≡◌, ◌<◌, length};
 ghost use Rattle.buckets.specs.Lengths.{bucket_length, bucket_lines_most};
 ghost use Rattle.buckets.specs.Bucket.{spelled_line, read_bucket};
-ghost use Rattle.buckets.specs.BucketLines.{bucket_line, numbers, line_bytes};
+ghost use Rattle.buckets.specs.BucketLines.{bucket_line, line_bytes};
 
 use super::lines::spelled_line;
 use super::reader::read_bucket;
-use super::{Bucket, BucketLine, Kind, Line};
+use super::{Bucket, Contents, Line, Misprinted};
 
-// Line i of a bucket. Any bytes are answered, and any i.
-pub fn line_of(bucket: &[u8], i: u64) -> BucketLine
-    ensures { numbers result ≡ numbers (bucket_line i (read_bucket bucket.now)) }
+// Line i of a bucket, or nothing where it has no such line. Any bytes are answered, and any i.
+pub fn line_of(bucket: &[u8], i: u64) -> Result<Option<Line>, Misprinted>
+    ensures { result ≡ bucket_line i (read_bucket bucket.now) }
 {
-    let r = read_bucket(bucket);
-    let kind = r.kind;
-    match kind {
-        Kind::Misprinted => BucketLine::Misprinted,
-        Kind::Index => BucketLine::Nothing,
-        Kind::Data => {
-            if r.lines as u64 <= i {
-                return BucketLine::Nothing;
-            }
-            let line = line_at(bucket, i as usize);
-            BucketLine::Line(line)
-        }
+    let Some(reading) = read_bucket(bucket) else {
+        return Err(Misprinted);
+    };
+    match reading.contents {
+        Contents::Data { tags, .. } if i < tags.len() as u64 => Ok(Some(line_at(
+            bucket, i as usize,
+        ))),
+        _ => Ok(None),
     }
 }
 

@@ -1,6 +1,8 @@
 // List lines and buckets: document 01, "A list line" and "A bucket".
 #![tactic(auto)]
 
+use arrayvec::ArrayVec;
+
 pub mod bucket_line;
 mod fields;
 pub mod lines;
@@ -8,7 +10,7 @@ pub mod reader;
 pub mod writer;
 
 // A line's four numbers: tag, tare in kg, material code, weighing number.
-#[derive(Clone, Copy)]
+#[derive(Clone, Copy, PartialEq, Eq)]
 pub struct Line {
     pub tag: u64,
     pub tare: u64,
@@ -115,59 +117,49 @@ const BLANK: u8 = 32;
 
 pub const NEWLINE: u8 = 10;
 
-// What a reading of a line finds: lenient of a list line, strict of a line of a bucket.
-#[derive(Clone, Copy)]
-pub enum LineRead {
-    Read(Line),
-    Misprinted,
-}
-
 // The first three numbers of a bucket; a distance is counted from it.
-#[derive(Clone, Copy)]
+#[derive(Clone, Copy, PartialEq, Eq)]
 pub struct Head {
     pub position: u64,
     pub to_cycle: u64,
     pub to_segment: u64,
 }
 
-// An index bucket's control pairs and entries. Unused places hold 0. Where `blank` is true the first pair's tag is blank, and
-// 0 stands in its place.
-#[derive(Clone, Copy)]
-pub struct IndexItems {
-    pub pairs: usize,
-    pub pair_tags: [u64; Bucket::PAIRS_MOST],
-    pub pair_distances: [u64; Bucket::PAIRS_MOST],
-    pub entries: usize,
-    pub entry_tags: [u64; Bucket::ENTRIES_MOST],
-    pub entry_distances: [u64; Bucket::ENTRIES_MOST],
-    pub blank: bool,
+// A control pair: its tag, none if blank, and its distance.
+#[derive(Clone, Copy, PartialEq, Eq, Default)]
+pub struct Pair {
+    pub tag: Option<u64>,
+    pub distance: u64,
 }
 
-// The kind of a bucket that was read.
-#[derive(Clone, Copy)]
-pub enum Kind {
-    Index,
-    Data,
-    Misprinted,
+// An index entry.
+#[derive(Clone, Copy, PartialEq, Eq, Default)]
+pub struct Entry {
+    pub tag: u64,
+    pub distance: u64,
 }
 
-// What a strict reading of a bucket finds. Of a data bucket it has the number of lines and their tags; whatever the kind of
-// the bucket has no use for is 0.
-// The kind stands between the two halves, so that neither is so long that the compiler fills it by the C library's memset.
-#[derive(Clone, Copy)]
+// What a bucket holds behind its head: an index bucket its control pairs and entries, a data bucket its follow-on and lines, of
+// which the tags alone are held, since reading all numbers of each line would cost too much.
+#[derive(Drop)]
+pub enum Contents {
+    Index {
+        pairs: ArrayVec<Pair, 4>,
+        entries: ArrayVec<Entry, 8>,
+    },
+    Data {
+        follow_on: u64,
+        tags: ArrayVec<u64, 8>,
+    },
+}
+
+// A bucket that was read.
+#[derive(Drop)]
 pub struct Reading {
     pub head: Head,
-    pub follow_on: u64,
-    pub index: IndexItems,
-    pub kind: Kind,
-    pub lines: usize,
-    pub tags: [u64; Bucket::LINES_MOST],
+    pub contents: Contents,
 }
 
-// Line i of a bucket: its numbers, nothing where the bucket has no such line, or that the bucket is misprinted.
-#[derive(Clone, Copy)]
-pub enum BucketLine {
-    Line(Line),
-    Nothing,
-    Misprinted,
-}
+// The refusal of a bucket that is not 240 bytes long, or misprinted.
+#[derive(Clone, Copy, PartialEq, Eq)]
+pub struct Misprinted;

@@ -1,66 +1,48 @@
 // A list line, read and written.
 ghost use Rattle.std.specs.Prelude.{◌≡◌, true, ◌+◌, ◌*◌, ◌≤◌, length, take, drop};
+ghost use Rattle.std.specs.Option.{option_map};
 ghost use Rattle.columns.specs.Lists.{put};
 ghost use Rattle.columns.specs.PrintedNumbers.{value};
 ghost use Rattle.columns.specs.Inner.Places.{column_printed, column_digits, columns_by};
 ghost use Rattle.buckets.specs.Lengths.{tag_width, line_columns_width, rest_width, line_length};
 ghost use Rattle.buckets.specs.ListLine.{line_columns, print_line, ended_line, ended_lines, read_line};
 ghost use Rattle.buckets.specs.Bucket.{spelled_line};
-ghost use Rattle.buckets.specs.Inner.Held.{as_line_read, tag_or_misprint};
 ghost use Rattle.buckets.specs.Inner.Columns.{read_line_columns, read_plain, blanked_columns, rest_places, line_places};
 
-use super::{BLANK, Line, LineRead, NEWLINE, fields};
+use super::fields::number_within;
+use super::{BLANK, Line, NEWLINE};
 use columns;
-use columns::{BETWEEN, FIRST, LAST, MISPRINT, Number};
+use columns::Place;
+use columns::Place::{Between, First, Last};
 
 // The places of the columns of tare, material code and weighing number in their fields.
-const PLACES: [u8; Line::REST] = [
-    FIRST, BETWEEN, BETWEEN, BETWEEN, BETWEEN, LAST, FIRST, BETWEEN, BETWEEN, LAST, FIRST, BETWEEN,
-    BETWEEN, BETWEEN, BETWEEN, LAST,
+const PLACES: [Place; Line::REST] = [
+    First, Between, Between, Between, Between, Last, First, Between, Between, Last, First, Between,
+    Between, Between, Between, Last,
 ];
 
 // The places of all columns of a line.
-const LINE_PLACES: [u8; Line::COLUMNS] = [
-    FIRST, BETWEEN, BETWEEN, BETWEEN, BETWEEN, BETWEEN, BETWEEN, BETWEEN, BETWEEN, LAST, FIRST,
-    BETWEEN, BETWEEN, BETWEEN, BETWEEN, LAST, FIRST, BETWEEN, BETWEEN, LAST, FIRST, BETWEEN,
-    BETWEEN, BETWEEN, BETWEEN, LAST,
+const LINE_PLACES: [Place; Line::COLUMNS] = [
+    First, Between, Between, Between, Between, Between, Between, Between, Between, Last, First,
+    Between, Between, Between, Between, Last, First, Between, Between, Last, First, Between,
+    Between, Between, Between, Last,
 ];
 
 // The line in the first columns of part, as a bucket has it, its tag at least low.
-pub fn read_columns(part: &[u8], low: u64) -> LineRead
+#[tactic(auto, unfolding(crate::specs::Inner::Columns::read_line_columns, crate::specs::Bucket::columns))]
+pub fn read_columns(part: &[u8], low: u64) -> Option<Line>
     requires { line_columns_width ≤ length part.now }
-    ensures { result ≡ as_line_read (read_line_columns low part.now) }
+    ensures { result ≡ read_line_columns low part.now }
 {
-    let tag = columns::read_ten(&part[Line::TAG..Line::TARE]);
-    if tag < low {
-        return LineRead::Misprinted;
-    }
-    if Line::TAG_MOST < tag {
-        return LineRead::Misprinted;
-    }
-    let Number::Value(tare) = fields::six_within(&part[Line::TARE..Line::CODE], 0, Line::TARE_MOST)
-    else {
-        return LineRead::Misprinted;
-    };
-    let Number::Value(code) = fields::four_within(
-        &part[Line::CODE..Line::WEIGHING],
-        0,
-        Line::CODE_MOST,
-    ) else {
-        return LineRead::Misprinted;
-    };
-    let Number::Value(weighing) = fields::six_within(
-        &part[Line::WEIGHING..Line::COLUMNS],
-        0,
-        Line::WEIGHING_MOST,
-    ) else {
-        return LineRead::Misprinted;
-    };
-    LineRead::Read(Line {
-        tag: tag,
-        tare: tare,
-        code: code,
-        weighing: weighing,
+    let tag = number_within(&part[Line::TAG..Line::TARE], low, Line::TAG_MOST)?;
+    let tare = number_within(&part[Line::TARE..Line::CODE], 0, Line::TARE_MOST)?;
+    let code = number_within(&part[Line::CODE..Line::WEIGHING], 0, Line::CODE_MOST)?;
+    let weighing = number_within(&part[Line::WEIGHING..Line::COLUMNS], 0, Line::WEIGHING_MOST)?;
+    Some(Line {
+        tag,
+        tare,
+        code,
+        weighing,
     })
 }
 
@@ -70,50 +52,34 @@ fn rest_printed(part: &[u8]) -> bool
     requires { length part.now ≡ rest_width }
     ensures { result ≡ columns_by column_printed rest_places 32 part.now }
 {
-    let places = PLACES;
     let mut still = true;
     let mut before = BLANK;
-    let mut i = 0;
-    while i < Line::REST {
-        let c = part[i];
-        still = columns::still_printed(still, places[i], before, c);
-        before = c;
-        i += 1;
+    for (c, place) in part.iter().zip(&PLACES) {
+        still = columns::still_printed(still, *place, before, *c);
+        before = *c;
     }
     still
 }
 
-// The tag of the line in the first columns of part, as a bucket has it, at least low, or MISPRINT. The tare leaves its first
-// column blank.
-pub fn read_tag(part: &[u8], low: u64) -> u64
+// The tag of the line in the first columns of part, as a bucket has it, at least low. The tare leaves its first column blank.
+pub fn read_tag(part: &[u8], low: u64) -> Option<u64>
     requires { line_columns_width ≤ length part.now }
-    ensures { result ≡ tag_or_misprint (read_line_columns low part.now) }
+    ensures { result ≡ option_map (λ l. l.tag) (read_line_columns low part.now) }
 {
-    let tag = columns::read_ten(&part[Line::TAG..Line::TARE]);
-    if tag < low {
-        return MISPRINT;
+    let tag = number_within(&part[Line::TAG..Line::TARE], low, Line::TAG_MOST)?;
+    if part[Line::TARE] == BLANK && rest_printed(&part[Line::TARE..Line::COLUMNS]) {
+        Some(tag)
+    } else {
+        None
     }
-    if Line::TAG_MOST < tag {
-        return MISPRINT;
-    }
-    if part[Line::TARE] != BLANK {
-        return MISPRINT;
-    }
-    if rest_printed(&part[Line::TARE..Line::COLUMNS]) {
-        return tag;
-    }
-    MISPRINT
 }
 
-// The tag of the list line that part is, if no number of it has a leading zero, or MISPRINT.
-pub fn plain_tag(part: &[u8]) -> u64
-    ensures { result ≡ tag_or_misprint (read_plain part.now) }
+// The tag of the list line that part is, if no number of it has a leading zero.
+pub fn plain_tag(part: &[u8]) -> Option<u64>
+    ensures { result ≡ option_map (λ l. l.tag) (read_plain part.now) }
 {
-    if part.len() != Line::LENGTH {
-        return MISPRINT;
-    }
-    if part[Line::COLUMNS] != NEWLINE {
-        return MISPRINT;
+    if part.len() != Line::LENGTH || part[Line::COLUMNS] != NEWLINE {
+        return None;
     }
     read_tag(part, 0)
 }
@@ -124,50 +90,39 @@ fn has_numbers(part: &[u8]) -> bool
     requires { length part.now ≡ line_columns_width }
     ensures { result ≡ columns_by column_digits line_places 32 part.now }
 {
-    let places = LINE_PLACES;
     let mut still = true;
     let mut before = BLANK;
-    let mut i = 0;
-    while i < Line::COLUMNS {
-        let c = part[i];
-        still = columns::still_digits(still, places[i], before, c);
-        before = c;
-        i += 1;
+    for (c, place) in part.iter().zip(&LINE_PLACES) {
+        still = columns::still_digits(still, *place, before, *c);
+        before = *c;
     }
     still
 }
 
-// The tag of the list line that part is, or MISPRINT. A tare leaves its first column blank or 0.
-pub fn line_tag(part: &[u8]) -> u64
-    ensures { result ≡ tag_or_misprint (read_line part.now) }
+// The tag of the list line that part is. A tare leaves its first column blank or 0.
+pub fn line_tag(part: &[u8]) -> Option<u64>
+    ensures { result ≡ option_map (λ l. l.tag) (read_line part.now) }
 {
-    if part.len() != Line::LENGTH {
-        return MISPRINT;
+    if part.len() != Line::LENGTH || part[Line::COLUMNS] != NEWLINE {
+        return None;
     }
-    if part[Line::COLUMNS] != NEWLINE {
-        return MISPRINT;
-    }
-    if !has_numbers(&part[Line::TAG..Line::COLUMNS]) {
-        return MISPRINT;
-    }
-    if b'0' < part[Line::TARE] {
-        return MISPRINT;
+    if !has_numbers(&part[Line::TAG..Line::COLUMNS]) || b'0' < part[Line::TARE] {
+        return None;
     }
     let tag = columns::lenient_number(&part[Line::TAG..Line::TARE]);
     if Line::TAG_MOST < tag {
-        return MISPRINT;
+        None
+    } else {
+        Some(tag)
     }
-    tag
 }
 
 // The list line that part is.
-pub fn read_line(part: &[u8]) -> LineRead
-    ensures { result ≡ as_line_read (read_line part.now) }
+pub fn read_line(part: &[u8]) -> Option<Line>
+    ensures { result ≡ read_line part.now }
 {
-    if line_tag(part) == MISPRINT {
-        return LineRead::Misprinted;
-    }
-    LineRead::Read(spelled_line(&part[Line::TAG..Line::COLUMNS]))
+    line_tag(part)?;
+    Some(spelled_line(&part[Line::TAG..Line::COLUMNS]))
 }
 
 // A line without its newline.
@@ -222,17 +177,9 @@ pub fn copy_lines(out: &mut [u8], to: usize, text: &[u8], from: usize, count: us
     requires { (to + line_length * count ≤ length out.old) × (from + line_columns_width * count ≤ length text.now) }
     ensures { out.new ≡ put out.old to (ended_lines count (drop from text.now)) }
 {
-    let mut i = 0;
-    while i < count {
+    for i in 0..count {
         copy_line(out, to + Line::LENGTH * i, text, from + Line::COLUMNS * i);
-        i += 1;
     }
-}
-
-fn wide(c: u8) -> u64
-    ensures { result ≡ c }
-{
-    c as u64
 }
 
 // The number that the columns of a text from a place on spell, a blank counting as 0.
@@ -241,14 +188,8 @@ fn spelled_columns(text: &[u8], at: usize, width: usize) -> u64
     ensures { result ≡ value 0 (take width (drop at text.now)) }
 {
     let mut x = 0;
-    let mut i = 0;
-    while i < width {
-        let c = text[at + i];
-        x = x * columns::ten_to(1);
-        if 48 < c {
-            x += wide(c - 48);
-        }
-        i += 1;
+    for c in &text[at..at + width] {
+        x = x * columns::ten_to(1) + u64::from(c.saturating_sub(b'0'));
     }
     x
 }

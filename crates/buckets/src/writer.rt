@@ -8,10 +8,10 @@ ghost use Rattle.buckets.specs.Lengths.{pairs_most, entries_most, bucket_lines_m
 ghost use Rattle.buckets.specs.ListLine.{line_columns, cut_lines, list_lines, misprint_from};
 ghost use Rattle.buckets.specs.Bucket.{head_columns, print_pair, print_entry, print_bucket, data_body};
 ghost use Rattle.buckets.specs.Inner.Columns.{PlainList};
-ghost use Rattle.buckets.specs.Inner.Held.{entries_of, pairs_of, bucket_with, index_front, entry_start, EntryBlank};
+ghost use Rattle.buckets.specs.Inner.Held.{bucket_with, index_front, entry_start, EntryBlank};
 
 use super::lines::put_columns;
-use super::{Bucket, Head, Line, NEWLINE};
+use super::{Bucket, Head, Line, NEWLINE, Pair};
 use columns;
 
 // The columns before the pairs or the lines.
@@ -29,60 +29,32 @@ fn write_head(part: &mut [u8], head: Head, follow_on: u64, letter: u8, pairs: u6
     columns::print_at(part, Bucket::ITEM_COUNT, Bucket::PAIRS, items);
 }
 
-// The first `count` entries.
-fn write_entries<'a>(part: &mut [u8], count: usize, tags: &'a [u64], distances: &'a [u64])
-    requires { (part.old ≡ blanks (length part.old)) × ((entry_width * count ≤ length part.old)
-        × ((count ≤ length tags.now) × (count ≤ length distances.now))) }
-    ensures { part.new ≡
-        padded (length part.old)
-        (joined print_entry (take count (entries_of tags.now distances.now))) }
+// A control pair over blank columns.
+fn write_pair(part: &mut [u8], pair: Pair)
+    requires { part.old ≡ blanks entry_width }
+    ensures { part.new ≡ print_pair pair }
 {
-    let mut i = 0;
-    while i < count {
-        let at = i * Bucket::ENTRY;
-        let distance = at + Bucket::DISTANCE;
-        columns::print_at(part, at, distance, tags[i]);
-        columns::print_at(part, distance, at + Bucket::ENTRY, distances[i]);
-        i += 1;
+    if let Some(tag) = pair.tag {
+        columns::print_at(part, Line::TAG, Bucket::DISTANCE, tag);
     }
+    columns::print_at(part, Bucket::DISTANCE, Bucket::ENTRY, pair.distance);
 }
 
-// The first `count` control pairs, printed as entries are; where `blank` says so, the first one's tag is blanked.
-fn write_pairs<'a>(
-    part: &mut [u8],
-    blank: bool,
-    count: usize,
-    tags: &'a [u64],
-    distances: &'a [u64],
-)
-    requires { (part.old ≡ blanks pairs_width) × ((count ≤ pairs_most)
-        × ((count ≤ length tags.now) × (count ≤ length distances.now))) }
-    ensures { part.new ≡
-        padded pairs_width
-        (joined print_pair (pairs_of blank (take count (entries_of tags.now distances.now)))) }
+// Control pairs over blank columns.
+fn write_pairs(part: &mut [u8], pairs: &[Pair])
+    requires { (part.old ≡ blanks pairs_width) × (length pairs.now ≤ pairs_most) }
+    ensures { part.new ≡ padded pairs_width (joined print_pair pairs.now) }
 {
-    write_entries(part, count, tags, distances);
-    if blank {
-        columns::print_blanks(&mut part[0..Bucket::DISTANCE]);
+    for (i, pair) in pairs.iter().enumerate() {
+        let at = i * Bucket::ENTRY;
+        write_pair(&mut part[at..at + Bucket::ENTRY], *pair);
     }
 }
 
 // An index bucket whose entries, `count` of them, are still blank.
-pub fn start_index<'a>(
-    part: &mut [u8],
-    head: Head,
-    blank: bool,
-    pairs: usize,
-    tags: &'a [u64],
-    distances: &'a [u64],
-    count: usize,
-)
-    requires { (length part.old ≡ bucket_length) × ((pairs ≤ pairs_most) × ((pairs ≤ length tags.now)
-        × (pairs ≤ length distances.now))) }
-    ensures { part.new ≡
-        padded bucket_end
-        (index_front head (pairs_of blank (take pairs (entries_of tags.now distances.now))) count)
-        ++ newline ∷ [] }
+pub fn start_index(part: &mut [u8], head: Head, pairs: &[Pair], count: usize)
+    requires { (length part.old ≡ bucket_length) × (length pairs.now ≤ pairs_most) }
+    ensures { part.new ≡ padded bucket_end (index_front head pairs.now count) ++ newline ∷ [] }
 {
     columns::print_blanks(&mut part[0..Bucket::LENGTH]);
     write_head(
@@ -90,16 +62,10 @@ pub fn start_index<'a>(
         head,
         0,
         Bucket::INDEX,
-        pairs as u64,
+        pairs.len() as u64,
         count as u64,
     );
-    write_pairs(
-        &mut part[Bucket::PAIRS..Bucket::ENTRIES],
-        blank,
-        pairs,
-        tags,
-        distances,
-    );
+    write_pairs(&mut part[Bucket::PAIRS..Bucket::ENTRIES], pairs);
     part[Bucket::END] = NEWLINE;
 }
 

@@ -3,7 +3,7 @@
 --     print_digit    one more column of a number that reaches it
 --     print_front    a number in more columns than it reaches: blanks first
 -- Assumes nothing.
-use Rattle.std.proofs.Common.{◌≡◌, ℕ, zero, suc, ◌+◌, ◌-◌, ◌/◌, ◌%◌, ◌^◌, ◌<◌, ◌≤◌, List, ◌∷◌, ◌++◌, length, set, sym, refl, ap, div-lt_iff_lt-mul, pow-suc, le-div_iff_mul-le, zero-add, div-one, arith, lt-ltb}
+use Rattle.std.proofs.Common.{append-nil, ◌∙◌, ◌≡◌, ℕ, zero, suc, ◌+◌, ◌-◌, ◌/◌, ◌%◌, ◌^◌, ◌<◌, ◌≤◌, List, ◌∷◌, ◌++◌, length, set, sym, refl, ap, div-lt_iff_lt-mul, pow-suc, le-div_iff_mul-le, zero-add, div-one, arith, lt-ltb}
 use native.Mathlib.Nat.{pow-le-pow_right, div-div-eq-div-mul}
 use Rattle.columns.specs.PrintedNumbers.{column, print, blanks}
 use Rattle.columns.proofs.Printed.{ten_pos}
@@ -61,3 +61,47 @@ print_front (suc k) w x h =
 pub print_whole : (k w x : ℕ) → 0 < w → x / 10 ^ w ≡ 0 → blanks k ++ print w x ≡ print (k + w) x
 print_whole k zero x h e = absurd (omega arith)
 print_whole k (suc w) x h e = sym (print_front k w x (below_ten (suc w) x e))
+
+-- ---- columns written from the right
+
+-- n columns, of which the last w are written from i on, and what is left of x
+pub record Written (part : List ℕ) (x n i rest : ℕ) : Type 0 where
+  pub w : ℕ
+  pub whole : n ≡ i + w
+  pub is : part ≡ blanks i ++ print w x
+  pub left : rest ≡ x / 10 ^ w
+
+-- and there is more to write
+pub record Open (part : List ℕ) (x n i rest : ℕ) : Type 0 where
+  pub so_far : Written part x n i rest
+  pub more : 0 < so_far.w → 0 < rest
+
+pub none_written : (part : List ℕ) (x n : ℕ) → part ≡ blanks n → Open part x n n x
+none_written part x n e =
+    record {
+      so_far = record { w = 0; whole = omega arith; is = e ∙ sym (append-nil (blanks n)); left = sym (div-one x) };
+      more = λ h. absurd (omega arith);
+    }
+
+-- one more column
+pub digit_written : {part : List ℕ} {x n i rest : ℕ} → Open part x n i rest → 0 < i → Written (set part (i - 1) (48 + rest % 10)) x n (i - 1) (rest / 10)
+digit_written {part} {x} {n} {i} {rest} o p =
+    let f = o.so_far in
+    let reached : 0 < f.w → 0 < x / 10 ^ f.w = λ h. rw f.left at (o.more h) in
+    record {
+      w = suc f.w;
+      whole = omega (arith, f.whole);
+      is =
+          rw (f.is, f.left)
+          (blanks_set_last i (48 + x / 10 ^ f.w % 10) (print f.w x) p
+          ∙ ap (λ (t : List ℕ). blanks (i - 1) ++ t) (print_digit f.w x reached));
+      left = rw f.left (next_quotient f.w x);
+    }
+
+-- nothing is left, or no column
+pub done_written : {part : List ℕ} {x n i rest : ℕ} → Written part x n i rest → i < n → rest ≡ 0 → part ≡ print n x
+done_written {part} {x} {n} {i} {rest} f h z = rw (f.is, f.whole) (print_whole i f.w x (omega (arith, f.whole)) (sym f.left ∙ z))
+
+pub full_written : {part : List ℕ} {x n i rest : ℕ} → Written part x n i rest → i ≡ 0 → part ≡ print n x
+unfolding blanks
+full_written {part} {x} {n} {i} {rest} f z = let e : n ≡ f.w = omega (arith, f.whole) in rw (f.is, z, e)

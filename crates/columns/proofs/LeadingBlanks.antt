@@ -1,87 +1,52 @@
--- Blanks in front of a number are passed over.
+-- Blanks in front of a number are passed over, and what stands behind them is read.
 -- Assumes nothing.
-use Rattle.std.proofs.Common.{◌≡◌, ℕ, zero, suc, ◌+◌, ◌<◌, ◌≤◌, Bool, true, ◌&&◌, eqb, leb, List, [], ◌∷◌, length, get_or, take, drop, sym, refl, ap, ◌∙◌, arith, length-drop, get_or-drop, take_all, drop-drop, eqb-true, leb-true}
-use Rattle.columns.specs.PrintedNumbers.{all_blank, read_number, or_misprint}
-use Rattle.columns.specs.Inner.Starts.{Starts}
-use Rattle.columns.proofs.Strict.{both}
-use Rattle.columns.proofs.OnePass.{read_blank}
-
-past_blanks : (i : ℕ) (s : List ℕ) → i < length s → all_blank (take i s) ≡ true → read_number s ≡ read_number (drop i s)
-unfolding all_blank
-past_blanks i [] h b = absurd (omega arith)
-past_blanks zero (c ∷ s) h b = refl
-past_blanks (suc i) (c ∷ s) h b =
-    let told = both (eqb c 32) (all_blank (take i s)) b in
-    rw (eqb-true c 32 told.0) (read_blank s (omega arith)) ∙ past_blanks i s (omega arith) told.1
+use Rattle.std.proofs.Common.{Bool, true, false, not, ◌&&◌, ◌||◌, eqb, eq-eqb, ne_eqb, eqb-true, ◌≡◌, ℕ, zero, suc, ◌-◌, ◌<◌, ◌≤◌, List, [], ◌∷◌, length, get_or, take, drop, sym, refl, ap, ◌∙◌, arith}
+use Rattle.std.specs.Prelude.{None, Some}
+use Rattle.std.specs.List.{AllWithin}
+use Rattle.columns.specs.Lists.{pick, every}
+use Rattle.columns.specs.PrintedNumbers.{value, digit, read_number}
+use Rattle.columns.specs.Inner.Starts.{IsUsed}
+use borrow.Author.Tests.{eqb-false}
+use Rattle.columns.proofs.Strict.{and_true}
+use Rattle.columns.proofs.OnePass.{read_blank, read_zero, read_digits_lem}
+use Rattle.columns.proofs.Put.{to_the_end}
 
 pub past_one : (s : List ℕ) → 1 < length s → get_or s 0 0 ≡ 32 → read_number s ≡ read_number (drop 1 s)
 past_one [] h a = absurd (omega arith)
 past_one (c ∷ s) h a = rw a (read_blank s (omega arith))
 
--- the columns of s from i on are the last w
-module _ (i w : ℕ) (s : List ℕ) (e : length s ≡ i + w) where
-  last_columns : take w (drop i s) ≡ drop i s
-  last_columns = take_all w (drop i s) (simp length-drop (omega arith))
+-- i blanks, and columns behind them
+pub past_blanks : (i : ℕ) (s : List ℕ) → i < length s → AllWithin (λ c. c ≡ 32) s 0 i → read_number s ≡ read_number (drop i s)
+past_blanks i [] h b = absurd (omega arith)
+past_blanks zero (c ∷ s) h b = refl
+past_blanks (suc i) (c ∷ s) h b =
+    rw (b 0 0 (omega arith) (omega arith)) (read_blank s (omega arith))
+    ∙ past_blanks i s (omega arith) (λ k d l m. b (suc k) d (omega arith) (omega arith))
 
-  -- those before them are passed over
-  read_on : {r : ℕ} → read_number s ≡ read_number (drop i s) → r ≡ or_misprint (read_number (take w (drop i s)))
-      → r ≡ or_misprint (read_number s)
-  read_on h is = is ∙ ap or_misprint (ap read_number last_columns ∙ sym h)
+-- blanks alone
+pub none_used : (s : List ℕ) → 1 ≤ length s → AllWithin (λ c. c ≡ 32) s 0 (length s) → read_number s ≡ None
+none_used [] h b = absurd (omega arith)
+none_used (c ∷ []) h b =
+    rw (b 0 0 (omega arith) (omega arith))
+    (read_digits_lem 32 [] (λ p. absurd (omega arith)) (λ p. absurd (omega arith)))
+none_used (c ∷ d ∷ s) h b =
+    rw (b 0 0 (omega arith) (omega arith)) (read_blank (d ∷ s) (omega arith))
+    ∙ none_used (d ∷ s) (omega arith) (λ k e l m. b (suc k) e (omega arith) (omega arith))
 
-  -- the first of them is used, or the only one
-  starts_last : leb 1 w && leb w 10 ≡ true → (get_or s i 0 ≡ 32 → w ≡ 1) → Starts (take w (drop i s))
-  starts_last few u =
-      let told = both (leb 1 w) (leb w 10) few in
-      let some : 1 ≤ w = leb-true 1 w told.0 in
-      let most : w ≤ 10 = leb-true w 10 told.1 in
-      let same : i + 0 ≡ i = omega arith in
-      rw last_columns
-      (record {
-        some = simp length-drop (omega arith);
-        most = simp length-drop (omega arith);
-        used = λ b. simp length-drop (let z = u (rw (get_or-drop i s 0 0, same) at b) in omega arith);
-      })
+-- what is read of w columns, the first used: digits, the first no 0 unless it is the only one
+pub read_used : (s : List ℕ) (w : ℕ) → IsUsed s → length s ≡ w
+    → read_number s ≡ pick ((digit (get_or s 0 0) && (eqb w 1 || not (eqb (get_or s 0 0) 48))) && every digit (drop 1 s)) (Some (value 0 s)) None
+read_used [] w u e = absurd (omega (arith, u.some))
+read_used (c ∷ []) w u e =
+    rw (eq-eqb w 1 (omega arith), and_true (digit c))
+    (read_digits_lem c [] (λ p. absurd (omega arith)) (λ p. absurd (omega arith)))
+read_used (c ∷ d ∷ s) w u e = rw (ne_eqb w 1 (λ k. omega arith)) (go (eqb c 48) refl)
+  where
+    go : (t : Bool) → eqb c 48 ≡ t
+        → read_number (c ∷ d ∷ s) ≡ pick ((digit c && not t) && every digit (d ∷ s)) (Some (value 0 (c ∷ d ∷ s))) None
+    go true e = rw (eqb-true c 48 e) (read_zero (d ∷ s) (omega arith))
+    go false e = rw (and_true (digit c)) (read_digits_lem c (d ∷ s) (λ p. u.used) (λ p. eqb-false c 48 e))
 
-pub second_last : (s : List ℕ) → length s ≡ 2 → Starts (take 1 (drop 1 s))
-second_last s e = starts_last 1 1 s (omega arith) refl (λ b. refl)
-
--- ---- what is read of columns whose first ones were looked at
-
-module _ (w : ℕ) (s : List ℕ) where
-  pub first_used : length s ≡ w → (get_or s 0 0 ≡ 32 → ⊥) → leb 1 w && leb w 10 ≡ true → Starts (take w s)
-  first_used e u few = starts_last 0 w s (omega arith) few (λ b. absurd (u b))
-
-  pub second_used : length s ≡ suc w → (get_or s 1 0 ≡ 32 → ⊥) → leb 1 w && leb w 10 ≡ true → Starts (take w (drop 1 s))
-  second_used e u few = starts_last 1 w s (omega arith) few (λ b. absurd (u b))
-
-  pub all_read : {r : ℕ} → length s ≡ w → r ≡ or_misprint (read_number (take w s)) → r ≡ or_misprint (read_number s)
-  all_read e is = read_on 0 w s (omega arith) refl is
-
--- n columns are i and the last w, one of them at least
-abbrev split : ℕ → ℕ → ℕ → Bool
-split n i w = eqb n (i + w) && leb 1 w
-
-module _ (n w : ℕ) (s : List ℕ) {r : ℕ} (e : length s ≡ n) where
-  behind : (i : ℕ) → split n i w ≡ true → (i < length s → read_number s ≡ read_number (drop i s))
-      → r ≡ or_misprint (read_number (take w (drop i s))) → r ≡ or_misprint (read_number s)
-  behind i h past is =
-      let told = both (eqb n (i + w)) (leb 1 w) h in
-      let all : n ≡ i + w = eqb-true n (i + w) told.0 in
-      let some : 1 ≤ w = leb-true 1 w told.1 in
-      read_on i w s (omega arith) (past (omega arith)) is
-
-  pub behind_one : get_or s 0 0 ≡ 32 → r ≡ or_misprint (read_number (take w (drop 1 s))) → split n 1 w ≡ true
-      → r ≡ or_misprint (read_number s)
-  behind_one a is h = behind 1 h (λ long. past_one s long a) is
-
-  pub behind_two : get_or s 0 0 ≡ 32 → get_or s 1 0 ≡ 32 → r ≡ or_misprint (read_number (take w (drop 2 s))) → split n 2 w ≡ true
-      → r ≡ or_misprint (read_number s)
-  behind_two a b is h =
-      behind 2 h
-      (λ long.
-      past_one s (omega arith) a ∙ past_one (drop 1 s) (simp length-drop (omega arith)) (rw get_or-drop b) ∙ ap read_number (drop-drop 1 1 s))
-      is
-
-  pub behind_four : {t : Bool} → t ≡ all_blank (take 4 s) → t ≡ true → r ≡ or_misprint (read_number (take w (drop 4 s)))
-      → split n 4 w ≡ true → r ≡ or_misprint (read_number s)
-  behind_four test told is h = behind 4 h (λ long. past_blanks 4 s long (sym test ∙ told)) is
+-- what is read from the first column that is used on, lent as `&s[i..]`
+pub read_behind : (s : List ℕ) {i : ℕ} → i < length s → AllWithin (λ c. c ≡ 32) s 0 i → read_number (take (length s - i) (drop i s)) ≡ read_number s
+read_behind s {i} h b = ap read_number (to_the_end s i (omega arith)) ∙ sym (past_blanks i s h b)

@@ -4,12 +4,15 @@
 --     blank_print                 a print has no leading zeros
 --     blanked_digits, value_digits   no column adds another digit to the value
 -- Assumes nothing.
-use Rattle.std.proofs.Common.{◌≡◌, ℕ, zero, suc, ◌+◌, ◌-◌, ◌*◌, ◌%◌, ◌^◌, ◌<◌, ◌≤◌, Bool, true, false, ◌&&◌, ◌||◌, eqb, leb, List, [], ◌∷◌, map, length, get_or, sym, refl, ap, ◌∙◌, ap₂, arith, eqb-true, leb-true}
+use Rattle.std.proofs.Common.{Bool, List, [], add-one, ap, ap₂, arith, drop, drop-cons, eqb, eqb-true, false, get_or, leb, leb-true, length, length-drop, length-set, map, refl, replicate, set, suc, sym, true, zero, ℕ, ◌%◌, ◌&&◌, ◌*◌, ◌++◌, ◌+◌, ◌-◌, ◌<◌, ◌^◌, ◌||◌, ◌∙◌, ◌∷◌, ◌≡◌, ◌≤◌}
+use lib.ListN.{length-replicate}
+use lib.Seq.{get_or_at}
+use borrow.Author.Fill.{fill_more}
 use Rattle.std.specs.Prelude.{None, Some}
 use borrow.Author.Tests.{eqb-false}
 use Rattle.columns.specs.Lists.{pick, every}
 use Rattle.columns.specs.PrintedNumbers.{print, value, digit, read_number, blanks_digits, blank_zeros}
-use Rattle.columns.proofs.Strict.{both, and_false}
+use Rattle.columns.proofs.Strict.{both}
 use Rattle.columns.proofs.Joined.{every_at}
 use Rattle.columns.proofs.Printed.{length_print, value_print, read_of_print, print_of_read}
 use Rattle.columns.proofs.OnePass.{digits_small, read_blank, read_zero, read_digits_lem}
@@ -26,37 +29,65 @@ length_blanked (c ∷ d ∷ s) = go (eqb c 32 || eqb c 48) (length_blanked (d �
     go false rest = refl
 
 -- a column that is passed over, and one that is not
-pub blank_on : (c : ℕ) (s : List ℕ) → 1 ≤ length s → (eqb c 32 || eqb c 48) ≡ true → blank_zeros (c ∷ s) ≡ 32 ∷ blank_zeros s
+blank_on : (c : ℕ) (s : List ℕ) → 1 ≤ length s → (eqb c 32 || eqb c 48) ≡ true → blank_zeros (c ∷ s) ≡ 32 ∷ blank_zeros s
 blank_on c [] h e = absurd (omega arith)
 blank_on c (d ∷ s) h e = rw e
 
-pub blank_stop : (c : ℕ) (s : List ℕ) → (eqb c 32 || eqb c 48) ≡ false → blank_zeros (c ∷ s) ≡ c ∷ s
+blank_stop : (c : ℕ) (s : List ℕ) → (eqb c 32 || eqb c 48) ≡ false → blank_zeros (c ∷ s) ≡ c ∷ s
 blank_stop c [] e = refl
 blank_stop c (d ∷ s) e = rw e
 
-pub blank_one : (s : List ℕ) → length s ≡ 1 → blank_zeros s ≡ s
+blank_one : (s : List ℕ) → length s ≤ 1 → blank_zeros s ≡ s
 blank_one [] h = refl
 blank_one (c ∷ []) h = refl
 blank_one (c ∷ d ∷ s) h = absurd (omega arith)
 
--- one column, where `leading` says that none before it is the number's and `more` that columns are left
-pub blank_column : (leading more : Bool) (c : ℕ) (s : List ℕ) → (more ≡ true → 1 ≤ length s) → (more ≡ false → length s ≡ 0)
-    → pick leading (blank_zeros (c ∷ s)) (c ∷ s)
-    ≡ pick ((leading && (eqb c 32 || eqb c 48)) && more) 32 c ∷ pick ((leading && (eqb c 32 || eqb c 48)) && more) (blank_zeros s) s
-blank_column false more c s left gone = refl
-blank_column true more c [] left gone = go more left
-  where
-    go : (m : Bool) → (m ≡ true → 1 ≤ length {A = ℕ} [])
-        → c ∷ [] ≡ pick ((eqb c 32 || eqb c 48) && m) 32 c ∷ pick ((eqb c 32 || eqb c 48) && m) [] []
-    go true k = absurd (omega (arith, k refl))
-    go false k = rw (and_false (eqb c 32 || eqb c 48))
-blank_column true more c (d ∷ s) left gone = go more (eqb c 32 || eqb c 48) gone
-  where
-    go : (m t : Bool) → (m ≡ false → length (d ∷ s) ≡ 0)
-        → pick t (32 ∷ blank_zeros (d ∷ s)) (c ∷ d ∷ s) ≡ pick (t && m) 32 c ∷ pick (t && m) (blank_zeros (d ∷ s)) (d ∷ s)
-    go true true k = refl
-    go true false k = refl
-    go false t k = absurd (omega (arith, k refl))
+-- the first i columns of s are made blank, and those from i on are still to be looked at
+pub record Blanked (s part : List ℕ) (i : ℕ) : Type 0 where
+  pub within : i ≤ length s - 1
+  pub long : length part ≡ length s
+  pub is : part ≡ replicate i 32 ++ drop i s
+  pub rest : blank_zeros s ≡ replicate i 32 ++ blank_zeros (drop i s)
+
+replicate_more : (i v : ℕ) (t : List ℕ) → replicate i v ++ v ∷ t ≡ replicate (suc i) v ++ t
+replicate_more zero v t = refl
+replicate_more (suc i) v t = ap (λ (r : List ℕ). v ∷ r) (replicate_more i v t)
+
+module _ (s part : List ℕ) (i : ℕ) (o : Blanked s part i) where
+  -- column i is still as it was
+  same_column : i < length s → get_or part i 0 ≡ get_or s i 0
+  same_column h =
+      ap (λ (t : List ℕ). get_or t i 0) (o.is ∙ ap (λ (t : List ℕ). replicate i 32 ++ t) (drop-cons s i 0 h))
+      ∙ get_or_at (replicate i 32) (get_or s i 0) (drop (suc i) s) 0 i (length-replicate i 32)
+
+  pub stops : i < length s → {t : Bool} → t ≡ (eqb (get_or part i 0) 32 || eqb (get_or part i 0) 48) → t ≡ false → part ≡ blank_zeros s
+  stops h told e =
+      let test : (eqb (get_or s i 0) 32 || eqb (get_or s i 0) 48) ≡ false = rw (same_column h) at (sym told ∙ e) in
+      o.is
+      ∙ ap (λ (t : List ℕ). replicate i 32 ++ t)
+      (drop-cons s i 0 h ∙ sym (blank_stop (get_or s i 0) (drop (suc i) s) test) ∙ ap blank_zeros (sym (drop-cons s i 0 h)))
+      ∙ sym o.rest
+
+  pub goes_on : i < length s - 1 → {t : Bool} → t ≡ (eqb (get_or part i 0) 32 || eqb (get_or part i 0) 48) → t ≡ true → Blanked s (set part i 32) (i + 1)
+  goes_on h told e =
+      let below : i < length s = omega arith in
+      let test : (eqb (get_or s i 0) 32 || eqb (get_or s i 0) 48) ≡ true = rw (same_column below) at (sym told ∙ e) in
+      let more : 1 ≤ length (drop (suc i) s) = simp length-drop (omega arith) in
+      record {
+        within = omega arith;
+        long = simp length-set o.long;
+        is = rw o.is (fill_more i 32 s below);
+        rest =
+            o.rest
+            ∙ ap (λ (t : List ℕ). replicate i 32 ++ t)
+            (ap blank_zeros (drop-cons s i 0 below) ∙ blank_on (get_or s i 0) (drop (suc i) s) more test)
+            ∙ rw (add-one i) (replicate_more i 32 (blank_zeros (drop (suc i) s)));
+      }
+
+  pub ends : length s - 1 ≤ i → part ≡ blank_zeros s
+  ends h =
+      let last : length (drop i s) ≤ 1 = simp length-drop (omega (arith, o.within)) in
+      o.is ∙ ap (λ (t : List ℕ). replicate i 32 ++ t) (sym (blank_one (drop i s) last)) ∙ sym o.rest
 
 -- no column adds another digit to the value
 pub blanked_digits : (s : List ℕ) → map (λ c. c - 48) (blank_zeros s) ≡ map (λ c. c - 48) s

@@ -25,6 +25,16 @@ pub or_false : (a : Bool) → a || false ≡ a
 or_false true = refl
 or_false false = refl
 
+pub and_comm : (a b : Bool) → a && b ≡ b && a
+and_comm true b = sym (and_true b)
+and_comm false b = sym (and_false b)
+
+pub or_comm : (a b : Bool) → a || b ≡ b || a
+or_comm true true = refl
+or_comm true false = refl
+or_comm false true = refl
+or_comm false false = refl
+
 pub and_assoc : (p q r : Bool) → p && (q && r) ≡ (p && q) && r
 and_assoc true q r = refl
 and_assoc false q r = refl

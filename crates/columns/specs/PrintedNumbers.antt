@@ -3,8 +3,6 @@
 use Rattle.std.specs.Prelude.{ℕ, zero, suc, ◌+◌, ◌-◌, ◌*◌, ◌/◌, ◌%◌, ◌^◌, Bool, true, false, ◌&&◌, ◌||◌, List, [], ◌∷◌, length, replicate, ◌==◌, nat_eq, nat_le, nat_lt}
 use Rattle.std.specs.Prelude.{Option, None, Some}
 use Rattle.columns.specs.Lists.{pick, every, strict}
-use Rattle.columns.specs.declared.Number.{Number}
-use Rattle.columns.specs.declared.Number.TheVariants.{Value, Misprinted}
 
 -- What stands in the column worth 10^w: a blank (byte 32) where the number does not reach it ("no leading zero"), else
 -- its digit. The last column always has a digit ("zero as one 0").
@@ -36,16 +34,6 @@ digit c = nat_le 48 c && nat_le c 57
 -- a number read strictly: only its own print is taken for it
 unfoldable pub read_number : List ℕ → Option ℕ
 read_number s = strict (value 0) (λ x. true) (print (length s)) s
-
--- a strict reading as the code answers it
-abbrev pub as_number : Option ℕ → Number
-as_number None = Misprinted
-as_number (Some x) = Value x
-
--- the same as a number alone, the largest of 64 bits where none was read
-abbrev pub or_misprint : Option ℕ → ℕ
-or_misprint None = 18446744073709551615
-or_misprint (Some x) = x
 
 -- ---- document 02, C-13, "Leading zeros from two old bridges"
 

@@ -3,7 +3,6 @@ pub mod Ranges
 pub mod Least
 pub mod Lasts
 pub mod Powers
-pub mod Filled
 pub mod Deciding
 pub mod RangeTests
 pub mod Conditions

@@ -6,7 +6,9 @@ use Rattle.std.specs.Prelude.{Option, None, Some}
 use Rattle.columns.specs.Lists.{pick, joined, range}
 use Rattle.buckets.specs.declared.Line.{Line}
 use Rattle.buckets.specs.Lengths.{bucket_length}
-use Rattle.buckets.specs.Bucket.{Pair, Entry, Body, index_body, data_body, Bucket, print_bucket}
+use Rattle.buckets.specs.declared.Pair.{Pair}
+use Rattle.buckets.specs.declared.Entry.{Entry}
+use Rattle.buckets.specs.Bucket.{Body, index_body, data_body, Bucket, print_bucket}
 use Rattle.buckets.specs.BucketLines.{body_lines}
 use Rattle.cycle.specs.Tree.{Plan, children, above, lines_of, first_tag, last_tag, largest_tag}
 use Rattle.cycle.specs.Layouts.{Slot, slots}

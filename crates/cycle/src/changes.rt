@@ -19,7 +19,7 @@ use super::measures::{figures_of, settings_fit};
 use super::{Counts, Figures, LINE, Reason, Refusal, Settings};
 use buckets::Line;
 use buckets::lines::{line_tag, plain_tag, spelled_line, spelled_tag};
-use columns::{MISPRINT, copy_columns, print_blanks};
+use columns::{copy_columns, print_blanks};
 
 // Whether a buffer has place for so many lines.
 fn places_for(buffer: &[u8], lines: u64) -> bool
@@ -34,7 +34,7 @@ fn judge_lines_given(list: &[u8], lines: u64, given: &[u8]) -> Result<bool, Refu
     requires { (length list.now ≡ line_length * lines) × (lines ≤ lines_most) }
     ensures { Told (line_conditions list.now lines given.now) list.now result }
 {
-    if line_tag(given) == MISPRINT {
+    if line_tag(given).is_none() {
         let place = first_misprint(list, lines).unwrap_or(lines);
         return Err(Refusal {
             reason: Reason::LineMisprinted,
@@ -78,32 +78,13 @@ fn first_over(list: &[u8], lines: u64, tag: u64) -> Option<u64>
     None
 }
 
-// Whether two lines have the same four numbers.
-fn same_numbers(a: Line, b: Line) -> bool
-    ensures { result ≡ same_numbers a b }
-{
-    if a.tag != b.tag {
-        return false;
-    }
-    if a.tare != b.tare {
-        return false;
-    }
-    if a.code != b.code {
-        return false;
-    }
-    a.weighing == b.weighing
-}
-
 // Whether the line that stands at a place of a list has these four numbers.
 fn equals_at(list: &[u8], at: usize, line: Line) -> bool
     requires { at + line_columns_width ≤ length list.now }
     ensures { result ≡ same_numbers line (spelled (drop at list.now)) }
 {
-    if spelled_tag(list, at) != line.tag {
-        return false;
-    }
     let end = at + Line::COLUMNS;
-    same_numbers(line, spelled_line(&list[at..end]))
+    spelled_tag(list, at) == line.tag && line == spelled_line(&list[at..end])
 }
 
 // The first line with these four numbers.
@@ -161,10 +142,7 @@ fn remove_line(list: &mut [u8], at: usize, end: usize)
 fn plain_with(plain: bool, line: &[u8]) -> bool
     ensures { result ≡ true → (plain ≡ true) × (taken (read_plain line.now) ≡ true) }
 {
-    if plain {
-        return plain_tag(line) != MISPRINT;
-    }
-    false
+    plain && plain_tag(line).is_some()
 }
 
 // What figures say of a changed list.

@@ -1,10 +1,10 @@
 // The conditions of building, 1 to 7, held against a list and settings; and whether the list is known to have no leading zeros.
 ghost use Rattle.std.specs.Prelude.{◌≡◌, true, [], ◌∷◌, ◌*◌, ◌≤◌, length, MatchResult};
 ghost use Rattle.std.specs.Prelude.{None};
+ghost use Rattle.std.specs.Option.{option_map};
 ghost use Rattle.buckets.specs.ListLine.{read_line, cut_lines, list_lines, misprint_from, fall_from};
 ghost use Rattle.buckets.specs.Lengths.{line_length, lines_most};
 ghost use Rattle.buckets.specs.Inner.Columns.{read_plain, PlainList};
-ghost use Rattle.buckets.specs.Inner.Held.{tag_or_misprint};
 ghost use Rattle.columns.specs.Lists.{pick};
 ghost use Rattle.cycle.specs.Cycle.{cycle_size};
 ghost use Rattle.cycle.specs.Refusals.{first_refusal, outcome};
@@ -18,7 +18,6 @@ use super::measures::{figures_of, judge_figures, settings_fit};
 use super::{BUCKET, Figures, LINE, Reason, Refusal, Settings};
 use buckets::Line;
 use buckets::lines::{line_tag, plain_tag, spelled_tag};
-use columns::MISPRINT;
 
 // The figures of a list's cycle, and whether the list is known to have no leading zeros.
 #[derive(Clone, Copy)]
@@ -35,7 +34,7 @@ pub fn first_misprint(list: &[u8], lines: u64) -> Option<u64>
     for i in 0..lines {
         let at = (LINE * i) as usize;
         let to = at + Line::LENGTH;
-        if line_tag(&list[at..to]) == MISPRINT {
+        if line_tag(&list[at..to]).is_none() {
             return Some(i);
         }
     }
@@ -58,14 +57,15 @@ fn first_fall(list: &[u8], lines: u64) -> Option<u64>
     None
 }
 
-// The tag of the list line that part is, or MISPRINT; where `plain` says so, only of a line without leading zeros.
-fn tag_read(part: &[u8], plain: bool) -> u64
-    ensures { result ≡ tag_or_misprint (pick plain (read_plain part.now) (read_line part.now)) }
+// The tag of the list line that part is; where `plain` says so, only of a line without leading zeros.
+fn tag_read(part: &[u8], plain: bool) -> Option<u64>
+    ensures { result ≡ option_map (λ l. l.tag) (pick plain (read_plain part.now) (read_line part.now)) }
 {
     if plain {
-        return plain_tag(part);
+        plain_tag(part)
+    } else {
+        line_tag(part)
     }
-    line_tag(part)
 }
 
 // Whether every line is well printed, without leading zeros where `plain` says so, and no tag falls, in one pass. Where it is
@@ -77,19 +77,16 @@ fn all_rise(list: &[u8], lines: u64, plain: bool) -> bool
         × (plain ≡ true → PlainList list.now) }
 {
     let mut last = 0;
-    let mut i = 0;
-    while i < lines {
+    for i in 0..lines {
         let at = (LINE * i) as usize;
         let to = at + Line::LENGTH;
-        let tag = tag_read(&list[at..to], plain);
-        if tag == MISPRINT {
+        let Some(tag) = tag_read(&list[at..to], plain) else {
             return false;
-        }
+        };
         if tag < last {
             return false;
         }
         last = tag;
-        i += 1;
     }
     true
 }

@@ -1,9 +1,9 @@
 // What stands in an index bucket of a cycle: its head, its control pairs and its entries, in a path and in a segment's tree.
-ghost use Rattle.std.specs.Prelude.{◌≡◌, List, [], ◌++◌, ◌∷◌, suc, ◌+◌, ◌-◌, ◌*◌, ◌%◌, ◌≤◌, ◌<◌, max, length, take, drop, eqb};
-ghost use Rattle.columns.specs.Lists.{pick, joined, padded, put};
+ghost use Rattle.std.specs.Prelude.{◌≡◌, List, [], ◌++◌, ◌∷◌, suc, ◌+◌, ◌-◌, ◌*◌, ◌%◌, ◌≤◌, ◌<◌, max, length, drop};
+ghost use Rattle.columns.specs.Lists.{joined, padded, put};
 ghost use Rattle.buckets.specs.Lengths.{newline, pairs_most, entries_start, bucket_end, bucket_length};
 ghost use Rattle.buckets.specs.Bucket.{print_entry, print_bucket};
-ghost use Rattle.buckets.specs.Inner.Held.{filled, tag_or0, head_of, entries_of, pairs_of, index_front, EntriesBlank};
+ghost use Rattle.buckets.specs.Inner.Held.{head_of, index_front, EntriesBlank};
 ghost use Rattle.cycle.specs.Tree.{width, children};
 ghost use Rattle.cycle.specs.Layouts.{slots};
 ghost use Rattle.cycle.specs.Cycle.{to_next_segment};
@@ -12,13 +12,14 @@ ghost use Rattle.cycle.specs.Judging.{full_size};
 ghost use Rattle.cycle.specs.Inner.Held.{plan_of, Ready, InTree, HoldsSegment, TextFits, plan_in, cycle_bucket};
 ghost use Rattle.cycle.specs.Cycle.{first_place};
 ghost use Rattle.cycle.specs.Inner.Held.{ahead_of, last_of, tree_distance, child_distance, child_entries};
-ghost use Rattle.cycle.specs.Inner.Held.{pair_reach, pair_tags, pair_distances, OnPath, TreePlace, PathPlace, IndexPlace, Printing};
+ghost use Rattle.cycle.specs.Inner.Held.{pair_reach, tree_pairs, path_pairs, OnPath, TreePlace, PathPlace, IndexPlace, Printing};
 
 use super::measures::{full_size, power, up};
 use super::places::{data_place, first_place, largest_tag, tag_of, tag_place};
 use super::{Figures, Segment, Source};
+use arrayvec::ArrayVec;
 use buckets::writer::{put_entry, start_index};
-use buckets::{Bucket, Head};
+use buckets::{Head, Pair};
 
 // A distance from position x to a place of the cycle if it is ahead, else to the next cycle's start.
 fn ahead(f: Figures, x: u64, place: u64) -> u64
@@ -31,15 +32,15 @@ fn ahead(f: Figures, x: u64, place: u64) -> u64
     f.size - x
 }
 
-// The tag of the last line of the first `sent` data buckets, 0 where there is none.
-fn last_sent_tag(text: &[u8], f: Figures, source: Source, sent: u64) -> u64
+// The tag of the last line of the first `sent` data buckets, if there is one.
+fn last_sent_tag(text: &[u8], f: Figures, source: Source, sent: u64) -> Option<u64>
     requires { Ready f × TextFits f source (length text.now) × (sent < max 1 f.d) }
-    ensures { result ≡ tag_or0 (last_of (plan_in f source text.now) sent) }
+    ensures { result ≡ last_of (plan_in f source text.now) sent }
 {
     if sent == 0 {
-        return 0;
+        return None;
     }
-    tag_of(text, f, source, sent * f.p - 1)
+    Some(tag_of(text, f, source, sent * f.p - 1))
 }
 
 // How many children bucket j of height e has.
@@ -95,55 +96,29 @@ fn child_distance(f: Figures, s: Segment, e: usize, j: u64, x: u64, full: u64, i
     tree_distance(f, s, e, j, x, full, i)
 }
 
-// How many control pairs a bucket of height e in a segment's tree has: the root of layout 2 has one.
-fn tree_pairs(f: Figures, e: usize) -> usize
-    ensures { result ≡ pick (eqb f.layout 2) (pick (eqb e f.k) 1 0) 0 }
-{
-    if f.layout != 2 {
-        return 0;
-    }
-    if e as u64 != f.k {
-        return 0;
-    }
-    1
-}
-
-// The tag of that pair, if there is one, behind `sent` data buckets.
-fn first_tag(text: &[u8], f: Figures, source: Source, sent: u64, pairs: usize) -> u64
-    requires ready { Ready f }
-    requires text_fits { TextFits f source (length text.now) }
-    requires sent_bound { sent < max 1 f.d }
-    ensures { (pairs ≡ 0 → ⊥) → result ≡ tag_or0 (last_of (plan_in f source text.now) sent) }
-{
-    if pairs == 0 {
-        return 0;
-    }
-    last_sent_tag(text, f, source, sent)
-}
-
-// The tags of the pairs of the path bucket of level i before bucket b of level r + 1, the first one's given.
-fn pair_tags(
+// The control pairs of a bucket of height e in a segment's tree, at x: the root of layout 2 has one.
+fn tree_pairs(
     text: &[u8],
     f: Figures,
     source: Source,
-    b: u64,
-    i: u64,
-    first: u64,
-) -> [u64; Bucket::PAIRS_MOST]
-    requires { Ready f × TextFits f source (length text.now) × (1 ≤ f.d) × (f.layout ≡ 1) × (1 ≤ i) × (i ≤ f.copies)
-        × InTree f (f.k - f.copies) b }
-    ensures { result ≡ filled pairs_most (pair_tags (plan_in f source text.now) b i first) }
+    s: Segment,
+    e: usize,
+    x: u64,
+) -> ArrayVec<Pair, 4>
+    requires ready { Ready f }
+    requires text_fits { TextFits f source (length text.now) }
+    requires sent_bound { s.first < max 1 f.d }
+    requires x_in_bounds { x < f.size }
+    ensures { result.items ≡ tree_pairs (plan_in f source text.now) s.first (f.size - x) e }
 {
-    let mut tags = [first, 0, 0, 0];
-    let mut level = 2;
-    while level <= i {
-        let h = (f.copies + 1 - level) as usize;
-        let e = (f.k + 1 - level) as usize;
-        let at = (level - 1) as usize;
-        tags[at] = largest_tag(text, f, source, e, b / power(f.n, h));
-        level += 1;
+    let mut pairs = ArrayVec::new();
+    if f.layout == 2 && e as u64 == f.k {
+        pairs.push(Pair {
+            tag: last_sent_tag(text, f, source, s.first),
+            distance: f.size - x,
+        });
     }
-    tags
+    pairs
 }
 
 // The distance of pair number level of a path bucket at x, over bucket `place` of that level.
@@ -165,20 +140,38 @@ fn pair_distance(f: Figures, level: u64, place: u64, x: u64) -> u64
     f.size - x
 }
 
-// The distances of the pairs of the path bucket of level i before bucket b of level r + 1, at x.
-fn pair_distances(f: Figures, b: u64, i: u64, x: u64) -> [u64; Bucket::PAIRS_MOST]
-    requires { Ready f × (1 ≤ f.d) × (x < f.size) × OnPath (plan_of f []) b i x }
-    ensures { result ≡ filled pairs_most (pair_distances (plan_of f []) f.size x b i) }
+// The control pairs of the path bucket of level i of a segment, at x.
+fn path_pairs(
+    text: &[u8],
+    f: Figures,
+    source: Source,
+    s: Segment,
+    i: u64,
+    x: u64,
+) -> ArrayVec<Pair, 4>
+    requires ready { Ready f }
+    requires text_fits { TextFits f source (length text.now) }
+    requires some_data { 1 ≤ f.d }
+    requires sent_bound { s.first < max 1 f.d }
+    requires x_in_bounds { x < f.size }
+    requires on_path { OnPath (plan_of f []) s.number i x }
+    ensures { result.items ≡ path_pairs f source text.now s i x }
 {
-    let mut distances = [f.size - x, 0, 0, 0];
-    let mut level = 2;
-    while level <= i {
+    let mut pairs = ArrayVec::new();
+    pairs.push(Pair {
+        tag: last_sent_tag(text, f, source, s.first),
+        distance: f.size - x,
+    });
+    for level in 2..i + 1 {
         let h = (f.copies + 1 - level) as usize;
-        let at = (level - 1) as usize;
-        distances[at] = pair_distance(f, level, b / power(f.n, h), x);
-        level += 1;
+        let e = (f.k + 1 - level) as usize;
+        let place = s.number / power(f.n, h);
+        pairs.push(Pair {
+            tag: Some(largest_tag(text, f, source, e, place)),
+            distance: pair_distance(f, level, place, x),
+        });
     }
-    distances
+    pairs
 }
 
 // The head of the bucket at x of a segment.
@@ -227,7 +220,7 @@ fn put_entries(
 }
 
 // An index bucket of a segment, bucket j of height e, at x: its head, the control pairs given, and its `count` entries.
-fn print_index_bucket<'a>(
+fn print_index_bucket(
     part: &mut [u8],
     text: &[u8],
     plain: bool,
@@ -238,33 +231,20 @@ fn print_index_bucket<'a>(
     j: u64,
     x: u64,
     count: usize,
-    pairs: usize,
-    tags: &'a [u64],
-    distances: &'a [u64],
+    pairs: &[Pair],
 )
     requires part_len { length part.old ≡ bucket_length }
     requires printing { Printing f source text.now plain s }
     requires index_place { IndexPlace f s e j x }
     requires count_value { count ≡ length (children (plan_of f []) (f.k + 1 - e) j) }
     requires start_le_x { (s.start ≤ x) × (x < s.end) }
-    requires pairs_le_pairs_most { (pairs ≤ pairs_most) × (pairs ≤ length tags.now) × (pairs ≤ length distances.now) }
+    requires pairs_le_pairs_most { length pairs.now ≤ pairs_most }
     ensures { part.new ≡
         put
-        (padded bucket_end
-        (index_front (head_of (cycle_bucket (plan_of f []) x))
-        (pairs_of (eqb s.first 0) (take pairs (entries_of tags.now distances.now))) count)
-        ++ newline ∷ [])
+        (padded bucket_end (index_front (head_of (cycle_bucket (plan_of f []) x)) pairs.now count) ++ newline ∷ [])
         entries_start (joined print_entry (child_entries f source text.now e j x count)) }
 {
-    start_index(
-        part,
-        head_at(f, s, x),
-        s.first == 0,
-        pairs,
-        tags,
-        distances,
-        count,
-    );
+    start_index(part, head_at(f, s, x), pairs, count);
     put_entries(part, text, plain, f, source, s, e, j, x, count);
 }
 
@@ -287,11 +267,19 @@ pub fn print_tree_bucket(
     requires count_value { count ≡ length (children (plan_of f []) (f.k + 1 - e) j) }
     ensures { part.new ≡ print_bucket (cycle_bucket (plan_in f source text.now) x) }
 {
-    let pairs = tree_pairs(f, e);
-    let tags = [first_tag(text, f, source, s.first, pairs)];
-    let distances = [f.size - x];
+    let pairs = tree_pairs(text, f, source, s, e, x);
     print_index_bucket(
-        part, text, plain, f, source, s, e, j, x, count, pairs, &tags, &distances,
+        part,
+        text,
+        plain,
+        f,
+        source,
+        s,
+        e,
+        j,
+        x,
+        count,
+        pairs.as_slice(),
     );
 }
 
@@ -311,15 +299,22 @@ pub fn print_path_bucket(
     requires path_place { PathPlace f s i x }
     ensures { part.new ≡ print_bucket (cycle_bucket (plan_in f source text.now) x) }
 {
-    let b = s.number;
     let h = (f.copies + 1 - i) as usize;
     let e = (f.k + 1 - i) as usize;
-    let j = b / power(f.n, h);
+    let j = s.number / power(f.n, h);
     let count = child_count(f, e, j);
-    let first = last_sent_tag(text, f, source, s.first);
-    let tags = pair_tags(text, f, source, b, i, first);
-    let distances = pair_distances(f, b, i, x);
+    let pairs = path_pairs(text, f, source, s, i, x);
     print_index_bucket(
-        part, text, plain, f, source, s, e, j, x, count, i as usize, &tags, &distances,
+        part,
+        text,
+        plain,
+        f,
+        source,
+        s,
+        e,
+        j,
+        x,
+        count,
+        pairs.as_slice(),
     );
 }

@@ -18,25 +18,13 @@ use super::segments::{segment_count, segment_of};
 use super::{BUCKET, Figures, LINE, Reason, Refusal, Segment, Settings, Source};
 use buckets::lines::{copy_lines, spelled_tag};
 use buckets::reader::read_bucket;
-use buckets::{Bucket, Head, Kind, Line};
+use buckets::{Bucket, Contents, Line};
 
 // The columns of a bucket before its lines.
 const LINES: u64 = Bucket::LINES as u64;
 
 // The most buckets of an image.
 const BUCKETS_MOST: usize = Bucket::BUCKETS_MOST as usize;
-
-fn same_head(a: Head, b: Head) -> bool
-    ensures { Decides (a ≡ b) result }
-{
-    if a.position != b.position {
-        return false;
-    }
-    if a.to_cycle != b.to_cycle {
-        return false;
-    }
-    a.to_segment == b.to_segment
-}
 
 // Whether two columns are the same and those before them are.
 fn still_same(before: bool, a: u8, b: u8) -> bool
@@ -190,24 +178,21 @@ fn is_data(image: &[u8], f: Figures, s: Segment, q: u64, x: u64) -> bool
 {
     let at = (BUCKET * x) as usize;
     let to = at + Bucket::LENGTH;
-    let r = read_bucket(&image[at..to]);
-    let kind = r.kind;
-    match kind {
-        Kind::Index => false,
-        Kind::Misprinted => false,
-        Kind::Data => {
-            let head = r.head;
-            if !same_head(head, head_at(f, s, x)) {
-                return false;
-            }
-            let from = q * f.p;
-            if r.lines as u64 != lesser(f.p, f.lines - from) {
-                return false;
-            }
-            let i = r.lines - 1;
-            is_followed(image, f, s, q, x, r.tags[i], r.follow_on)
-        }
+    let Some(reading) = read_bucket(&image[at..to]) else {
+        return false;
+    };
+    let head = reading.head;
+    let Contents::Data { follow_on, tags } = reading.contents else {
+        return false;
+    };
+    if head != head_at(f, s, x) {
+        return false;
     }
+    let tags = tags.as_slice();
+    if tags.len() as u64 != lesser(f.p, f.lines - q * f.p) {
+        return false;
+    }
+    is_followed(image, f, s, q, x, tags[tags.len() - 1], follow_on)
 }
 
 // Whether the data buckets of a segment stand in their places.

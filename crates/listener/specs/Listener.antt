@@ -5,7 +5,9 @@ use Rattle.std.specs.Prelude.{ℕ, suc, ◌+◌, min, Bool, true, false, ◌&&�
 use Rattle.std.specs.Prelude.{Option, None, Some}
 use Rattle.columns.specs.Lists.{pick, only, last_or}
 use Rattle.buckets.specs.declared.Line.{Line}
-use Rattle.buckets.specs.Bucket.{Pair, Entry, Body, index_body, data_body, Bucket, cycle_length, read_bucket}
+use Rattle.buckets.specs.declared.Pair.{Pair}
+use Rattle.buckets.specs.declared.Entry.{Entry}
+use Rattle.buckets.specs.Bucket.{Body, index_body, data_body, Bucket, cycle_length, read_bucket}
 use Rattle.buckets.specs.BucketLines.{lines_read}
 use Rattle.cycle.specs.Refusals.{number}
 use Rattle.cycle.specs.declared.Reason.{Reason}

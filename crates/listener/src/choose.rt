@@ -1,91 +1,94 @@
 // What a listener chooses from a bucket: distances of control pairs and entries, and lines.
-ghost use Rattle.std.specs.Prelude.{◌≡◌, ◌≤◌, drop, length};
-ghost use Rattle.buckets.specs.Lengths.{pairs_most, entries_most, bucket_lines_most};
-ghost use Rattle.listener.specs.Listener.{before, matching};
-ghost use Rattle.listener.specs.Inner.OnReading.{SoundIndex, held, pairs_held, chosen, below, reached, first_chosen, tagged_lines};
+ghost use Rattle.std.specs.Prelude.{◌≡◌, ◌≤◌, leb, drop, length};
+ghost use Rattle.buckets.specs.Lengths.{bucket_lines_most};
+ghost use Rattle.listener.specs.Listener.{tag_below, before, matching};
+ghost use Rattle.listener.specs.Inner.OnReading.{chosen, first_chosen, tagged_lines};
 
-use buckets::IndexItems;
+use buckets::{Entry, Pair};
 
-// The distance of the first control pair if its tag is printed and ours is at most it, else 0.
-pub fn first_pair(tag: u64, x: IndexItems) -> u64
-    requires { SoundIndex x }
-    ensures { result ≡ first_chosen tag x.blank (pairs_held x) }
+// The distance of the first control pair if its tag is printed and ours is at most it.
+pub fn first_pair(tag: u64, pairs: &[Pair]) -> Option<u64>
+    ensures { result ≡ first_chosen tag pairs.now }
 {
-    if x.pairs == 0 {
-        return 0;
+    if pairs.is_empty() {
+        return None;
     }
-    if x.blank {
-        return 0;
+    let first = pairs[0];
+    match first.tag {
+        Some(own) if tag <= own => Some(first.distance),
+        _ => None,
     }
-    if x.pair_tags[0] < tag {
-        return 0;
-    }
-    x.pair_distances[0]
 }
 
-// The distance of the first of count control pairs, behind the first one, whose tag is below ours, 0 if there is none.
-pub fn pair_below(tag: u64, count: usize, tags: [u64; 4], distances: [u64; 4]) -> u64
-    requires { count ≤ pairs_most }
-    ensures { result ≡ chosen (below tag) (drop 1 (held count tags distances)) }
+// Whether a control pair's tag is printed and below ours.
+fn is_below(pair: Pair, tag: u64) -> bool
+    ensures { result ≡ tag_below pair.tag tag }
+{
+    match pair.tag {
+        Some(own) => own < tag,
+        None => false,
+    }
+}
+
+// The distance of the first control pair behind the first one whose tag is below ours.
+pub fn pair_below(tag: u64, pairs: &[Pair]) -> Option<u64>
+    ensures { result ≡ chosen (λ p. tag_below p.tag tag) (λ p. p.distance) (drop 1 pairs.now) }
 {
     let mut i = 1;
     let distance = loop {
-        if count <= i {
-            break 0;
+        if pairs.len() <= i {
+            break None;
         }
-        if tags[i] < tag {
-            break distances[i];
+        let pair = pairs[i];
+        if is_below(pair, tag) {
+            break Some(pair.distance);
         }
         i += 1;
     };
     distance
 }
 
-// The distance of the first of count entries whose tag is at least ours, 0 if there is none.
-pub fn entry_from(tag: u64, count: usize, tags: [u64; 8], distances: [u64; 8]) -> u64
-    requires { count ≤ entries_most }
-    ensures { result ≡ chosen (reached tag) (held count tags distances) }
+// The distance of the first entry whose tag is at least ours.
+pub fn entry_from(tag: u64, entries: &[Entry]) -> Option<u64>
+    ensures { result ≡ chosen (λ e. leb tag e.tag) (λ e. e.distance) entries.now }
 {
     let mut i = 0;
     let distance = loop {
-        if count <= i {
-            break 0;
+        if entries.len() <= i {
+            break None;
         }
-        if tag <= tags[i] {
-            break distances[i];
+        let entry = entries[i];
+        if tag <= entry.tag {
+            break Some(entry.distance);
         }
         i += 1;
     };
     distance
 }
 
-// How many of the first count lines come before the first one of our tag.
-pub fn lines_before(tag: u64, count: usize, tags: [u64; 8]) -> u64
-    requires { count ≤ bucket_lines_most }
-    ensures { result ≡ before tag (tagged_lines count tags) }
+// How many lines come before the first one of our tag.
+pub fn lines_before(tag: u64, tags: &[u64]) -> u64
+    requires { length tags.now ≤ bucket_lines_most }
+    ensures { result ≡ before tag (tagged_lines tags.now) }
 {
-    let mut i = 0;
-    while i < count {
-        if tags[i] == tag {
+    for (i, own) in tags.iter().enumerate() {
+        if *own == tag {
             return i as u64;
         }
-        i += 1;
     }
-    i as u64
+    tags.len() as u64
 }
 
-// How many of the first count lines are of our tag.
-pub fn lines_matching(tag: u64, count: usize, tags: [u64; 8]) -> u64
-    requires { count ≤ bucket_lines_most }
-    ensures { result ≡ length (matching tag (tagged_lines count tags)) }
+// How many lines are of our tag.
+pub fn lines_matching(tag: u64, tags: &[u64]) -> u64
+    requires { length tags.now ≤ bucket_lines_most }
+    ensures { result ≡ length (matching tag (tagged_lines tags.now)) }
 {
     let mut found = 0;
-    let mut i = 0;
-    while i < count {
-        if tags[i] == tag {
+    for own in tags {
+        if *own == tag {
             found += 1;
         }
-        i += 1;
     }
     found
 }

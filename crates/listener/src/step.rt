@@ -1,16 +1,17 @@
 // A listener's start, its step and its lost bucket: document 01, "The listener", with document 02, C-12 and C-16.
-ghost use Rattle.std.specs.Prelude.{◌≡◌, List, ℕ, ◌+◌, ◌≤◌};
+ghost use Rattle.std.specs.Prelude.{◌≡◌, List, ℕ, ◌+◌, ◌≤◌, length};
+ghost use Rattle.std.specs.Option.{option_map};
 ghost use Rattle.buckets.specs.Lengths.{buckets_most, bucket_lines_most};
-ghost use Rattle.buckets.specs.Bucket.{Body, data_body, read_bucket};
-ghost use Rattle.buckets.specs.Inner.Held.{bucket_with, index_of, as_reading};
+ghost use Rattle.buckets.specs.Bucket.{Body, index_body, data_body, read_bucket};
+ghost use Rattle.buckets.specs.Inner.Held.{bucket_with, reading_of};
 ghost use Rattle.listener.specs.Listener.{start, is_ended, is_index, stopped, ended, stepped, refused, refused_ended};
-ghost use Rattle.listener.specs.Listener.{heard_with, elapsed_with, due_at, awaited, due_with, passed_with, dozing, dozes, decided, body_choice, data_choice};
+ghost use Rattle.listener.specs.Listener.{heard_with, elapsed_with, due_at, awaited, due_with, passed_with, dozing, dozes, decided, index_choice, data_choice};
 ghost use Rattle.listener.specs.Listener.{heed, heed_read, step, starts_over, lost, step_numbers};
 ghost use Rattle.listener.specs.declared.Answer.TheVariants.{Doze};
-ghost use Rattle.listener.specs.Inner.OnReading.{is_tune_in, SoundHead, SoundIndex, WasRead, tagged_lines};
+ghost use Rattle.listener.specs.Inner.OnReading.{is_tune_in, SoundHead, Near, WasRead, tagged_lines};
 
 use super::{Answer, Listener, Phase, Stepped, choose};
-use buckets::{Bucket, Head, IndexItems, Kind, Line, Reading, reader};
+use buckets::{Bucket, Contents, Entry, Head, Line, Pair, Reading, reader};
 use cycle::Reason;
 
 // Where a listener's counts stop.
@@ -228,58 +229,48 @@ impl Listener {
     }
 
     // An index bucket: the first pair, else a later pair, else an entry, else absent.
-    fn index_step(self, h: Head, x: IndexItems) -> Stepped
+    fn index_step(self, h: Head, pairs: &[Pair], entries: &[Entry]) -> Stepped
         requires sound_head { SoundHead h }
-        requires sound_index { SoundIndex x }
-        ensures { result ≡ decided self (bucket_with h (index_of x)) (body_choice self.tag (index_of x)) }
+        requires near { Near pairs.now entries.now }
+        ensures { result ≡
+            decided self (bucket_with h (index_body pairs.now entries.now)) (index_choice self.tag pairs.now entries.now) }
     {
-        let first = choose::first_pair(self.tag, x);
-        if first != 0 {
+        if let Some(first) = choose::first_pair(self.tag, pairs) {
             return self.doze_by(h, first, Phase::Index, 0, 0);
         }
-        let pair_tags = x.pair_tags;
-        let pair_distances = x.pair_distances;
-        let later = choose::pair_below(self.tag, x.pairs, pair_tags, pair_distances);
-        if later != 0 {
+        if let Some(later) = choose::pair_below(self.tag, pairs) {
             return self.doze_by(h, later, Phase::Index, 0, 0);
         }
-        let entry_tags = x.entry_tags;
-        let entry_distances = x.entry_distances;
-        let entry = choose::entry_from(self.tag, x.entries, entry_tags, entry_distances);
-        if entry != 0 {
-            return self.doze_by(h, entry, Phase::Either, 0, 0);
+        match choose::entry_from(self.tag, entries) {
+            Some(distance) => self.doze_by(h, distance, Phase::Either, 0, 0),
+            None => self.end_by(Answer::Absent, 0, 0),
         }
-        self.end_by(Answer::Absent, 0, 0)
     }
 
     // A data bucket: the lines of our tag, and whether the next data bucket may have more.
-    fn data_step(self, h: Head, follow_on: u64, count: usize, tags: [u64; 8]) -> Stepped
+    fn data_step(self, h: Head, follow_on: u64, tags: &[u64]) -> Stepped
         requires sound_head { SoundHead h }
-        requires follow_on_le_buckets_most { (follow_on ≤ buckets_most) × (count ≤ bucket_lines_most) }
+        requires follow_on_le_buckets_most { (follow_on ≤ buckets_most) × (length tags.now ≤ bucket_lines_most) }
         ensures { result ≡
-            decided self (bucket_with h (data_body follow_on (tagged_lines count tags)))
-            (data_choice self.tag follow_on (tagged_lines count tags)) }
+            decided self (bucket_with h (data_body follow_on (tagged_lines tags.now)))
+            (data_choice self.tag follow_on (tagged_lines tags.now)) }
     {
-        let matching = choose::lines_matching(self.tag, count, tags);
+        let matching = choose::lines_matching(self.tag, tags);
         if matching == 0 {
             return self.end_by(Answer::Absent, 0, 0);
         }
-        let first = choose::lines_before(self.tag, count, tags);
-        let last = count - 1;
-        if tags[last] != self.tag {
-            return self.end_by(Answer::Found, first, matching);
-        }
-        if follow_on == 0 {
+        let first = choose::lines_before(self.tag, tags);
+        if follow_on == 0 || tags[tags.len() - 1] != self.tag {
             return self.end_by(Answer::Found, first, matching);
         }
         self.doze_by(h, follow_on, Phase::Data, first, matching)
     }
 
     // An index bucket that was read: 9, the tune-in, or its choice.
-    fn take_index(self, h: Head, x: IndexItems) -> Stepped
+    fn take_index(self, h: Head, pairs: &[Pair], entries: &[Entry]) -> Stepped
         requires sound_head { SoundHead h }
-        requires sound_index { SoundIndex x }
-        ensures { result ≡ heed self (bucket_with h (index_of x)) }
+        requires near { Near pairs.now entries.now }
+        ensures { result ≡ heed self (bucket_with h (index_body pairs.now entries.now)) }
     {
         if !self.awaits(true, h) {
             return self.refused(Reason::NotAwaited);
@@ -288,14 +279,14 @@ impl Listener {
         if is_tune_in(phase) {
             return self.doze_by(h, h.to_segment, Phase::Index, 0, 0);
         }
-        self.index_step(h, x)
+        self.index_step(h, pairs, entries)
     }
 
     // A data bucket that was read: 9, the tune-in, or its choice.
-    fn take_data(self, h: Head, follow_on: u64, count: usize, tags: [u64; 8]) -> Stepped
+    fn take_data(self, h: Head, follow_on: u64, tags: &[u64]) -> Stepped
         requires sound_head { SoundHead h }
-        requires follow_on_le_buckets_most { (follow_on ≤ buckets_most) × (count ≤ bucket_lines_most) }
-        ensures { result ≡ heed self (bucket_with h (data_body follow_on (tagged_lines count tags))) }
+        requires follow_on_le_buckets_most { (follow_on ≤ buckets_most) × (length tags.now ≤ bucket_lines_most) }
+        ensures { result ≡ heed self (bucket_with h (data_body follow_on (tagged_lines tags.now))) }
     {
         if !self.awaits(false, h) {
             return self.refused(Reason::NotAwaited);
@@ -304,26 +295,23 @@ impl Listener {
         if is_tune_in(phase) {
             return self.doze_by(h, h.to_segment, Phase::Index, 0, 0);
         }
-        self.data_step(h, follow_on, count, tags)
+        self.data_step(h, follow_on, tags)
     }
 
     // What was read: 8, or the bucket of its kind.
-    fn take_reading(self, r: Reading) -> Stepped
+    fn take_reading(self, r: Option<Reading>) -> Stepped
         requires { WasRead r }
-        ensures { (bytes : List ℕ) → r ≡ as_reading (read_bucket bytes) → result ≡ heed_read self (read_bucket bytes) }
+        ensures { (bytes : List ℕ) → r ≡ option_map reading_of (read_bucket bytes) → result ≡ heed_read self (read_bucket bytes) }
     {
-        let kind = r.kind;
-        let head = r.head;
-        match kind {
-            Kind::Index => {
-                let index = r.index;
-                self.take_index(head, index)
+        let Some(reading) = r else {
+            return self.refused(Reason::BucketMisprinted);
+        };
+        let head = reading.head;
+        match reading.contents {
+            Contents::Index { pairs, entries } => {
+                self.take_index(head, pairs.as_slice(), entries.as_slice())
             }
-            Kind::Data => {
-                let tags = r.tags;
-                self.take_data(head, r.follow_on, r.lines, tags)
-            }
-            Kind::Misprinted => self.refused(Reason::BucketMisprinted),
+            Contents::Data { follow_on, tags } => self.take_data(head, follow_on, tags.as_slice()),
         }
     }
 

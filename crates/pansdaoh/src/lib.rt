@@ -20,7 +20,7 @@ ghost use Rattle.listener.specs.Mean;
 ghost use Rattle.listener.specs.State.{saved, restored};
 ghost use Rattle.pansdaoh.specs.Calls.{count_answer, built_answer, read_back_answer, looked_answer, step_answer, step_from, lost_from, was_ended, state_after, line_answer, size_answer, change_answer, mean_answer};
 
-use buckets::{BucketLine, bucket_line};
+use buckets::{Line, Misprinted, bucket_line};
 use cycle::{Counts, Dimensions, Reason, Refusal, Settings, build, changes, read_back, size};
 use listener::{Listener, Looked, MeanWait, Stepped, lookup, mean};
 
@@ -207,12 +207,12 @@ fn hand_back(state: &mut [u64; 8], r: Stepped) -> StepAnswer
 }
 
 // A bucket's line as numbers.
-impl From<BucketLine> for LineAnswer {
+impl From<Result<Option<Line>, Misprinted>> for LineAnswer {
     ghost from_gives = { λ told answer. answer ≡ line_answer (BucketLines.numbers told) };
 
-    fn from(told: BucketLine) -> LineAnswer {
+    fn from(told: Result<Option<Line>, Misprinted>) -> LineAnswer {
         match told {
-            BucketLine::Line(line) => LineAnswer {
+            Ok(Some(line)) => LineAnswer {
                 number: 0,
                 place: 0,
                 present: 1,
@@ -221,8 +221,8 @@ impl From<BucketLine> for LineAnswer {
                 code: line.code,
                 weighing: line.weighing,
             },
-            BucketLine::Nothing => no_line(0),
-            BucketLine::Misprinted => no_line(8),
+            Ok(None) => no_line(0),
+            Err(Misprinted) => no_line(Reason::BucketMisprinted as u64),
         }
     }
 }

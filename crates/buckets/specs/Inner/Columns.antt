@@ -5,11 +5,14 @@ use Rattle.std.specs.Prelude.{ℕ, zero, suc, ◌-◌, ◌*◌, ◌≡◌, ◌&&
 use Rattle.std.specs.Prelude.{Option, None, Some}
 use Rattle.columns.specs.Lists.{pick, joined, strict}
 use Rattle.columns.specs.PrintedNumbers.{all_blank, read_number, blank_zeros}
+use Rattle.columns.specs.declared.Place.{Place}
 use Rattle.columns.specs.Inner.Places.{places}
 use Rattle.buckets.specs.declared.Line.{Line}
 use Rattle.buckets.specs.declared.Head.{Head}
 use Rattle.buckets.specs.ListLine.{fits, print_line, spelled, line_fields, list_lines}
-use Rattle.buckets.specs.Bucket.{Pair, Entry, index_body, data_body, Bucket, columns}
+use Rattle.buckets.specs.declared.Pair.{Pair}
+use Rattle.buckets.specs.declared.Entry.{Entry}
+use Rattle.buckets.specs.Bucket.{index_body, data_body, Bucket, columns}
 use Rattle.buckets.specs.Inner.Held.{printed_pair, bucket_with}
 use Rattle.buckets.specs.Lengths.{newline, letter_index, letter_data, tag_width, tare_width, code_width, weighing_width}
 use Rattle.buckets.specs.Lengths.{tag_start, tare_start, code_start, weighing_start, line_columns_width, tag_most, tare_most}
@@ -52,11 +55,11 @@ abbrev pub blanked_columns : List ℕ → List ℕ
 blanked_columns s = joined blank_zeros (line_fields s)
 
 -- the places of the columns behind a line's tag in their fields: tare, material code and weighing number
-abbrev pub rest_places : List ℕ
+abbrev pub rest_places : List Place
 rest_places = places (tare_width - 2) ++ (places (code_width - 2) ++ places (weighing_width - 2))
 
 -- those of all its columns
-abbrev pub line_places : List ℕ
+abbrev pub line_places : List Place
 line_places = places (tag_width - 2) ++ rest_places
 
 -- an entry's columns, its tag at least m, its distance at most n

@@ -1,117 +1,44 @@
--- How the code holds what "A list line" and "A bucket" describe: its structs and enums against those definitions.
+-- How the code holds what "A bucket" describes: its structs and enums against those definitions.
 -- Assumes nothing.
-use Rattle.std.specs.Prelude.{◌≡◌, ℕ, ◌+◌, ◌-◌, ◌*◌, ◌<◌, Bool, true, false, List, [], ◌∷◌, ◌++◌, map, length, take, drop, replicate}
-use Rattle.std.specs.Prelude.{Option, None, Some}
-use Rattle.columns.specs.Lists.{pick, joined, padded}
+use Rattle.std.specs.Prelude.{◌≡◌, ℕ, ◌+◌, ◌*◌, ◌<◌, List, ◌++◌, map, length, take, drop}
+use Rattle.std.specs.Prelude.{Some}
+use Rattle.arrayvec.specs.ArrayVec.{ArrayVec}
+use Rattle.columns.specs.Lists.{joined, padded}
 use Rattle.columns.specs.PrintedNumbers.{blanks}
 use Rattle.buckets.specs.declared.Line.{Line}
-use Rattle.buckets.specs.declared.LineRead.{LineRead}
-use Rattle.buckets.specs.declared.LineRead.TheVariants.{Read, Misprinted as LineMisprinted}
 use Rattle.buckets.specs.declared.Head.{Head}
-use Rattle.buckets.specs.declared.IndexItems.{IndexItems}
-use Rattle.buckets.specs.declared.Kind.TheVariants.{Index as KindIndex, Data as KindData, Misprinted as KindMisprinted}
+use Rattle.buckets.specs.declared.Contents.{Contents}
+use Rattle.buckets.specs.declared.Contents.TheVariants.{Index, Data}
 use Rattle.buckets.specs.declared.Reading.{Reading}
-use Rattle.buckets.specs.Bucket.{Pair, Entry, Body, index_body, data_body, Bucket, head_columns, print_pair}
-use Rattle.buckets.specs.Lengths.{letter_index, place_width, distance_start, entry_width, pairs_width, entries_start}
-use Rattle.buckets.specs.Lengths.{pairs_most, entries_most, bucket_lines_most}
-
--- a reading of a line as the code answers it
-abbrev pub as_line_read : Option Line → LineRead
-as_line_read None = LineMisprinted
-as_line_read (Some l) = Read l
-
--- the tag alone of a line that was read, the largest number of 64 bits where none was
-abbrev pub tag_or_misprint : Option Line → ℕ
-tag_or_misprint None = 18446744073709551615
-tag_or_misprint (Some l) = l.tag
-
--- ---- from the structs
-
-abbrev pub entries_of : List ℕ → List ℕ → List Entry
-entries_of [] ds = []
-entries_of (t ∷ ts) [] = []
-entries_of (t ∷ ts) (d ∷ ds) = record { tag = t; distance = d } ∷ entries_of ts ds
+use Rattle.buckets.specs.declared.Pair.{Pair}
+use Rattle.buckets.specs.declared.Entry.{Entry}
+use Rattle.buckets.specs.Bucket.{Body, index_body, data_body, Bucket, head_columns, print_pair}
+use Rattle.buckets.specs.Lengths.{letter_index, place_width, distance_start, entry_width, pairs_width, entries_start, entries_most}
 
 abbrev pub printed_pair : Entry → Pair
 printed_pair e = record { tag = Some e.tag; distance = e.distance }
 
--- pairs with their tags; the first one's tag is blank where the flag says so
-abbrev pub pairs_of : Bool → List Entry → List Pair
-pairs_of blank [] = []
-pairs_of blank (e ∷ es) =
-    record { tag = pick blank None (Some e.tag); distance = e.distance } ∷ map printed_pair es
-
-unfoldable pub index_of : IndexItems → Body
-index_of x =
-    index_body
-    (pairs_of x.blank (take x.pairs (entries_of x.pair_tags x.pair_distances)))
-    (take x.entries (entries_of x.entry_tags x.entry_distances))
-
 unfoldable pub bucket_with : Head → Body → Bucket
 bucket_with h b = record { position = h.position; to_cycle = h.to_cycle; to_segment = h.to_segment; body = b }
-
--- ---- to the structs
-
--- xs in an array of w, the unused places 0
-unfoldable pub filled : ℕ → List ℕ → List ℕ
-filled w xs = xs ++ replicate (w - length xs) 0
-
-abbrev pub tag_or0 : Option ℕ → ℕ
-tag_or0 None = 0
-tag_or0 (Some t) = t
-
-abbrev pub first_blank : List Pair → Bool
-first_blank [] = false
-first_blank (p ∷ ps) = blank_tag p.tag
-  where
-    blank_tag : Option ℕ → Bool
-    blank_tag None = true
-    blank_tag (Some t) = false
-
-unfoldable pub held_index : List Pair → List Entry → IndexItems
-held_index ps es =
-    record {
-      pairs = length ps;
-      blank = first_blank ps;
-      pair_tags = filled pairs_most (map (λ p. tag_or0 p.tag) ps);
-      pair_distances = filled pairs_most (map (λ p. p.distance) ps);
-      entries = length es;
-      entry_tags = filled entries_most (map (λ e. e.tag) es);
-      entry_distances = filled entries_most (map (λ e. e.distance) es);
-    }
 
 unfoldable pub head_of : Bucket → Head
 head_of b = record { position = b.position; to_cycle = b.to_cycle; to_segment = b.to_segment }
 
-unfoldable pub no_head : Head
-no_head = record { position = 0; to_cycle = 0; to_segment = 0 }
+-- ---- a bucket that was read
 
-abbrev pub held_body : Head → Body → Reading
-held_body h (index_body ps es) =
-    record
-    { kind = KindIndex; head = h; follow_on = 0; index = held_index ps es; lines = 0; tags = replicate bucket_lines_most 0 }
-held_body h (data_body f ls) =
-    record {
-      kind = KindData;
-      head = h;
-      follow_on = f;
-      index = held_index [] [];
-      lines = length ls;
-      tags = filled bucket_lines_most (map (λ l. l.tag) ls);
-    }
+abbrev pub vector : {A : Type 0} → List A → ArrayVec A
+vector xs = record { items = xs }
 
--- a strict reading of a bucket as the code answers it
-abbrev pub as_reading : Option Bucket → Reading
-as_reading None =
-    record {
-      kind = KindMisprinted;
-      head = no_head;
-      follow_on = 0;
-      index = held_index [] [];
-      lines = 0;
-      tags = replicate bucket_lines_most 0;
-    }
-as_reading (Some b) = held_body (head_of b) b.body
+-- lines by their tags
+abbrev pub tags_held : List Line → ArrayVec ℕ
+tags_held ls = vector (map (λ l. l.tag) ls)
+
+abbrev pub contents_of : Body → Contents
+contents_of (index_body ps es) = Index (vector ps) (vector es)
+contents_of (data_body f ls) = Data f (tags_held ls)
+
+unfoldable pub reading_of : Bucket → Reading
+reading_of b = record { head = head_of b; contents = contents_of b.body }
 
 -- ---- an index bucket while it is written
 

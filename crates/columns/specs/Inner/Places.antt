@@ -1,29 +1,32 @@
 -- Numbers in fields one behind the other, told column by column: printed ones, and those of a list line, which may have leading
--- zeros. The places of a column in its field are 1 for the first, 2 for the last and 0 for one between them. That the columns of
--- a field hold such a number exactly if each of them passes is a law.
+-- zeros. That the columns of a field hold such a number exactly if each of them passes is a law.
 -- Assumes nothing.
 use Rattle.std.specs.Prelude.{ℕ, Bool, true, false, not, ◌&&◌, ◌||◌, List, [], ◌∷◌, ◌++◌, replicate, ◌==◌}
 use Rattle.columns.specs.Lists.{pick}
 use Rattle.columns.specs.PrintedNumbers.{digit}
+use Rattle.columns.specs.declared.Place.{Place}
+use Rattle.columns.specs.declared.Place.TheVariants.{First, Between, Last}
 
 -- the places of the columns of a field of w + 2 columns
-abbrev pub places : ℕ → List ℕ
-places w = 1 ∷ (replicate w 0 ++ 2 ∷ [])
+abbrev pub places : ℕ → List Place
+places w = First ∷ (replicate w Between ++ Last ∷ [])
 
 -- no column of the field is used before this one, and it is not the last
-unfoldable pub leading : ℕ → ℕ → Bool
-leading place before = (before == 32 || place == 1) && not (place == 2)
+abbrev pub leading : Place → ℕ → Bool
+leading First before = true
+leading Between before = before == 32
+leading Last before = false
 
 -- a column that is well printed behind the column before it
-unfoldable pub column_printed : ℕ → ℕ → ℕ → Bool
+unfoldable pub column_printed : Place → ℕ → ℕ → Bool
 column_printed place before c = pick (leading place before) (c == 32 || (digit c && not (c == 48))) (digit c)
 
 -- a column that may stand in a list line behind the column before it
-unfoldable pub column_digits : ℕ → ℕ → ℕ → Bool
+unfoldable pub column_digits : Place → ℕ → ℕ → Bool
 column_digits place before c = digit c || (c == 32 && leading place before)
 
 -- columns in these places, each of which passes the test
-abbrev pub columns_by : (ℕ → ℕ → ℕ → Bool) → List ℕ → ℕ → List ℕ → Bool
+abbrev pub columns_by : (Place → ℕ → ℕ → Bool) → List Place → ℕ → List ℕ → Bool
 columns_by test [] before s = true
 columns_by test (k ∷ ks) before [] = false
 columns_by test (k ∷ ks) before (c ∷ s) = test k before c && columns_by test ks c s

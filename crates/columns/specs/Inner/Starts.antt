@@ -2,8 +2,8 @@
 -- Assumes nothing.
 use Rattle.std.specs.Prelude.{◌≡◌, ℕ, ◌≤◌, List, length, slice_index_or}
 
--- the first column of s is used, or the only one; s has at most the columns of a tag
-pub record Starts (s : List ℕ) : Type 0 where
+-- the first column of s is used; s has at most the columns of a tag
+pub record IsUsed (s : List ℕ) : Type 0 where
   pub some : 1 ≤ length s
   pub most : length s ≤ 10
-  pub used : slice_index_or s 0 0 ≡ 32 → length s ≡ 1
+  pub used : slice_index_or s 0 0 ≡ 32 → ⊥

@@ -1,26 +1,24 @@
 -- An index bucket of the cycle, from its control pairs and its entries as the code has them.
---     first_is                    the first pair
 --     Prints, index_printed       entries put behind these pairs make the bucket, where pairs and distances are the bucket's
 -- Assumes nothing.
 use mathlib.Core.Path.{◌≡◌, refl, sym, ap, ap₂, subst, ◌∙◌}
 use Prim.Native.Nat.{ℕ, zero, suc, ◌+◌, ◌-◌, ◌*◌, ◌≤◌, ◌<◌}
 use native.Mathlib.Omega.{arith}
-use Rattle.std.specs.Prelude.{None, Some}
 use mathlib.Core.List.{List, [], ◌∷◌, ◌++◌, map}
-use lib.Dec.{eqb}
 use lib.ListN.{length}
-use borrow.Author.Tests.{ne_eqb}
-use Rattle.columns.specs.Lists.{pick, joined, span, padded, put}
+use Rattle.columns.specs.Lists.{joined, span, padded, put}
 use Rattle.buckets.specs.declared.Head.{Head}
 use Rattle.buckets.specs.declared.Line.{Line}
 use Rattle.buckets.specs.Lengths.{newline, entries_start, pairs_most, entries_most, bucket_end}
-use Rattle.buckets.specs.Bucket.{Pair, Entry, index_body, print_entry, print_bucket}
-use Rattle.buckets.specs.Inner.Held.{tag_or0, index_front, head_of, bucket_with}
+use Rattle.buckets.specs.declared.Pair.{Pair}
+use Rattle.buckets.specs.declared.Entry.{Entry}
+use Rattle.buckets.specs.Bucket.{index_body, print_entry, print_bucket}
+use Rattle.buckets.specs.Inner.Held.{index_front, head_of, bucket_with}
 use Rattle.buckets.proofs.Holding.{bucket_whole}
 use Rattle.buckets.proofs.EntriesPut.{all_put}
 use Rattle.cycle.specs.Tree.{Plan, children, largest_tag}
 use Rattle.cycle.specs.Layouts.{Slot, slot, slots}
-use Rattle.cycle.specs.Cycle.{to_next, first_pair, pairs, entry, entries, cycle_size}
+use Rattle.cycle.specs.Cycle.{to_next, pairs, entry, entries, cycle_size}
 use Rattle.cycle.specs.declared.Figures.{Figures}
 use Rattle.cycle.specs.declared.Source.{Source}
 use Rattle.cycle.specs.Inner.Held.{plan_of, InTree, Ready, lines_held, plan_in, last_of, last_sent_before, cycle_bucket, child_distance, child_entry, child_entries}
@@ -36,14 +34,6 @@ pub map_same :
 map_same f g a zero h = refl
 map_same f g a (suc c) h =
     ap₂ (λ y ys. y ∷ ys) (h a (omega arith) (omega arith)) (map_same f g (suc a) c (λ x u v. h x (omega arith) (omega arith)))
-
--- the first pair, as the code has its parts
-pub first_is :
-    (t : Plan) (sent tag d : ℕ) → tag ≡ tag_or0 (last_of t sent) →
-    record { tag = pick (eqb sent 0) None (Some tag); distance = d } ≡ first_pair (last_of t sent) d
-unfolding first_pair
-first_is t zero tag d e = refl
-first_is t (suc q) tag d e = rw (ne_eqb (suc q) 0 (λ z. omega arith)) (ap (λ (y : ℕ). record { tag = Some y; distance = d }) e)
 
 -- the entries of bucket j of height e put behind these pairs make the bucket at x
 abbrev pub Prints : Figures → Source → List ℕ → ℕ → ℕ → ℕ → List Pair → Type 0

@@ -10,7 +10,9 @@ use mathlib.Core.List.{List, [], ◌∷◌, ◌++◌, map}
 use lib.ListN.{length, length-map}
 use borrow.Author.Tests.{leb-true, le-leb, eqb-true, eq-eqb, ne_eqb}
 use Rattle.columns.specs.Lists.{pick, every, span, range}
-use Rattle.buckets.specs.Bucket.{Pair, Entry, printed_tag, pair_fits, entry_fits, rising}
+use Rattle.buckets.specs.declared.Pair.{Pair}
+use Rattle.buckets.specs.declared.Entry.{Entry}
+use Rattle.buckets.specs.Bucket.{printed_tag, pair_fits, entry_fits, rising}
 use Rattle.buckets.specs.Lengths.{pairs_most, entries_most}
 use Rattle.buckets.proofs.Good.{Reaches, fits_entry, fits_pair, GoodIndex}
 use Rattle.cycle.specs.Tree.{Plan, above, width, children}

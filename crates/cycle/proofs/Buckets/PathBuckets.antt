@@ -9,27 +9,23 @@ use Prim.Native.Nat.{ℕ, suc, ◌+◌, ◌-◌, ◌*◌, ◌≤◌, ◌<◌}
 use native.Mathlib.Nat.{eq-zero-or-pos}
 use native.Mathlib.Numerals.{add-one}
 use native.Mathlib.Omega.{arith}
-use Rattle.std.specs.Prelude.{Some}
+use Rattle.std.specs.Prelude.{Option, Some}
 use mathlib.Core.Bool.{Bool}
-use mathlib.Core.List.{List, [], ◌∷◌}
-use lib.Dec.{eqb}
-use lib.ListN.{length}
+use mathlib.Core.List.{List, [], ◌∷◌, map}
+use lib.ListN.{length, length-map}
 use borrow.Author.Tests.{eq-eqb, le-leb, lt-ltb}
 use Rattle.columns.specs.Lists.{joined, range}
 use Rattle.buckets.specs.declared.Line.{Line}
-use Rattle.buckets.specs.Bucket.{Pair}
-use Rattle.buckets.specs.Inner.Held.{filled, tag_or0}
+use Rattle.buckets.specs.declared.Pair.{Pair}
 use Rattle.buckets.specs.Lengths.{pairs_most}
-use Rattle.buckets.proofs.Holding.{pairs_filled}
-use Rattle.buckets.proofs.Pages.{pairs_from, few_from}
 use Rattle.cycle.specs.Tree.{Plan, width, above, largest_tag, levels_most}
 use Rattle.cycle.specs.Layouts.{Slot, slot, slots, path_top, distributed_segment}
-use Rattle.cycle.specs.Cycle.{to_next, has_pairs, later_pair, pairs}
+use Rattle.cycle.specs.Cycle.{to_next, has_pairs, first_pair, later_pair, pairs}
 use Rattle.cycle.specs.declared.Figures.{Figures}
 use Rattle.cycle.specs.declared.Segment.{Segment}
 use Rattle.cycle.specs.declared.Source.{Source}
 use Rattle.cycle.specs.Inner.Held.{plan_of, InTree, HoldsSegment, segment_slots, segment_count, lines_held, plan_in, last_of, last_sent_before, ahead_of}
-use Rattle.cycle.specs.Inner.Held.{child_distance, place_over, pair_reach, pair_tags, pair_distances, OnPath, PathPlace, IndexPlace, Printing}
+use Rattle.cycle.specs.Inner.Held.{child_distance, place_over, pair_reach, path_pair, path_pairs, OnPath, PathPlace, IndexPlace, Printing}
 use Rattle.cycle.proofs.Sequences.Sequence.{Sound}
 use Rattle.cycle.proofs.Basics.Ranges.{length_range}
 use Rattle.cycle.proofs.Trees.Readiness.{sound, one_level}
@@ -39,13 +35,13 @@ use Rattle.cycle.proofs.Segmenting.HeldBlocks.{block_slots}
 use Rattle.cycle.proofs.Segmenting.SegmentParts.{seated, path_size, path_layout}
 use Rattle.cycle.proofs.Sequences.Paths.{path_top_low}
 use Rattle.cycle.proofs.Sequences.Blocks.{block_level, block_count}
-use Rattle.cycle.proofs.Trees.Shapes.{width_shape, slots_shape, distributed_shape, first_place_shape, pair_distances_shape}
+use Rattle.cycle.proofs.Trees.Shapes.{width_shape, slots_shape, distributed_shape, first_place_shape, pair_reach_shape}
 use Rattle.cycle.proofs.Reach.Occurrences.{top_of, place_on}
 use Rattle.cycle.proofs.Reach.NextOccurrence.{to_send}
 use Rattle.cycle.proofs.Reach.PairReach.{pair_reaches}
 use Rattle.cycle.proofs.Reach.PathPairs.{path_at, next_path_child}
 use Rattle.cycle.proofs.Reach.PathFigures.{path_here, path_inside, few_copies, over_inside, block_inside}
-use Rattle.cycle.proofs.Buckets.IndexBuckets.{map_same, first_is, Prints, index_printed}
+use Rattle.cycle.proofs.Buckets.IndexBuckets.{map_same, Prints, index_printed}
 
 -- ---- the control pairs
 
@@ -73,19 +69,15 @@ module _ (t : Plan) (sound : Sound t) (one : t.layout ≡ 1) (b i m : ℕ) (low 
       ap (to_next path_ahead (j - 1)) (over_path (j - 1) (omega arith)) ∙ pair_reaches t sound one b i m low high count j from to in
       λ k. record { tag = Some (largest_tag t j (over_path j to k)); distance = distance_is k }
 
-  path_pairs :
-      (sent first : ℕ) → 1 ≤ i → first ≡ tag_or0 (last_of t sent) →
-      pairs t path_ahead (last_of t sent) (length (slots t) - place_on t b i) (slot i path_place)
-      ≡ pairs_from (eqb sent 0) i (filled pairs_most (pair_tags t b i first)) (filled pairs_most (pair_distances t (length (slots t)) (place_on t b i) b i))
-  unfolding pairs has_pairs slot pair_tags pair_distances
-  path_pairs sent first some_pairs tag =
-      let to_cycle : ℕ = length (slots t) - place_on t b i in
+  pairs_on_path :
+      (last : Option ℕ) →
+      pairs t path_ahead last (length (slots t) - place_on t b i) (slot i path_place)
+      ≡ first_pair last (length (slots t) - place_on t b i) ∷ map later_held (range 2 (i + 1))
+  unfolding pairs has_pairs slot
+  pairs_on_path last =
       rw (eq-eqb t.layout 1 one, le-leb i t.copies high)
-      (ap₂ {C = List Pair} ◌∷◌ (sym (first_is t sent first to_cycle tag))
+      (ap (λ ps. first_pair last (length (slots t) - place_on t b i) ∷ ps)
       (map_same (later_pair t path_ahead (slot i path_place)) later_held 2 (i + 1 - 2) (λ j u v. later_is j u (omega arith))))
-      ∙ sym
-      (pairs_filled (eqb sent 0) pairs_most i first to_cycle (λ j. largest_tag t j (place_over t b j)) (λ j. (later_held j).distance) (range 2 (i + 1))
-      (omega (arith, length_range 2 (i + 1))))
 
 -- ---- the bucket
 
@@ -208,28 +200,41 @@ module _ {f : Figures} {source : Source} {text : List ℕ} {plain : Bool} {s : S
       ∙ ap₂ (λ n z. ahead_of n y z) (sym size) (first_place_shape f ls [] (suc i) c)
       ∙ sym (rw (eq-eqb f.layout 1 path_one, lt-ltb (f.k - f.copies) e (omega (arith, p.high, path_bounds.1)), level))
 
+  -- pair l, as the code has it
+  pair_is : (l : ℕ) → later_held t held single b i m from to count l ≡ path_pair f source text b x l
+  unfolding path_pair plan_in plan_of place_over
+  pair_is l =
+      let reach_is : pair_reach t (length (slots t)) y l (place_over t b l) ≡ pair_reach (plan_of f []) f.size x l (place_over t b l) =
+      ap₂ (λ u v. pair_reach t u v l (place_over t b l)) (sym size) (sym here) ∙ pair_reach_shape f ls [] f.size x l (place_over t b l) in
+      λ k. record { tag = Some (largest_tag t l (place_over t b l)); distance = reach_is k }
+
   pub path_printed :
-      {j first : ℕ} {tags distances : List ℕ} → j ≡ place_over (plan_of f []) b i → first ≡ tag_or0 (last_of (plan_in f source text) s.first) →
-      tags ≡ filled pairs_most (pair_tags (plan_in f source text) b i first) →
-      distances ≡ filled pairs_most (pair_distances (plan_of f []) f.size x b i) →
-      Prints f source text e j x (pairs_from (eqb s.first 0) i tags distances)
-  unfolding plan_in plan_of place_over
-  path_printed {j} {first} {tags} {distances} j_is tag tags_are distances_are =
-      let ps : List Pair = pairs_from (eqb s.first 0) i tags distances in
+      {j : ℕ} {ps : List Pair} → j ≡ place_over (plan_of f []) b i → ps ≡ path_pairs f source text s i x → Prints f source text e j x ps
+  unfolding plan_in plan_of place_over path_pairs
+  path_printed {j} {ps} j_is are =
       let at : IndexPlace f s e over y = subst (IndexPlace f s e over) here (path_place_lem refl) in
       let level : i ≡ f.k + 1 - e = omega (arith, p.high, path_bounds.1) in
       let last_is_lem : last_sent_before t y ≡ last_of t s.first =
       ap (last_sent_before t) (sym here) ∙ place.sent_before_lem x (omega (arith, p.here)) (omega (arith, before_tree, place.tree_length)) in
-      let far : filled pairs_most (pair_distances t (length (slots t)) y b i) ≡ distances =
-      sym (distances_are ∙ ap (filled pairs_most) (ap₂ (λ u v. pair_distances (plan_of f []) u v b i) size here ∙ pair_distances_shape f [] ls (length (slots t)) y b i)) in
+      let to_cycle : length (slots t) - y ≡ f.size - x = omega (arith, size, here) in
+      let few : length ps ≤ pairs_most =
+      omega (
+        arith,
+        ap length are,
+        length-map (range 2 (i + 1)) (path_pair f source text b x),
+        length_range 2 (i + 1),
+        p.high,
+        path_bounds.0,
+      ) in
       subst (λ z. Prints f source text e z x ps) (sym j_is)
       (subst (λ z. Prints f source text e over z ps) (sym here)
       (index_printed f source text w.ready e over y at.low at.inside level
-      (path_at t held single b i m from to count) ps
-      (few_from (eqb s.first 0) i tags distances (omega (arith, p.high, path_bounds.0)))
+      (path_at t held single b i m from to count) ps few
       (ap (λ l. pairs t ahead l (length (slots t) - y) (slot i over)) last_is_lem
-      ∙ path_pairs t held single b i m from to count s.first first path_low tag
-      ∙ ap₂ (pairs_from (eqb s.first 0) i) (sym tags_are) far)
+      ∙ pairs_on_path t held single b i m from to count (last_of t s.first)
+      ∙ ap₂ (λ d (qs : List Pair). first_pair (last_of t s.first) d ∷ qs) to_cycle
+      (map_same (later_held t held single b i m from to count) (path_pair f source text b x) 2 (i + 1 - 2) (λ l u v. pair_is l))
+      ∙ sym are)
       (λ c h.
       let among = subst (λ l. over * f.n + c < width (plan_of f []) (suc l)) (sym level) (within f w.ready e over at.low at.inside c h) in
       reach (over * f.n + c) (omega (arith, among, width_shape f ls [] (suc i))))))

@@ -1,6 +1,6 @@
 -- A bucket of a segment's tree, under the figures of a cycle: what the code prints of it.
 --     tree_place                  it is an index bucket of the segment
---     one_at_most                 how many control pairs it has
+--     tree_pairs_few              how many control pairs it has
 --     tree_printed                the entries put behind them make the bucket
 -- Assumes nothing.
 use mathlib.Core.Path.{◌≡◌, refl, sym, ap, ap₂, subst, ◌∙◌}
@@ -16,9 +16,7 @@ use lib.ListN.{length}
 use borrow.Author.Tests.{eq-eqb, ne_eqb, lt-leb, le-ltb}
 use Rattle.columns.specs.Lists.{pick, joined, range}
 use Rattle.buckets.specs.declared.Line.{Line}
-use Rattle.buckets.specs.Bucket.{Pair}
-use Rattle.buckets.specs.Inner.Held.{tag_or0}
-use Rattle.buckets.proofs.Pages.{pairs_from, few_from}
+use Rattle.buckets.specs.declared.Pair.{Pair}
 use Rattle.cycle.specs.Tree.{Plan, width, children}
 use Rattle.cycle.specs.Layouts.{Slot, slot, slots, subtree}
 use Rattle.cycle.specs.Cycle.{to_next, has_pairs, first_pair, pairs}
@@ -27,7 +25,7 @@ use Rattle.cycle.specs.declared.Segment.{Segment}
 use Rattle.cycle.specs.declared.Source.{Source}
 use Rattle.cycle.specs.Judging.{tree_at, tree_height}
 use Rattle.cycle.specs.Inner.Held.{plan_of, StandsAt, HoldsSegment, lines_held, plan_in, last_of, last_sent_before, ahead_of}
-use Rattle.cycle.specs.Inner.Held.{tree_distance, child_distance, TreePlace, IndexPlace, Printing}
+use Rattle.cycle.specs.Inner.Held.{tree_distance, child_distance, tree_pairs, TreePlace, IndexPlace, Printing}
 use Rattle.cycle.proofs.Sequences.Sequence.{Sound}
 use Rattle.cycle.proofs.Sequences.Keeping.{keeps}
 use Rattle.cycle.proofs.Basics.Ranges.{range_empty}
@@ -40,7 +38,7 @@ use Rattle.cycle.proofs.Buckets.TreeEntries.{next_child}
 use Rattle.cycle.proofs.Segmenting.TreePlaces.{tree_before, tree_high}
 use Rattle.cycle.proofs.Segmenting.SegmentParts.{seated}
 use Rattle.cycle.proofs.Trees.Children.{size_slots, children_count, within, under_data}
-use Rattle.cycle.proofs.Buckets.IndexBuckets.{first_is, Prints, index_printed}
+use Rattle.cycle.proofs.Buckets.IndexBuckets.{Prints, index_printed}
 
 -- ---- the control pairs
 
@@ -67,17 +65,26 @@ tree_pairs_are t ahead last to_cycle e i j p low high least most below =
           ]
     ]
 
--- as the code has them, n of them
-few_pairs_lem : (b c : Bool) (t : Plan) (sent tag d n : ℕ) → n ≡ pick b (pick c 1 0) 0 → ((n ≡ 0 → ⊥) → tag ≡ tag_or0 (last_of t sent)) →
-    pairs_from (eqb sent 0) n (tag ∷ []) (d ∷ []) ≡ pick b (pick c (first_pair (last_of t sent) d ∷ []) []) []
-few_pairs_lem true true t sent tag d n e h = rw e (ap (λ (p : Pair). p ∷ []) (first_is t sent tag d (h (λ z. omega arith))))
-few_pairs_lem true false t sent tag d n e h = rw e
-few_pairs_lem false c t sent tag d n e h = rw e
+pub tree_pair_one : (t : Plan) (sent to_cycle e : ℕ) → t.layout ≡ 2 → e ≡ t.k → tree_pairs t sent to_cycle e ≡ first_pair (last_of t sent) to_cycle ∷ []
+unfolding tree_pairs
+tree_pair_one t sent to_cycle e two root = rw (eq-eqb t.layout 2 two, eq-eqb e t.k root)
 
-pub one_at_most : (b c : Bool) {n : ℕ} → n ≡ pick b (pick c 1 0) 0 → n ≤ 1
-one_at_most true true e = omega arith
-one_at_most true false e = omega arith
-one_at_most false c e = omega arith
+pub tree_pair_low : (t : Plan) (sent to_cycle e : ℕ) → t.layout ≡ 2 → (e ≡ t.k → ⊥) → tree_pairs t sent to_cycle e ≡ []
+unfolding tree_pairs
+tree_pair_low t sent to_cycle e two low = rw (eq-eqb t.layout 2 two, ne_eqb e t.k low)
+
+pub tree_pair_none : (t : Plan) (sent to_cycle e : ℕ) → (t.layout ≡ 2 → ⊥) → tree_pairs t sent to_cycle e ≡ []
+unfolding tree_pairs
+tree_pair_none t sent to_cycle e other = rw (ne_eqb t.layout 2 other)
+
+pub tree_pairs_few : (t : Plan) (sent to_cycle e : ℕ) → length (tree_pairs t sent to_cycle e) ≤ 1
+unfolding tree_pairs
+tree_pairs_few t sent to_cycle e = go (eqb t.layout 2) (eqb e t.k)
+  where
+    go : (b c : Bool) → length (pick b (pick c (first_pair (last_of t sent) to_cycle ∷ []) []) []) ≤ 1
+    go true true = omega arith
+    go true false = omega arith
+    go false c = omega arith
 
 -- ---- the distance to a child
 
@@ -178,19 +185,16 @@ module _ {f : Figures} {source : Source} {text : List ℕ} {plain : Bool} {s : S
 
   -- the pairs that the code has
   pub tree_printed :
-      {n tag : ℕ} → n ≡ pick (eqb f.layout 2) (pick (eqb e f.k) 1 0) 0 →
-      ((n ≡ 0 → ⊥) → tag ≡ tag_or0 (last_of (plan_in f source text) s.first)) →
-      Prints f source text e j x (pairs_from (eqb s.first 0) n (tag ∷ []) ((f.size - x) ∷ []))
-  unfolding plan_in plan_of
-  tree_printed {n} {tag} n_is tag_is =
+      {ps : List Pair} → ps ≡ tree_pairs (plan_in f source text) s.first (f.size - x) e → Prints f source text e j x ps
+  unfolding plan_in plan_of tree_pairs
+  tree_printed {ps} are =
       let last_is_lem : last_sent_before t x ≡ last_of t s.first = place.sent_before_lem x (omega (arith, place.path_length, p.behind_path_lem)) before_data in
       let shaped = w.ready.shaped in
-      index_printed f source text w.ready e j x p.low p.inside refl tree_at_here
-      (pairs_from (eqb s.first 0) n (tag ∷ []) ((f.size - x) ∷ []))
-      (few_from (eqb s.first 0) n (tag ∷ []) ((f.size - x) ∷ []) (omega (arith, one_at_most (eqb f.layout 2) (eqb e f.k) n_is)))
+      index_printed f source text w.ready e j x p.low p.inside refl tree_at_here ps
+      (omega (arith, ap length are, tree_pairs_few t s.first (f.size - x) e))
       (ap₂ (λ l z. pairs t ahead l (z - x) (slot i j)) last_is_lem (sym size)
       ∙ tree_pairs_are t ahead (last_of t s.first) (f.size - x) e i j refl p.low high shaped.layout_low shaped.layout_high above
-      ∙ sym (few_pairs_lem (eqb f.layout 2) (eqb e f.k) t s.first tag (f.size - x) n n_is tag_is))
+      ∙ sym are)
       reach
     where
       -- in layout 1, below the copied levels

@@ -12,7 +12,9 @@ use lib.ListN
 use lib.Seq.{take_all, take-add, drop-drop}
 use Rattle.columns.specs.Lists.{pick, joined, span}
 use Rattle.buckets.specs.declared.Line.{Line}
-use Rattle.buckets.specs.Bucket.{Pair, Entry, index_body, data_body}
+use Rattle.buckets.specs.declared.Pair.{Pair}
+use Rattle.buckets.specs.declared.Entry.{Entry}
+use Rattle.buckets.specs.Bucket.{index_body, data_body}
 use Rattle.buckets.specs.BucketLines.{body_lines}
 use Rattle.cycle.specs.Tree.{Plan, lines_of, last_tag}
 use Rattle.cycle.specs.Layouts.{Slot, slots}

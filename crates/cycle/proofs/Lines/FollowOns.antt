@@ -4,11 +4,11 @@ use mathlib.Core.Path.{◌≡◌, refl, sym, ap, ap₂, subst, ◌∙◌}
 use Prim.Native.Nat.{ℕ, zero, suc, ◌+◌, ◌-◌, ◌*◌, ◌<◌, min}
 use native.Mathlib.Numerals.{add-one}
 use native.Mathlib.Omega.{arith}
+use Rattle.std.specs.Prelude.{Some}
 use mathlib.Core.List.{List, [], ◌∷◌}
 use lib.Dec.{eqb}
 use Rattle.columns.specs.Lists.{pick}
 use Rattle.buckets.specs.Bucket.{follow_on}
-use Rattle.buckets.specs.Inner.Held.{tag_or0}
 use Rattle.cycle.specs.Tree.{Plan, first_tag, last_tag}
 use Rattle.cycle.specs.Layouts.{slot}
 use Rattle.cycle.specs.Cycle.{follow_on_from}
@@ -38,9 +38,9 @@ module _ (f : Figures) (ready : Ready f) (source : Source) (text : List ℕ) whe
       last_tag_lem f source text q ready.shaped.p_low (full_lines f ready.shaped q (omega arith)) ∙ ap (tag_at f source text) e
 
   -- the tag of the last line of the first `sent` data buckets
-  pub last_sent_lem : (sent : ℕ) → 0 < sent → sent < f.d → tag_or0 (last_of (plan_in f source text) sent) ≡ tag_at f source text (sent * f.p - 1)
+  pub last_sent_lem : (sent : ℕ) → 0 < sent → sent < f.d → last_of (plan_in f source text) sent ≡ Some (tag_at f source text (sent * f.p - 1))
   last_sent_lem zero p h = absurd (omega arith)
-  last_sent_lem (suc q) p h = last_full q h
+  last_sent_lem (suc q) p h = ap Some (last_full q h)
 
   module _ (q x : ℕ) (stands : StandsAt (plan_of f []) x (slot (f.k + 1) q ∷ [])) where
     abbrev held : Plan

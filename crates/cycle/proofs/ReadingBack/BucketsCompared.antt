@@ -8,17 +8,19 @@ use Rattle.std.specs.Prelude.{Option, None, Some}
 use mathlib.Core.List.{List, [], ◌∷◌, ◌++◌, map}
 use borrow.Author.Tests.{eq-eqb}
 use lib.Arith.{digits_div, digits_mod}
-use lib.ListN.{length, drop, get_or, replicate, length-drop, length-take, length-map}
+use lib.ListN.{length, drop, get_or, length-drop, length-take, length-map}
 use lib.Seq.{ext_get_or, get_or-take, get_or-drop}
 use Rattle.columns.specs.Lists.{last_or}
 use Rattle.buckets.specs.declared.Line.{Line}
 use Rattle.buckets.specs.declared.Head.{Head}
-use Rattle.buckets.specs.declared.Kind.TheVariants.{Index as KindIndex, Data as KindData, Misprinted as KindMisprinted}
+use Rattle.buckets.specs.declared.Contents.TheVariants.{Data}
+use Rattle.arrayvec.specs.ArrayVec.{ArrayVec}
+use Rattle.std.specs.Option.{option_map}
 use Rattle.buckets.specs.declared.Reading.{Reading}
 use Rattle.buckets.specs.ListLine.{spelled}
 use Rattle.buckets.specs.Bucket.{Body, index_body, data_body, Bucket, print_bucket, read_bucket, good, follow_on}
-use Rattle.buckets.specs.Inner.Held.{head_of, held_body, as_reading, bucket_with, filled}
-use Rattle.buckets.specs.Lengths.{bucket_lines_most}
+use Rattle.buckets.specs.Inner.Held.{head_of, tags_held, contents_of, reading_of, bucket_with}
+use Rattle.buckets.proofs.Chained.{none_not_some, map_found}
 use Rattle.buckets.proofs.Buckets.{print_of_read_bucket, read_of_print_bucket}
 use Rattle.cycle.specs.Tree.{Plan, lines_of, tags_of, last_tag}
 use Rattle.cycle.specs.Layouts.{Slot, slot}
@@ -87,74 +89,76 @@ module _ (f : Figures) (bytes : List ℕ) (ready : Ready f) where
 -- ---- data buckets
 
 -- what is looked at of a data bucket that was read
-pub record DataFacts (g : Reading) (head : Head) (count follow : ℕ) : Type 0 where
-  pub kind_is : g.kind ≡ KindData
-  pub head_is : g.head ≡ head
-  pub count_is : g.lines ≡ count
-  pub follow_is : g.follow_on ≡ follow
+pub record DataFacts (o : Option Reading) (head : Head) (count follow : ℕ) : Type 0 where
+  pub tags : ArrayVec ℕ
+  pub is : o ≡ Some (record { head = head; contents = Data follow tags })
+  pub count_is : length tags.items ≡ count
+
+-- what the contents of a data bucket tell of its body
+contents_told : (x : Body) (f : ℕ) (tags : ArrayVec ℕ) → contents_of x ≡ Data f tags
+    → (ls : List Line) × (x ≡ data_body f ls) × (tags.items ≡ map (λ l. l.tag) ls)
+contents_told (index_body ps es) f tags e = absurd (let z : ◌≡◌ {A = ℕ} 0 1 = cc in omega arith)
+contents_told (data_body h ls) f tags e =
+    let follow : h ≡ f = cc in
+    let held : tags_held ls ≡ tags = cc in
+    (ls, ap (λ k. data_body k ls) follow, sym (ap (λ (t : ArrayVec ℕ). t.items) held))
+
+facts_moved : {o : Option Reading} {head other : Head} {count c follow f : ℕ} → head ≡ other → count ≡ c → follow ≡ f
+    → DataFacts o head count follow → DataFacts o other c f
+facts_moved h k g d =
+    record {
+      tags = d.tags;
+      is = d.is ∙ ap₂ {C = Option Reading} (λ (x : Head) y. Some (record { head = x; contents = Data y d.tags })) h g;
+      count_is = d.count_is ∙ k;
+    }
 
 -- that is all there is to it, if its lines are those wanted as soon as there are as many
 pub data_told :
     (o : Option Bucket) (b : Bucket) (f : ℕ) (ls : List Line) →
     ((c : Bucket) (h : ℕ) (ms : List Line) → o ≡ Some c → c.body ≡ data_body h ms → length ms ≡ length ls → ms ≡ ls) →
-    b.body ≡ data_body f ls → DataFacts (as_reading o) (head_of b) (length ls) f → o ≡ Some b
-data_told None b f ls known e d = absurd (let k : KindMisprinted ≡ KindData = d.kind_is in let z : ◌≡◌ {A = ℕ} 0 1 = cc in omega arith)
-data_told (Some c) b f ls known e d = ap Some (of c.body refl)
-  where
-    of : (x : Body) → c.body ≡ x → c ≡ b
-    of (index_body ps es) g =
-        absurd
-        (let k : KindIndex ≡ KindData = ap (λ x. (held_body (head_of c) x).kind) (sym g) ∙ d.kind_is in
-        let z : ◌≡◌ {A = ℕ} 0 1 = cc in omega arith)
-    of (data_body h ms) g =
-        let count : length ms ≡ length ls = ap (λ x. (held_body (head_of c) x).lines) (sym g) ∙ d.count_is in
-        let follow : h ≡ f = ap (λ x. (held_body (head_of c) x).follow_on) (sym g) ∙ d.follow_is in
-        let head : head_of c ≡ head_of b = ap (λ x. (held_body (head_of c) x).head) (sym g) ∙ d.head_is in
-        let body : c.body ≡ b.body = g ∙ (ap₂ data_body follow (known c h ms refl g count) ∙ sym e) in
-        sym (bucket_whole c) ∙ (ap₂ bucket_with head body ∙ bucket_whole b)
+    b.body ≡ data_body f ls → DataFacts (option_map reading_of o) (head_of b) (length ls) f → o ≡ Some b
+unfolding reading_of
+data_told None b f ls known e d = absurd (none_not_some d.is)
+data_told (Some c) b f ls known e d =
+    let is : reading_of c ≡ record { head = head_of b; contents = Data f d.tags } = cc in
+    let head : head_of c ≡ head_of b = ap (λ (r : Reading). r.head) is in
+    let told = contents_told c.body f d.tags (ap (λ (r : Reading). r.contents) is) in
+    let ms = told.0 in
+    let count : length ms ≡ length ls = sym (length-map ms (λ (l : Line). l.tag)) ∙ ap length (sym told.2) ∙ d.count_is in
+    let body : c.body ≡ b.body = told.1 ∙ (ap (data_body f) (known c f ms refl told.1 count) ∙ sym e) in
+    ap Some (sym (bucket_whole c) ∙ (ap₂ bucket_with head body ∙ bucket_whole b))
 
-pub data_reads : (b : Bucket) (f : ℕ) (ls : List Line) → b.body ≡ data_body f ls → DataFacts (as_reading (Some b)) (head_of b) (length ls) f
+pub data_reads : (b : Bucket) (f : ℕ) (ls : List Line) → b.body ≡ data_body f ls → DataFacts (option_map reading_of (Some b)) (head_of b) (length ls) f
+unfolding reading_of
 data_reads b f ls e =
     record {
-      kind_is = ap (λ x. (held_body (head_of b) x).kind) e;
-      head_is = ap (λ x. (held_body (head_of b) x).head) e;
-      count_is = ap (λ x. (held_body (head_of b) x).lines) e;
-      follow_is = ap (λ x. (held_body (head_of b) x).follow_on) e;
+      tags = tags_held ls;
+      is = ap {B = Option Reading} (λ x. Some (record { head = head_of b; contents = contents_of x })) e;
+      count_is = length-map ls (λ (l : Line). l.tag);
     }
 
-pub last_filled : (w z d : ℕ) (xs : List ℕ) → 1 ≤ length xs → get_or (filled w xs) (length xs - 1) d ≡ last_or z xs
-unfolding filled
-last_filled w z d [] h = absurd (omega arith)
-last_filled w z d (x ∷ xs) h =
-    let e : length (x ∷ xs) - 1 ≡ length xs = omega arith in
-    rw e (last_append x xs (replicate (w - length (x ∷ xs)) 0))
+pub last_at : (z d : ℕ) (xs : List ℕ) → 1 ≤ length xs → get_or xs (length xs - 1) d ≡ last_or z xs
+last_at z d [] h = absurd (omega arith)
+last_at z d (x ∷ xs) h = let e : length (x ∷ xs) - 1 ≡ length xs = omega arith in rw e (go x xs)
   where
-    last_append : (y : ℕ) (ys zs : List ℕ) → get_or (y ∷ (ys ++ zs)) (length ys) d ≡ last_or y ys
-    last_append y [] zs = refl
-    last_append y (v ∷ ys) zs = last_append v ys zs
+    go : (y : ℕ) (ys : List ℕ) → get_or (y ∷ ys) (length ys) d ≡ last_or y ys
+    go y [] = refl
+    go y (v ∷ ys) = go v ys
 
 -- the last tag that a reading of a data bucket finds
 last_of_read :
     (o : Option Bucket) (ls : List Line) →
     ((c : Bucket) (h : ℕ) (ms : List Line) → o ≡ Some c → c.body ≡ data_body h ms → length ms ≡ length ls → ms ≡ ls) →
-    (as_reading o).kind ≡ KindData → (as_reading o).lines ≡ length ls → 1 ≤ length ls →
-    get_or (as_reading o).tags ((as_reading o).lines - 1) 0 ≡ last_or 0 (map (λ l. l.tag) ls)
-last_of_read None ls known k c h = absurd (let z : ◌≡◌ {A = ℕ} 0 1 = cc in omega arith)
-last_of_read (Some b) ls known k c h = of b.body refl
-  where
-    of : (y : Body) → b.body ≡ y → get_or (as_reading (Some b)).tags ((as_reading (Some b)).lines - 1) 0 ≡ last_or 0 (map (λ l. l.tag) ls)
-    of (index_body ps es) g =
-        absurd
-        (let i : KindIndex ≡ KindData = ap (λ x. (held_body (head_of b) x).kind) (sym g) ∙ k in
-        let z : ◌≡◌ {A = ℕ} 0 1 = cc in omega arith)
-    of (data_body f ms) g =
-        let count : length ms ≡ length ls = ap (λ x. (held_body (head_of b) x).lines) (sym g) ∙ c in
-        let same : ms ≡ ls = known b f ms refl g count in
-        let tags : List ℕ = map (λ (l : Line). l.tag) ms in
-        let long : length tags ≡ length ms = length-map ms (λ (l : Line). l.tag) in
-        ap (λ x. get_or (held_body (head_of b) x).tags ((held_body (head_of b) x).lines - 1) 0) g
-        ∙ (ap (λ m. get_or (filled bucket_lines_most tags) (m - 1) 0) (sym long)
-        ∙ (last_filled bucket_lines_most 0 0 tags (omega (arith, long, count)) ∙ ap (λ xs. last_or 0 (map (λ (l : Line). l.tag) xs)) same))
+    (head : Head) (f : ℕ) (tags : ArrayVec ℕ) → Some (record { head = head; contents = Data f tags }) ≡ option_map reading_of o →
+    length tags.items ≡ length ls → 1 ≤ length ls → get_or tags.items (length tags.items - 1) 0 ≡ last_or 0 (map (λ l. l.tag) ls)
+unfolding reading_of
+last_of_read o ls known head f tags is count h =
+    let found = map_found reading_of o _ is in
+    let told = contents_told found.0.body f tags (ap (λ (r : Reading). r.contents) (sym found.2)) in
+    let ms = told.0 in
+    let same_count : length ms ≡ length ls = sym (length-map ms (λ (l : Line). l.tag)) ∙ ap length (sym told.2) ∙ count in
+    let same : ms ≡ ls = known found.0 f ms (sym found.1) told.1 same_count in
+    last_at 0 0 tags.items (omega arith) ∙ ap (last_or 0) (told.2 ∙ ap (map (λ (l : Line). l.tag)) same)
 
 module _ (f : Figures) (bytes : List ℕ) (ready : Ready f) (x q : ℕ) (st : StandsAt (plan_of f []) x (slot (f.k + 1) q ∷ [])) where
   -- data bucket q stands at x and nowhere else
@@ -208,20 +212,19 @@ module _ (f : Figures) (bytes : List ℕ) (ready : Ready f) (x q : ℕ) (st : St
 
   -- the last of the tags that were read is the bucket's
   pub last_known :
-      (g : Reading) → g ≡ as_reading (read_bucket (bucket_at bytes x)) → g.kind ≡ KindData →
-      g.lines ≡ min f.p (f.lines - q * f.p) → 1 ≤ g.lines → get_or g.tags (g.lines - 1) 0 ≡ last_tag (plan_in f InImage bytes) q
+      (head : Head) (follow : ℕ) (tags : ArrayVec ℕ) →
+      Some (record { head = head; contents = Data follow tags }) ≡ option_map reading_of (read_bucket (bucket_at bytes x)) →
+      length tags.items ≡ min f.p (f.lines - q * f.p) → 1 ≤ length tags.items →
+      get_or tags.items (length tags.items - 1) 0 ≡ last_tag (plan_in f InImage bytes) q
   unfolding last_tag tags_of
-  last_known g is kind count some_lines =
-      ap (λ (r : Reading). get_or r.tags (r.lines - 1) 0) is
-      ∙ last_of_read (read_bucket (bucket_at bytes x)) (lines_of (plan_in f InImage bytes) q) lines_known
-      (sym (ap (λ (r : Reading). r.kind) is) ∙ kind)
-      (sym (ap (λ (r : Reading). r.lines) is) ∙ (count ∙ sym length_held_of))
-      (omega (arith, some_lines, count, length_held_of))
+  last_known head follow tags is count some_lines =
+      last_of_read (read_bucket (bucket_at bytes x)) (lines_of (plan_in f InImage bytes) q) lines_known head follow tags is
+      (count ∙ sym length_held_of) (omega (arith, some_lines, count, length_held_of))
 
   pub data_decided :
       x < f.size → (head : Head) (count follow : ℕ) (r : Bool) → head ≡ head_of (cycle_bucket (plan_of f []) x) →
       count ≡ min f.p (f.lines - q * f.p) → follow ≡ follow_on (cycle_bucket (plan_in f InImage bytes) x).body →
-      Decides (DataFacts (as_reading (read_bucket (bucket_at bytes x))) head count follow × RisesAt (plan_in f InImage bytes) q) r →
+      Decides (DataFacts (option_map reading_of (read_bucket (bucket_at bytes x))) head count follow × RisesAt (plan_in f InImage bytes) q) r →
       Decides (MatchesAt (plan_in f InImage bytes) bytes x) r
   unfolding plan_in plan_of
   data_decided below head count follow r head_is count_is follow_is d =
@@ -235,25 +238,13 @@ module _ (f : Figures) (bytes : List ℕ) (ready : Ready f) (x q : ℕ) (st : St
       let o : Option Bucket = read_bucket (bucket_at bytes x) in
       decides_by
       (λ g.
-      let facts : DataFacts (as_reading o) (head_of (cycle_bucket t x)) (length (lines_of t q)) from =
-      record {
-        kind_is = g.0.kind_is;
-        head_is = g.0.head_is ∙ same_head;
-        count_is = g.0.count_is ∙ same_count;
-        follow_is = g.0.follow_is ∙ same_follow;
-      } in
+      let facts : DataFacts (option_map reading_of o) (head_of (cycle_bucket t x)) (length (lines_of t q)) from =
+      facts_moved same_head same_count same_follow g.0 in
       record {
         reads = data_told o (cycle_bucket t x) from (lines_of t q) lines_known body facts;
         rises = one_rises t (held_keeps f bytes ready) a g.1;
       })
       (λ e.
-      let g = subst (λ w. DataFacts (as_reading w) (head_of (cycle_bucket t x)) (length (lines_of t q)) from) (sym e.reads) (data_reads (cycle_bucket t x) from (lines_of t q) body) in (
-        record {
-          kind_is = g.kind_is;
-          head_is = g.head_is ∙ sym same_head;
-          count_is = g.count_is ∙ sym same_count;
-          follow_is = g.follow_is ∙ sym same_follow;
-        },
-        e.rises q held_here,
-      ))
+      let g = subst (λ w. DataFacts (option_map reading_of w) (head_of (cycle_bucket t x)) (length (lines_of t q)) from) (sym e.reads) (data_reads (cycle_bucket t x) from (lines_of t q) body) in
+      (facts_moved (sym same_head) (sym same_count) (sym same_follow) g, e.rises q held_here))
       d

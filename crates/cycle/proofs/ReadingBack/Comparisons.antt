@@ -13,7 +13,8 @@ use Rattle.columns.specs.Lists.{pick, joined, range}
 use Rattle.columns.specs.PrintedNumbers.{value}
 use Rattle.buckets.specs.declared.Head.{Head}
 use Rattle.buckets.specs.Bucket.{print_bucket, read_bucket, good, follow_on}
-use Rattle.buckets.specs.Inner.Held.{head_of, as_reading}
+use Rattle.std.specs.Option.{option_map}
+use Rattle.buckets.specs.Inner.Held.{head_of, reading_of}
 use Rattle.buckets.specs.Lengths.{tag_width, bucket_length, lines_start, buckets_most}
 use Rattle.cycle.specs.Tree.{Plan, above, children, last_tag, first_tag}
 use Rattle.cycle.specs.Layouts.{slot}
@@ -62,7 +63,7 @@ module _ (f : Figures) (bytes : List ℕ) (s : Segment) (w : Comparing f bytes s
       (q x : ℕ) → s.first ≤ q → q < s.last → x ≡ s.data_at + (q - s.first) → (head : Head) (count follow : ℕ) (r : Bool) →
       head ≡ head_of (cycle_bucket (plan_of f []) x) → count ≡ min f.p (f.lines - q * f.p) →
       follow ≡ follow_on (cycle_bucket (plan_in f InImage bytes) x).body →
-      Decides (DataFacts (as_reading (read_bucket (bucket_at bytes x))) head count follow × RisesAt (plan_in f InImage bytes) q) r →
+      Decides (DataFacts (option_map reading_of (read_bucket (bucket_at bytes x))) head count follow × RisesAt (plan_in f InImage bytes) q) r →
       Decides (MatchesAt (plan_in f InImage bytes) bytes x) r
   data_bucket_decided q x low high is head count follow r head_is count_is follow_is d =
       let there = data_there f s ready_in w.placed [] q low high in

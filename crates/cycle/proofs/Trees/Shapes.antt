@@ -10,7 +10,7 @@ use Rattle.cycle.specs.Tree.{width, children, above, under, data_under}
 use Rattle.cycle.specs.Layouts.{Slot, slot, segment, subtree, tree_below, sent, path, distributed_segment, distributed, whole_segment, one_m, slots}
 use Rattle.cycle.specs.Judging.{tree_at}
 use Rattle.cycle.specs.Cycle.{first_place}
-use Rattle.cycle.specs.Inner.Held.{plan_of, StandsAt, place_over, pair_reach, pair_distances}
+use Rattle.cycle.specs.Inner.Held.{plan_of, StandsAt, place_over, pair_reach}
 use Rattle.cycle.specs.Cycle.{occurs, distance_to}
 use Rattle.cycle.specs.declared.Figures.{Figures}
 
@@ -72,12 +72,8 @@ module _ (f : Figures) (ls ms : List Line) where
 
   -- ---- what the code works out of it
 
-  pub pair_distances_shape : (size x b i : ℕ) → pair_distances (plan_of f ls) size x b i ≡ pair_distances (plan_of f ms) size x b i
-  unfolding pair_distances pair_reach place_over width plan_of
-  pair_distances_shape size x b i =
+  pub pair_reach_shape : (size x l c : ℕ) → pair_reach (plan_of f ls) size x l c ≡ pair_reach (plan_of f ms) size x l c
+  unfolding pair_reach width plan_of
+  pair_reach_shape size x l c =
       let w : ℕ → ℕ = width (plan_of f ls) in
-      let reach : (ℕ → ℕ → ℕ) → ℕ → ℕ → ℕ =
-      λ g l c.
-      pick (eqb ((c + 1) % f.n) 0) (size - x) (pick (ltb (c + 1) (w l)) (g l (c + 1) - 1 - x) (size - x)) in
-      ap (λ g. (size - x) ∷ map (λ l. reach g l (above f.n (f.copies + 1 - l) b)) (range 2 (i + 1)))
-      (λ k l c. first_place_shape l c k)
+      ap (λ y. pick (eqb ((c + 1) % f.n) 0) (size - x) (pick (ltb (c + 1) (w l)) (y - 1 - x) (size - x))) (first_place_shape l (c + 1))

@@ -8,13 +8,15 @@ use Rattle.columns.specs.Lists.{pick, joined, span, range, up, put}
 use Rattle.columns.specs.PrintedNumbers.{value, print, blank_zeros}
 use Rattle.buckets.specs.declared.Line.{Line}
 use Rattle.buckets.specs.ListLine.{spelled, cut_lines, list_lines, misprint_from, fall_from}
-use Rattle.buckets.specs.Bucket.{Entry, index_body, Bucket}
+use Rattle.buckets.specs.declared.Pair.{Pair}
+use Rattle.buckets.specs.declared.Entry.{Entry}
+use Rattle.buckets.specs.Bucket.{index_body, Bucket}
 use Rattle.buckets.specs.Inner.Columns.{PlainList}
 use Rattle.buckets.specs.Lengths.{tag_width, line_columns_width, line_length, lines_most, entries_most, bucket_lines_most, bucket_length}
 use Rattle.buckets.specs.Lengths.{lines_start, buckets_most}
 use Rattle.cycle.specs.Tree.{Plan, levels, width, above, last_tag, largest_tag}
 use Rattle.cycle.specs.Layouts.{Slot, slot, sent, path, path_top, distributed_segment, whole_segment, slots}
-use Rattle.cycle.specs.Cycle.{first_place, to_next_segment, last_sent, buckets, cycle_size, image}
+use Rattle.cycle.specs.Cycle.{first_place, to_next_segment, last_sent, first_pair, buckets, cycle_size, image}
 use Rattle.cycle.specs.Building.{copies_fit}
 use Rattle.cycle.specs.Judging.{full_size, tree_at, tree_height, last_tree}
 use Rattle.cycle.specs.declared.Figures.{Figures}
@@ -247,12 +249,22 @@ pair_reach t size x j place =
 unfoldable pub place_over : Plan → ℕ → ℕ → ℕ
 place_over t b i = above t.n (t.copies + 1 - i) b
 
--- the tags and the distances of the pairs of the path bucket of level i before b, at x
-unfoldable pub pair_tags : Plan → ℕ → ℕ → ℕ → List ℕ
-pair_tags t b i first = first ∷ map (λ j. largest_tag t j (place_over t b j)) (range 2 (i + 1))
+-- the control pairs of a bucket of height e in a segment's tree, behind `sent` data buckets: the root of layout 2 has one
+unfoldable pub tree_pairs : Plan → ℕ → ℕ → ℕ → List Pair
+tree_pairs t sent to_cycle e = pick (eqb t.layout 2) (pick (eqb e t.k) (first_pair (last_of t sent) to_cycle ∷ []) []) []
 
-unfoldable pub pair_distances : Plan → ℕ → ℕ → ℕ → ℕ → List ℕ
-pair_distances t size x b i = (size - x) ∷ map (λ j. pair_reach t size x j (place_over t b j)) (range 2 (i + 1))
+-- pair j, from 2 on, of a path bucket at x before bucket b of level r + 1
+unfoldable pub path_pair : Figures → Source → List ℕ → ℕ → ℕ → ℕ → Pair
+path_pair f source text b x j =
+    record {
+      tag = Some (largest_tag (plan_in f source text) j (place_over (plan_in f source text) b j));
+      distance = pair_reach (plan_of f []) f.size x j (place_over (plan_of f []) b j);
+    }
+
+-- the pairs of the path bucket of level i of a segment, at x
+unfoldable pub path_pairs : Figures → Source → List ℕ → Segment → ℕ → ℕ → List Pair
+path_pairs f source text s i x =
+    first_pair (last_of (plan_in f source text) s.first) (f.size - x) ∷ map (path_pair f source text s.number x) (range 2 (i + 1))
 
 -- the path bucket of level i before bucket b of level r + 1 stands at x
 pub record OnPath (t : Plan) (b i x : ℕ) : Type 0 where

@@ -13,7 +13,9 @@ use Rattle.columns.specs.Lists.{pick, only, every}
 use Rattle.columns.proofs.Strict.{both}
 use Rattle.buckets.specs.Lengths.{buckets_most}
 use Rattle.buckets.specs.declared.Line.{Line}
-use Rattle.buckets.specs.Bucket.{Pair, Entry, Body, index_body, data_body, Bucket, pair_fits, entry_fits, read_bucket}
+use Rattle.buckets.specs.declared.Pair.{Pair}
+use Rattle.buckets.specs.declared.Entry.{Entry}
+use Rattle.buckets.specs.Bucket.{Body, index_body, data_body, Bucket, pair_fits, entry_fits, read_bucket}
 use Rattle.buckets.proofs.Good.{Good, GoodBody, bucket_good, pair_fits_lem, entry_fits_lem}
 use Rattle.buckets.proofs.Buckets.{print_of_read_bucket}
 use Rattle.buckets.specs.BucketLines.{body_lines, lines_read}

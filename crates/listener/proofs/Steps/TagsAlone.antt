@@ -3,10 +3,9 @@
 use mathlib.Core.Path.{◌≡◌, refl, ◌∙◌, ap}
 use mathlib.Core.Bool.{Bool, true, false, ◌&&◌}
 use mathlib.Core.List.{List, [], ◌∷◌, map}
-use Prim.Native.Nat.{ℕ, zero, suc, ◌-◌, ◌≤◌}
+use Prim.Native.Nat.{ℕ, suc, ◌-◌, ◌≤◌}
 use native.Mathlib.Omega.{arith}
 use lib.Dec.{eqb}
-use lib.ListN
 use lib.ListN.{length, get_or}
 use Rattle.columns.specs.Lists.{pick, only, last_or}
 use Rattle.buckets.specs.declared.Line.{Line}
@@ -118,21 +117,19 @@ matching_few tag (l ∷ ls) = passed (eqb l.tag tag) (matching_few tag ls)
     passed true r = omega arith
     passed false r = omega arith
 
-pub last_taken : (m t : ℕ) (ts : List ℕ) → m ≤ length ts → last_or t (ListN.take m ts) ≡ get_or (t ∷ ts) m 0
-last_taken zero t ts h = refl
-last_taken (suc m) t [] h = absurd (omega arith)
-last_taken (suc m) t (u ∷ us) h = last_taken m u us (omega arith)
-
--- the last of c lines
+-- the last of some lines
 pub last_tagged :
-    (tag c : ℕ) (ts : List ℕ) → 1 ≤ c → c ≤ length ts → last_is tag (tagged_lines c ts) ≡ eqb (get_or ts (c - 1) 0) tag
+    (tag : ℕ) (ts : List ℕ) → 1 ≤ length ts → last_is tag (tagged_lines ts) ≡ eqb (get_or ts (length ts - 1) 0) tag
 unfolding tagged_lines tagged
-last_tagged tag zero ts h g = absurd (omega arith)
-last_tagged tag (suc m) [] h g = absurd (omega arith)
-last_tagged tag (suc m) (t ∷ ts) h g =
-    let e : suc m - 1 ≡ m = omega arith in
-    rw e (ap (λ x. eqb x tag) (ap (last_or t) (tags (ListN.take m ts)) ∙ last_taken m t ts (omega arith)))
+last_tagged tag [] h = absurd (omega arith)
+last_tagged tag (t ∷ ts) h =
+    let e : length (t ∷ ts) - 1 ≡ length ts = omega arith in
+    rw e (ap (λ x. eqb x tag) (ap (last_or t) (tags ts) ∙ last_whole t ts))
   where
     tags : (xs : List ℕ) → map (λ (l : Line). l.tag) (map tagged xs) ≡ xs
     tags [] = refl
     tags (x ∷ xs) = ap (λ r. x ∷ r) (tags xs)
+
+    last_whole : (t : ℕ) (ts : List ℕ) → last_or t ts ≡ get_or (t ∷ ts) (length ts) 0
+    last_whole t [] = refl
+    last_whole t (u ∷ us) = last_whole u us

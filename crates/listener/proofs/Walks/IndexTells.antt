@@ -10,7 +10,9 @@ use native.Mathlib.Omega.{arith}
 use lib.Dec.{leb}
 use borrow.Author.Tests.{leb-true, leb-false, lt-leb, le-leb}
 use Rattle.columns.specs.Lists.{pick, span, range}
-use Rattle.buckets.specs.Bucket.{Pair, Entry, index_body}
+use Rattle.buckets.specs.declared.Pair.{Pair}
+use Rattle.buckets.specs.declared.Entry.{Entry}
+use Rattle.buckets.specs.Bucket.{index_body}
 use Rattle.cycle.specs.Tree.{Plan, last_tag}
 use Rattle.cycle.specs.Layouts.{Slot}
 use Rattle.cycle.specs.Cycle.{is_data, has_pairs, first_pair, later_pair, pairs, entries, body_of, cycle_size}
