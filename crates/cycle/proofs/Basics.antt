@@ -6,3 +6,4 @@ pub mod Powers
 pub mod Filled
 pub mod Deciding
 pub mod Conditions
+pub mod Numbers

@@ -1,5 +1,5 @@
 -- The lost bucket from the saved state, handed back.
-use Rattle.std.proofs.Common.{◌≡◌, ap, ◌∙◌}
+use Rattle.std.proofs.Common.{ap, ◌∙◌}
 use Rattle.listener.specs.Listener.{lost}
 use Rattle.listener.proofs.Steps.Told.{step_told}
 use Rattle.pansdaoh.specs.Calls.{step_answer, lost_from, state_after}

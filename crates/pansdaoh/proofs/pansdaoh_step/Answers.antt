@@ -1,5 +1,5 @@
 -- The listener's step from the saved state, handed back.
-use Rattle.std.proofs.Common.{◌≡◌, ap, ◌∙◌}
+use Rattle.std.proofs.Common.{ap, ◌∙◌}
 use Rattle.listener.specs.Listener.{step}
 use Rattle.listener.proofs.Steps.Told.{step_told}
 use Rattle.pansdaoh.specs.Calls.{step_answer, step_from, state_after}

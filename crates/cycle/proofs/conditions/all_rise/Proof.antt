@@ -18,9 +18,8 @@ use Rattle.buckets.proofs.Answers.{tag_found}
 use Rattle.buckets.proofs.Blanked.{plain_reads}
 use Rattle.buckets.proofs.LenientLines.{line_reads, reads_line}
 use Rattle.buckets.proofs.ListLines.{print_of_read_plain}
-use Rattle.buckets.proofs.Lists.{length_cut_lines, length_list_lines}
 use Rattle.cycle.proofs.ReadingBack.ImageLines.{spelled_front}
-use Rattle.cycle.proofs.Building.Refusals.{all_plain, count_lines, plain_read, plains_read, line_read, lines_read_lem, tag_rises, tags_rise}
+use Rattle.cycle.proofs.Building.Refusals.{all_plain, plain_read, plains_read, line_read, lines_read_lem, tag_rises, tags_rise}
 use Rattle.cycle.proofs.conditions.all_rise.Statement.{statement}
 use Rattle.cycle.proofs.conditions.all_rise.Tie as tie
 
