@@ -4,7 +4,7 @@ use mathlib.Core.Path.{◌≡◌, refl, sym, ap, ◌∙◌}
 use Prim.Native.Nat.{ℕ, zero, suc, ◌+◌, ◌-◌, ◌*◌, ◌≤◌, ◌<◌}
 use native.Mathlib.Omega.{arith}
 use mathlib.Core.Bool.{true}
-use Rattle.std.specs.Prelude.{Option, None, Some, Ok}
+use Rattle.std.specs.Prelude.{Option, None, Some, Result, Ok, Err}
 use mathlib.Core.List.{List, [], ◌∷◌, ◌++◌, map, append_assoc}
 use lib.ListN
 use lib.ListN.{length, get_or, length-map}
@@ -17,7 +17,8 @@ use Rattle.buckets.specs.ListLine.{fits, line_columns, spelled}
 use Rattle.buckets.specs.declared.Pair.{Pair}
 use Rattle.buckets.specs.declared.Entry.{Entry}
 use Rattle.buckets.specs.Bucket.{Body, index_body, data_body, Bucket, print_head, print_body, print_bucket, spelled_line, read_bucket}
-use Rattle.buckets.specs.BucketLines.{body_lines, nth, bucket_line, line_bytes}
+use Rattle.buckets.specs.BucketLines.{body_lines, nth, bucket_line, numbers, line_bytes}
+use Rattle.buckets.specs.declared.Misprinted.{Misprinted}
 use Rattle.arrayvec.specs.ArrayVec.{ArrayVec}
 use Rattle.buckets.specs.declared.Contents.{Contents}
 use Rattle.buckets.specs.declared.Contents.TheVariants.{Index, Data}
@@ -112,3 +113,19 @@ of_data bytes b f tags is e = by_body b.body refl e
         let held : map (λ (l : Line). l.tag) ls ≡ tags.items = cc in
         let count : length ls ≡ length tags.items = sym (length-map ls (λ (l : Line). l.tag)) ∙ ap length held in
         rw count at (data_told bytes b g ls is body)
+
+-- different answers have different numbers
+pub numbers_apart : (a b : Result (Option Line) Misprinted) → numbers a ≡ numbers b → a ≡ b
+numbers_apart (Ok (Some l)) (Ok (Some m)) e =
+    λ i. Ok (Some (record { tag = at 3 i; tare = at 4 i; code = at 5 i; weighing = at 6 i }))
+  where
+    at : (k : ℕ) → get_or (numbers (Ok (Some l))) k 0 ≡ get_or (numbers (Ok (Some m))) k 0
+    at k = ap (λ s. get_or s k 0) e
+numbers_apart (Ok (Some l)) (Ok None) e = cc
+numbers_apart (Ok (Some l)) (Err x) e = cc
+numbers_apart (Ok None) (Ok (Some m)) e = cc
+numbers_apart (Ok None) (Ok None) e = refl
+numbers_apart (Ok None) (Err x) e = cc
+numbers_apart (Err x) (Ok (Some m)) e = cc
+numbers_apart (Err x) (Ok None) e = cc
+numbers_apart (Err x) (Err y) e = refl

@@ -6,4 +6,5 @@ pub mod Powers
 pub mod Deciding
 pub mod RangeTests
 pub mod Conditions
+pub mod Numbers
 pub mod Telling

@@ -167,6 +167,9 @@ fn send(list: &[u8], plain: bool, f: Figures, out: &mut [u8]) -> Counts
     counts_of(f)
 }
 
+// What the two changes share is judge_given, judge_room and send; each has its own condition, search and move, so that one function
+// of both would be no plainer.
+//
 // A line arrives in a list, and both pass 1 to 4: 16, then 5 to 7 of the changed list, or the change.
 fn arrive_judged(
     buffer: &mut [u8],

@@ -144,7 +144,8 @@ pub fn judge_list(list: &[u8], settings: Settings, room: u64) -> Result<ListFigu
         return Err(Refusal::from(Reason::LengthOut));
     }
     let lines = (length / Line::LENGTH) as u64;
-    if Line::LINES_MOST < lines {
+    let too_many = Line::LINES_MOST < lines;
+    if too_many {
         return Err(Refusal::from(Reason::LengthOut));
     }
     let plain = judge_lines(list, lines)?;

@@ -337,7 +337,8 @@ pub fn read_back(image: &[u8], settings: Settings, out: &mut [u8]) -> Result<u64
         return Err(Refusal::from(Reason::ImageLengthOut));
     }
     let lines = line_count(image, settings.p);
-    if Line::LINES_MOST < lines {
+    let too_many = Line::LINES_MOST < lines;
+    if too_many {
         return Err(Refusal::from(Reason::NoListBuilds));
     }
     hand_out(image, figures_of(settings, lines), out)

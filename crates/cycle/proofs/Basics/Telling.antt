@@ -1,107 +1,21 @@
--- The numbers of an answer tell it: answers with the same numbers are the same.
+-- The numbers of each call's answer tell it: answers with the same numbers are the same.
 -- Assumes nothing.
-use mathlib.Core.Path.{◌≡◌, refl, sym, ap, ◌∙◌}
+use mathlib.Core.Path.{◌≡◌, ap}
 use mathlib.Core.List.{List, ◌∷◌}
-use Prim.Native.Nat.{ℕ, ◌≤◌}
-use native.Mathlib.Omega.{arith}
-use lib.Dec.{eqb}
-use Rattle.std.specs.Prelude.{Result, Ok, Err}
-use Rattle.columns.specs.Lists.{pick}
-use Rattle.cycle.specs.Refusals.{number, numbers_of}
+use Prim.Native.Nat.{ℕ}
+use Rattle.std.specs.Prelude.{Result, Ok}
 use Rattle.cycle.specs.Building as building
 use Rattle.cycle.specs.ReadingBack as reading_back
 use Rattle.cycle.specs.Judging as judging
 use Rattle.cycle.specs.Size as sizing
 use Rattle.cycle.specs.Changes as changes
 use Rattle.cycle.specs.Waits as waits
-use Rattle.cycle.specs.declared.Reason.{Reason}
-use Rattle.cycle.specs.declared.Reason.TheVariants.{SettingsOut, LengthOut, LineMisprinted, TagFalls, CopiesOut, CycleTooLong, BufferTooShort, BucketMisprinted, NotAwaited, PastNextCycle, ImageLengthOut, TuneInOut, NoListBuilds, ListenerEnded, NotInList, NoPlace, NoLine}
 use Rattle.cycle.specs.declared.Refusal.{Refusal}
 use Rattle.cycle.specs.declared.Figures.{Figures}
 use Rattle.cycle.specs.declared.Dimensions.{Dimensions}
 use Rattle.cycle.specs.declared.Counts.{Counts}
 use Rattle.cycle.specs.declared.WaitSum.{WaitSum}
-
--- ---- a refusal
-
--- the reason with a number of the table
-unfoldable pub reason_by : ℕ → Reason
-reason_by x =
-    pick (eqb x 1) SettingsOut
-    (pick (eqb x 2) LengthOut
-    (pick (eqb x 3) LineMisprinted
-    (pick (eqb x 4) TagFalls
-    (pick (eqb x 5) CopiesOut
-    (pick (eqb x 6) CycleTooLong
-    (pick (eqb x 7) BufferTooShort
-    (pick (eqb x 8) BucketMisprinted
-    (pick (eqb x 9) NotAwaited
-    (pick (eqb x 10) PastNextCycle
-    (pick (eqb x 11) ImageLengthOut
-    (pick (eqb x 12) TuneInOut
-    (pick (eqb x 13) NoListBuilds
-    (pick (eqb x 14) ListenerEnded
-    (pick (eqb x 15) NotInList
-    (pick (eqb x 16) NoPlace NoLine)))))))))))))))
-
-pub reason_back : (r : Reason) → reason_by (number r) ≡ r
-unfolding reason_by
-reason_back SettingsOut = refl
-reason_back LengthOut = refl
-reason_back LineMisprinted = refl
-reason_back TagFalls = refl
-reason_back CopiesOut = refl
-reason_back CycleTooLong = refl
-reason_back BufferTooShort = refl
-reason_back BucketMisprinted = refl
-reason_back NotAwaited = refl
-reason_back PastNextCycle = refl
-reason_back ImageLengthOut = refl
-reason_back TuneInOut = refl
-reason_back NoListBuilds = refl
-reason_back ListenerEnded = refl
-reason_back NotInList = refl
-reason_back NoPlace = refl
-reason_back NoLine = refl
-
--- different reasons have different numbers
-pub reason_told : (r q : Reason) → number r ≡ number q → r ≡ q
-reason_told r q e = sym (reason_back r) ∙ (ap reason_by e ∙ reason_back q)
-
--- none has the number 0, which says that nothing is refused
-number_low : (r : Reason) → 1 ≤ number r
-number_low SettingsOut = omega arith
-number_low LengthOut = omega arith
-number_low LineMisprinted = omega arith
-number_low TagFalls = omega arith
-number_low CopiesOut = omega arith
-number_low CycleTooLong = omega arith
-number_low BufferTooShort = omega arith
-number_low BucketMisprinted = omega arith
-number_low NotAwaited = omega arith
-number_low PastNextCycle = omega arith
-number_low ImageLengthOut = omega arith
-number_low TuneInOut = omega arith
-number_low NoListBuilds = omega arith
-number_low ListenerEnded = omega arith
-number_low NotInList = omega arith
-number_low NoPlace = omega arith
-number_low NoLine = omega arith
-
--- ---- an answer, of what is told by its figures
-
-module _ {A : Type 0} (figures : A → List ℕ) (tells : (a b : A) → figures a ≡ figures b → a ≡ b) where
-  pub answer_told : (x y : Result A Refusal) → numbers_of figures x ≡ numbers_of figures y → x ≡ y
-  answer_told (Ok a) (Ok b) h = let same : figures a ≡ figures b = cc in ap Ok (tells a b same)
-  answer_told (Ok a) (Err r) h = let none : 0 ≡ number r.reason = cc in absurd (omega (arith, number_low r.reason))
-  answer_told (Err r) (Ok a) h = let none : number r.reason ≡ 0 = cc in absurd (omega (arith, number_low r.reason))
-  answer_told (Err r) (Err q) h =
-      let numbers : number r.reason ≡ number q.reason = cc in
-      let place : r.place ≡ q.place = cc in
-      let reason : r.reason ≡ q.reason = reason_told r.reason q.reason numbers in
-      λ i. Err (record { reason = reason i; place = place i })
-
--- ---- the answers of the calls
+use Rattle.cycle.proofs.Basics.Numbers.{answer_told}
 
 pub built_told : (a b : Result ℕ Refusal) → building.numbers a ≡ building.numbers b → a ≡ b
 built_told = answer_told _ (λ n m h. cc)

@@ -1,19 +1,19 @@
 -- The conditions 3 and 4 of building, line by line: the first misprinted line, and the first line whose tag falls; and lines without
 -- leading zeros.
 -- Assumes nothing.
-use mathlib.Core.Path.{◌≡◌, refl, sym, ap, ◌∙◌}
+use mathlib.Core.Path.{◌≡◌, sym, ◌∙◌}
 use Prim.Native.Nat.{ℕ, suc, ◌+◌, ◌*◌, ◌/◌, ◌≤◌, ◌<◌}
 use native.Mathlib.Nat.{mul_comm, mul-div_cancel}
 use native.Mathlib.Numerals.{add-one}
 use native.Mathlib.Omega.{arith}
 use mathlib.Core.Bool.{Bool, true, false}
-use Rattle.std.specs.Prelude.{Option, None, Some}
+use Rattle.std.specs.Prelude.{None, Some}
 use mathlib.Core.List.{List, [], ◌∷◌, ◌++◌}
 use lib.Dec.{lit<, leb}
 use lib.ListN.{length, take, drop, drop_of_length-le}
 use lib.Seq.{drop-cons, take-suc, take_all}
 use borrow.Author.Tests.{le-leb, lt-leb}
-use Rattle.columns.specs.Lists.{pick, every}
+use Rattle.columns.specs.Lists.{every}
 use Rattle.columns.specs.PrintedNumbers.{value}
 use Rattle.columns.proofs.Joined.{every_append}
 use Rattle.buckets.specs.declared.Line.{Line}

@@ -1,7 +1,6 @@
 -- A line that arrives in a list, both having passed 1 to 4: what each of the steps of a change comes to.
 -- Assumes nothing.
 use Rattle.std.proofs.Common.{◌≡◌, ℕ, suc, ◌+◌, ◌*◌, ◌≤◌, Bool, true, List, [], None, Some, Ok, Err, length, take, sym, ap, ◌∙◌, subst, arith, add-one}
-use lib.Seq.{length-take-le}
 use Rattle.buckets.specs.Lengths.{line_length, lines_most, bucket_length}
 use Rattle.buckets.specs.ListLine.{spelled, taken, list_lines}
 use Rattle.buckets.specs.Inner.Columns.{read_plain, PlainList}

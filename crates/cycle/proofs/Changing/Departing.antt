@@ -4,7 +4,6 @@ use Rattle.std.proofs.Common.{◌≡◌, ℕ, ◌+◌, ◌-◌, ◌*◌, ◌≤�
 use Rattle.buckets.specs.Lengths.{line_length, lines_most, bucket_length}
 use Rattle.buckets.specs.ListLine.{spelled, cut_lines, list_lines}
 use Rattle.buckets.specs.Inner.Columns.{PlainList}
-use Rattle.buckets.proofs.Lists.{length_list_lines}
 use Rattle.columns.specs.Lists.{any}
 use Rattle.cycle.specs.Refusals.{refusal, first_refusal}
 use Rattle.cycle.specs.Refusals.{outcome as answer_by}

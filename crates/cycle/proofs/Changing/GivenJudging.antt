@@ -1,6 +1,6 @@
 -- The conditions 1 to 4 of a list in its buffer and a given line: what is known where none of them holds, and what each answers.
 -- Assumes nothing.
-use mathlib.Core.Path.{◌≡◌, refl, ◌∙◌, subst}
+use mathlib.Core.Path.{◌≡◌, refl, ◌∙◌}
 use Prim.Native.Nat.{ℕ, ◌*◌, ◌≤◌, ◌<◌}
 use mathlib.Core.Bool.{Bool, true, false, ◌&&◌, not}
 use Rattle.std.specs.Prelude.{Option, None, Some, Result, Ok, Err}
@@ -13,7 +13,7 @@ use borrow.Author.Tests.{leb-true, eqb-true, le-leb, lt-leb, eq-eqb, ne_eqb, not
 use Rattle.columns.specs.Lists.{pick}
 use Rattle.columns.proofs.Strict.{both}
 use Rattle.buckets.specs.Lengths.{line_length, lines_most}
-use Rattle.buckets.specs.ListLine.{taken, read_line, cut_lines, list_lines, few_lines, misprint_from, fall_from}
+use Rattle.buckets.specs.ListLine.{taken, read_line, cut_lines, few_lines, misprint_from}
 use Rattle.cycle.specs.declared.Settings.{Settings}
 use Rattle.cycle.specs.Refusals.{Condition, refusal, row_at, first_refusal}
 use Rattle.cycle.specs.Building.{settings_fit, settings_out, line_misprinted, tag_falls}

@@ -2,8 +2,8 @@
 -- Assumes nothing.
 use mathlib.Core.Path.{◌≡◌, sym, ap, subst, ◌∙◌}
 use Prim.Native.Nat.{ℕ, ◌*◌, ◌≤◌}
-use Rattle.std.specs.Prelude.{None, Ok, Err}
-use mathlib.Core.List.{List}
+use Rattle.std.specs.Prelude.{None, Result, Ok, Err}
+use mathlib.Core.List.{List, ◌∷◌}
 use native.Mathlib.Omega.{arith}
 use Rattle.buckets.specs.ListLine.{list_lines}
 use Rattle.buckets.specs.Lengths.{lines_most, buckets_most}
@@ -13,10 +13,25 @@ use Rattle.cycle.specs.declared.Settings.{Settings}
 use Rattle.cycle.specs.Waits.{conditions, wait_sum, waits}
 use Rattle.cycle.specs.declared.WaitSum.{WaitSum}
 use Rattle.cycle.specs.declared.Refusal.{Refusal}
+use Rattle.cycle.proofs.Basics.Numbers.{answer_told}
 use Rattle.cycle.proofs.Basics.Conditions.{refused_by, passed_by, refuses_by}
+use Rattle.listener.specs.declared.MeanWait.{MeanWait}
+use Rattle.listener.specs.Mean
 use Rattle.listener.specs.Mean.{buckets, divisor, divided, mean_wait, mean}
 use Rattle.listener.proofs.Means.DifferentTags.{different_few}
 use Rattle.listener.proofs.Means.Waits.{some_bucket, size_small, some_tag, sum_is, few_lines_lem}
+
+-- the numbers of an answer tell it
+pub averaged_told : (a b : Result MeanWait Refusal) → Mean.numbers a ≡ Mean.numbers b → a ≡ b
+averaged_told = answer_told _ (λ w v h. mean_told w v (ap (λ (xs : List ℕ). 0 ∷ 0 ∷ xs) h))
+  where
+    mean_told : (w v : MeanWait) → Mean.numbers (Ok w) ≡ Mean.numbers (Ok v) → w ≡ v
+    mean_told w v h =
+        let sum : w.sum ≡ v.sum = cc in
+        let by : w.divisor ≡ v.divisor = cc in
+        let quotient : w.quotient ≡ v.quotient = cc in
+        let remainder : w.remainder ≡ v.remainder = cc in
+        λ i. record { sum = sum i; divisor = by i; quotient = quotient i; remainder = remainder i }
 
 -- what is asked of a sum that is divided
 pub record Divisible (w : WaitSum) : Type 0 where

@@ -10,7 +10,7 @@ use Rattle.columns.specs.Lists.{pick}
 use Rattle.std.specs.Prelude.{Result, Ok, Err}
 use Rattle.cycle.specs.Refusals.{refusal}
 use Rattle.cycle.specs.declared.Refusal.{Refusal}
-use Rattle.cycle.proofs.Basics.Telling.{reason_by, reason_back}
+use Rattle.cycle.proofs.Basics.Numbers.{reason_by, reason_back}
 use Rattle.listener.specs.Listener.{stepped, step_numbers}
 use Rattle.listener.specs.Lookup
 use Rattle.listener.specs.declared.Listener.{Listener}

@@ -1,12 +1,10 @@
 -- 16, then 5 to 7 of the changed list's figures; and then the line is put in and the cycle written.
-use Rattle.std.proofs.Common.{◌≡◌, ◌+◌, ◌-◌, ◌*◌, ℕ, suc, true, Ok, Err, unwrap_or, length, take, drop, sym, ap, ◌∙◌, refl, arith, add-one}
+use Rattle.std.proofs.Common.{◌*◌, Ok, Err, unwrap_or, length, take, sym, ap, ◌∙◌, refl, arith, add-one}
 use Rattle.std.proofs.lemmas.Result.{err_from_is_err_and}
 use lib.Seq.{length-take-le}
 use Rattle.buckets.specs.Lengths.{line_length}
 use Rattle.buckets.specs.ListLine.{spelled, list_lines}
 use Rattle.cycle.specs.Changes.{list_in, places_for}
-use Rattle.cycle.specs.declared.Source.TheVariants.{List as InList}
-use Rattle.cycle.specs.Inner.Held.{plan_in, written}
 use Rattle.cycle.specs.Inner.Changing.{first_from, tag_over}
 use Rattle.cycle.proofs.Building.Accepted
 use Rattle.cycle.proofs.Changing.ChangedBuffers.{full_list, full_buffer}

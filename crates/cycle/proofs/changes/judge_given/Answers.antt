@@ -1,5 +1,5 @@
 -- 1 and 2 in their order, and then the lines decide.
-use Rattle.std.proofs.Common.{Err, Some, sym, ap, ◌∙◌}
+use Rattle.std.proofs.Common.{Some, sym, ap, ◌∙◌}
 use Rattle.cycle.specs.Changes.{list_in, line_conditions, given_conditions}
 use Rattle.cycle.proofs.Changing.GivenJudging.{places_fit, length_in, settings_refused, too_many_lines_lem, no_places, given_length_out_lem, lines_decide, told_by}
 use Rattle.cycle.proofs.changes.judge_given.Goals as goal

@@ -1,9 +1,9 @@
 -- 15, then 5 to 7 of the changed list's figures; and then the line is removed and the cycle written.
-use Rattle.std.proofs.Common.{◌≡◌, ◌+◌, ◌-◌, ◌*◌, ℕ, suc, true, Ok, Err, unwrap_or, length, take, drop, sym, ap, ◌∙◌, refl, arith, add-one}
+use Rattle.std.proofs.Common.{◌*◌, Ok, Err, length, take, sym, ap, ◌∙◌, refl, arith}
 use Rattle.std.proofs.lemmas.Result.{err_from_is_err_and}
 use lib.Seq.{length-take-le}
 use Rattle.buckets.specs.Lengths.{line_length}
-use Rattle.buckets.specs.ListLine.{spelled, list_lines}
+use Rattle.buckets.specs.ListLine.{list_lines}
 use Rattle.cycle.specs.Changes.{same_numbers, list_in}
 use Rattle.cycle.specs.Inner.Changing.{first_from}
 use Rattle.cycle.proofs.Building.Accepted

@@ -1,5 +1,5 @@
 -- 1 to 4 in their order, and then the figures of the list's length are judged as the list is.
-use Rattle.std.proofs.Common.{◌≡◌, true, Err, length, sym, ap, ◌∙◌, arith}
+use Rattle.std.proofs.Common.{Err, length, sym, ap, ◌∙◌}
 use Rattle.std.proofs.lemmas.Result.{err_from_is_err_and}
 use Rattle.cycle.proofs.Building.Accepted
 use Rattle.cycle.proofs.Building.Answering.{refused_1, refused_2, lines_refused, judges_refusal, no_multiple, too_long, lines_fit, lines_judged}
@@ -18,12 +18,12 @@ returns-then-length-ne0 c =
     (no_multiple (length c.args.list.now) c.if-length-ne0.true))
     ∙ ap Err (sym c.from-then-length-ne0.ensures)
 
-pub returns-then-lines-gt-LINES_MOST : goal.returns-then-lines-gt-LINES_MOST
-returns-then-lines-gt-LINES_MOST c =
+pub returns-then-too_many : goal.returns-then-too_many
+returns-then-too_many c =
     judges_refusal c.args.settings c.args.list.now c.args.room _
     (refused_2 c.args.settings c.args.list.now c.args.room (sym c.settings_fit.ensures ∙ c.if-not-settings_fit.false)
-    (too_long (length c.args.list.now) c.if-length-ne0.false c.if-lines-gt-LINES_MOST.true))
-    ∙ ap Err (sym c.from-then-lines-gt-LINES_MOST.ensures)
+    (too_long (length c.args.list.now) c.if-length-ne0.false c.if-too_many.true))
+    ∙ ap Err (sym c.from-then-too_many.ensures)
 
 pub returns-in_err-plain : goal.returns-in_err-plain
 returns-in_err-plain c =
@@ -31,11 +31,11 @@ returns-in_err-plain c =
     rw (told.1, told.2)
     (judges_refusal c.args.settings c.args.list.now c.args.room _
     (lines_refused c.args.settings c.args.list.now c.args.room (sym c.settings_fit.ensures ∙ c.if-not-settings_fit.false)
-    (lines_fit (length c.args.list.now) c.if-length-ne0.false c.if-lines-gt-LINES_MOST.false) _ c.in_err-plain.ensures))
+    (lines_fit (length c.args.list.now) c.if-length-ne0.false c.if-too_many.false) _ c.in_err-plain.ensures))
 
 pub figures_of-requires : goal.figures_of-requires
 figures_of-requires c =
-    (Accepted.settings_fit_lem c.args.settings (sym c.settings_fit.ensures ∙ c.if-not-settings_fit.false), c.if-lines-gt-LINES_MOST.false)
+    (Accepted.settings_fit_lem c.args.settings (sym c.settings_fit.ensures ∙ c.if-not-settings_fit.false), c.if-too_many.false)
 
 pub returns-in_err-figures : goal.returns-in_err-figures
 returns-in_err-figures c =
@@ -44,7 +44,7 @@ returns-in_err-figures c =
     (sym
     (c.in_err-figures.ensures
     ∙ lines_judged c.args.settings c.args.list.now c.args.room c.figures_of.result (sym c.settings_fit.ensures ∙ c.if-not-settings_fit.false)
-    (lines_fit (length c.args.list.now) c.if-length-ne0.false c.if-lines-gt-LINES_MOST.false) c.in_ok-plain.ensures.0
+    (lines_fit (length c.args.list.now) c.if-length-ne0.false c.if-too_many.false) c.in_ok-plain.ensures.0
     c.figures_of.ensures.0 c.figures_of.ensures.1))
 
 pub returns : goal.returns
@@ -52,7 +52,7 @@ returns c = (
   sym
       (c.in_ok-figures.ensures
       ∙ lines_judged c.args.settings c.args.list.now c.args.room c.figures_of.result (sym c.settings_fit.ensures ∙ c.if-not-settings_fit.false)
-      (lines_fit (length c.args.list.now) c.if-length-ne0.false c.if-lines-gt-LINES_MOST.false) c.in_ok-plain.ensures.0
+      (lines_fit (length c.args.list.now) c.if-length-ne0.false c.if-too_many.false) c.in_ok-plain.ensures.0
       c.figures_of.ensures.0 c.figures_of.ensures.1),
   c.in_ok-plain.ensures.1,
 )

@@ -1,14 +1,13 @@
 -- 13, 7 and the list.
-use Rattle.std.proofs.Common.{◌≡◌, ◌%◌, ◌/◌, ◌≤◌, ℕ, true, false, List, [], Err, length, sym, ap, ◌∙◌, refl, arith}
+use Rattle.std.proofs.Common.{◌≡◌, ◌%◌, ◌/◌, ◌≤◌, ℕ, List, Err, length, sym, ap, ◌∙◌, refl, arith}
 use Rattle.cycle.specs.Tree.{settings}
 use Rattle.cycle.specs.Refusals.{refusal}
-use Rattle.cycle.specs.Building.{copies_fit}
 use Rattle.cycle.specs.ReadingBack.{refused, read_back, NoneBuilds}
 use Rattle.cycle.specs.declared.Settings.{Settings}
 use Rattle.cycle.specs.declared.Reason.TheVariants.{NoListBuilds}
 use Rattle.cycle.specs.declared.Figures.{Figures}
-use Rattle.cycle.specs.Inner.Held.{plan_of, Shaped}
-use Rattle.cycle.specs.Inner.Comparing.{counted, Holding}
+use Rattle.cycle.specs.Inner.Held.{Shaped}
+use Rattle.cycle.specs.Inner.Comparing.{counted}
 use Rattle.cycle.specs.Inner.Settings.{Figured}
 use Rattle.cycle.proofs.ReadingBack.Demand2.{every_read_back}
 use Rattle.cycle.proofs.ReadingBack.ReadBackAnswers

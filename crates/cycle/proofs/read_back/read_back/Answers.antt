@@ -1,9 +1,5 @@
 -- 1 and 11, then 13, 7 and the list.
-use Rattle.std.proofs.Common.{◌≡◌, true, Err, length, sym, ap, ◌∙◌, arith}
-use Rattle.columns.specs.Lists.{onto}
-use Rattle.cycle.specs.Tree.{settings}
-use Rattle.cycle.specs.ReadingBack.{read_back}
-use Rattle.cycle.specs.Inner.Comparing.{counted}
+use Rattle.std.proofs.Common.{Err, length, sym, ap, ◌∙◌, arith}
 use Rattle.cycle.proofs.Building.Accepted.{settings_fit_lem}
 use Rattle.cycle.proofs.ReadingBack.Demand2.{refuses_1, refuses_11, every_read_back}
 use Rattle.cycle.proofs.ReadingBack.ReadBackAnswers.{buckets_whole, image_empty, image_torn, image_long, refuses, many_refused}
@@ -45,16 +41,16 @@ line_count-lines-requires c =
     let told = settings_fit_lem c.args.settings (sym c.settings_fit.ensures ∙ c.if-not-settings_fit.false) in
     (omega (arith, c.if-length-gt-BUCKETS_MOST.false, c.if-length-ne0.false), told.p_high)
 
-pub returns-then-lines-gt-LINES_MOST : goal.returns-then-lines-gt-LINES_MOST
-returns-then-lines-gt-LINES_MOST c =
+pub returns-then-too_many : goal.returns-then-too_many
+returns-then-too_many c =
     let fit = sym c.settings_fit.ensures ∙ c.if-not-settings_fit.false in
     let all =
     refuses _ _ c.args.out.now
     ((every_read_back c.args.settings c.args.image.now (length c.args.out.now)).refuses_13 fit
     (buckets_whole _ (omega (arith, c.if-length-eq0.false)) c.if-length-ne0.false c.if-length-gt-BUCKETS_MOST.false)
-    (many_refused c.args.settings c.args.image.now (omega (arith, c.line_count-lines.ensures, c.if-lines-gt-LINES_MOST.true)))) in
-    (ap Err c.from-then-lines-gt-LINES_MOST.ensures ∙ all.0, all.1)
+    (many_refused c.args.settings c.args.image.now (omega (arith, c.line_count-lines.ensures, c.if-too_many.true)))) in
+    (ap Err c.from-then-too_many.ensures ∙ all.0, all.1)
 
 pub figures_of-requires : goal.figures_of-requires
 figures_of-requires c =
-    (settings_fit_lem c.args.settings (sym c.settings_fit.ensures ∙ c.if-not-settings_fit.false), c.if-lines-gt-LINES_MOST.false)
+    (settings_fit_lem c.args.settings (sym c.settings_fit.ensures ∙ c.if-not-settings_fit.false), c.if-too_many.false)
