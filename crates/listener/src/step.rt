@@ -1,6 +1,5 @@
 // A listener's start, its step and its lost bucket: document 01, "The listener", with document 02, C-12 and C-16.
 ghost use Rattle.std.specs.Prelude.{◌≡◌, List, ℕ, ◌+◌, ◌≤◌, length};
-ghost use Rattle.std.specs.Prelude.{Some};
 ghost use Rattle.std.specs.Option.{option_map};
 ghost use Rattle.buckets.specs.Lengths.{buckets_most, bucket_lines_most};
 ghost use Rattle.buckets.specs.Bucket.{Body, index_body, data_body, read_bucket};
@@ -298,18 +297,20 @@ impl Listener {
         self.data_step(h, follow_on, tags)
     }
 
-    // A bucket that was read, by its kind.
-    fn take_reading(self, reading: &Reading) -> Stepped
-        requires { WasRead reading.now }
-        ensures { (bytes : List ℕ) → Some reading.now ≡ option_map reading_of (read_bucket bytes) →
-            result ≡ heed_read self (read_bucket bytes) }
+    // What was read: 8, or the bucket of its kind.
+    fn take_reading(self, r: Option<Reading>) -> Stepped
+        requires { WasRead r }
+        ensures { (bytes : List ℕ) → r ≡ option_map reading_of (read_bucket bytes) → result ≡ heed_read self (read_bucket bytes) }
     {
+        let Some(reading) = r else {
+            return self.refused(8);
+        };
         let head = reading.head;
-        match &reading.contents {
+        match reading.contents {
             Contents::Index { pairs, entries } => {
                 self.take_index(head, pairs.as_slice(), entries.as_slice())
             }
-            Contents::Data { follow_on, tags } => self.take_data(head, *follow_on, tags.as_slice()),
+            Contents::Data { follow_on, tags } => self.take_data(head, follow_on, tags.as_slice()),
         }
     }
 
@@ -334,10 +335,8 @@ impl Listener {
         if is_ended(phase) {
             return self.refused_ended();
         }
-        match &reader::read_bucket(bucket) {
-            Some(reading) => self.take_reading(reading),
-            None => self.refused(8),
-        }
+        let reading = reader::read_bucket(bucket);
+        self.take_reading(reading)
     }
 
     // The listener that starts over with the next bucket as its tune-in, its counts running on.

@@ -60,7 +60,7 @@ pub record Near (ps : List Pair) (es : List Entry) : Type 0 where
   pub pairs_near : every (λ p. leb p.distance buckets_most) ps ≡ true
   pub entries_near : every (λ e. leb e.distance buckets_most) es ≡ true
 
--- what a strict reading of some bytes found
-pub record WasRead (r : Reading) : Type 0 where
+-- the outcome of a strict reading of some bytes
+pub record WasRead (r : Option Reading) : Type 0 where
   pub bytes : List ℕ
-  pub is : Some r ≡ option_map reading_of (read_bucket bytes)
+  pub is : r ≡ option_map reading_of (read_bucket bytes)
