@@ -83,7 +83,11 @@ fn first_fall(list: &[u8], lines: u64) -> u64
 fn tag_read(part: &[u8], plain: bool) -> Option<u64>
     ensures { result ≡ option_map (λ l. l.tag) (pick plain (read_plain part.now) (read_line part.now)) }
 {
-    if plain { plain_tag(part) } else { line_tag(part) }
+    if plain {
+        plain_tag(part)
+    } else {
+        line_tag(part)
+    }
 }
 
 // Whether every line is well printed, without leading zeros where `plain` says so, and no tag falls, in one pass. Where it is

@@ -17,8 +17,8 @@ ghost use Rattle.cycle.specs.Inner.Held.{pair_reach, tree_pairs, path_pairs, OnP
 use super::measures::{full_size, power, up};
 use super::places::{data_place, first_place, largest_tag, tag_of, tag_place};
 use super::{Figures, Segment, Source};
-use buckets::writer::{put_entry, start_index};
 use arrayvec::ArrayVec;
+use buckets::writer::{put_entry, start_index};
 use buckets::{Head, Pair};
 
 // A distance from position x to a place of the cycle if it is ahead, else to the next cycle's start.

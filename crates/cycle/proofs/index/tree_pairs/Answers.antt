@@ -25,6 +25,6 @@ returns-else-f-eq2 c =
     c.new-pairs.ensures
     ∙ sym
     (elim c.else-f-eq2.branch [
-      else-f-eq2-via-then-f-eq2+else-e-f w ↦ tree_pair_low t a.s.first (a.f.size - a.x) a.e w.if-f-eq2.true w.if-e-f.false
+      | else-f-eq2-via-then-f-eq2+else-e-f w ↦ tree_pair_low t a.s.first (a.f.size - a.x) a.e w.if-f-eq2.true w.if-e-f.false
       | else-f-eq2-via-else-f-eq2 w ↦ tree_pair_none t a.s.first (a.f.size - a.x) a.e w.if-f-eq2.false
     ])

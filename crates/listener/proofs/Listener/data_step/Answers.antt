@@ -56,12 +56,12 @@ returns-then-follow_on-eq0 c =
     let a = c.args in
     let found : data_choice a.self.tag a.follow_on (tagged_lines a.tags.now) ≡ finds c.lines_before-first.result c.lines_matching-matching.result =
     elim c.then-follow_on-eq0.branch [
-      then-follow_on-eq0-via-then-follow_on-eq0 w ↦
-        no_follow a.self.tag a.follow_on a.tags.now _ _ c.lines_matching-matching.ensures c.if-matching-eq0.false c.lines_before-first.ensures
-        w.if-follow_on-eq0.true
+      | then-follow_on-eq0-via-then-follow_on-eq0 w ↦
+          no_follow a.self.tag a.follow_on a.tags.now _ _ c.lines_matching-matching.ensures c.if-matching-eq0.false c.lines_before-first.ensures
+          w.if-follow_on-eq0.true
       | then-follow_on-eq0-via-else-follow_on-eq0+then-tags-self w ↦
-        other_last a.self.tag a.follow_on a.tags.now _ _ c.lines_matching-matching.ensures c.if-matching-eq0.false c.lines_before-first.ensures
-        w.if-tags-self.true
+          other_last a.self.tag a.follow_on a.tags.now _ _ c.lines_matching-matching.ensures c.if-matching-eq0.false c.lines_before-first.ensures
+          w.if-tags-self.true
     ] in
     rw found c.end_by-then-follow_on-eq0.ensures
 

@@ -7,10 +7,10 @@ use Rattle.listener.proofs.choose.lines_matching.Goals.{then-own-tag, else-own-t
 pub loop-own-preserved : goal.loop-own-preserved
 loop-own-preserved c =
     elim c.if-own-tag.branch [
-      then-own-tag w ↦
-        (omega arith, omega (arith, matching_hit c.args.tag c.args.tags.now c.loop-own.own-index c.loop-own-test.true w.if-own-tag.true))
+      | then-own-tag w ↦
+          (omega arith, omega (arith, matching_hit c.args.tag c.args.tags.now c.loop-own.own-index c.loop-own-test.true w.if-own-tag.true))
       | else-own-tag w ↦
-        (omega arith, omega (arith, matching_miss c.args.tag c.args.tags.now c.loop-own.own-index c.loop-own-test.true w.if-own-tag.false))
+          (omega arith, omega (arith, matching_miss c.args.tag c.args.tags.now c.loop-own.own-index c.loop-own-test.true w.if-own-tag.false))
     ]
 
 pub returns : goal.returns
