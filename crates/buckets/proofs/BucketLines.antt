@@ -4,7 +4,7 @@ use mathlib.Core.Path.{◌≡◌, refl, sym, ap, ◌∙◌}
 use Prim.Native.Nat.{ℕ, zero, suc, ◌+◌, ◌-◌, ◌*◌, ◌≤◌, ◌<◌}
 use native.Mathlib.Omega.{arith}
 use mathlib.Core.Bool.{true}
-use Rattle.std.specs.Prelude.{Option, None, Some, Result, Ok, Err}
+use Rattle.std.specs.Prelude.{None, Some, Result, Option, Ok, Err}
 use mathlib.Core.List.{List, [], ◌∷◌, ◌++◌, map, append_assoc}
 use lib.ListN
 use lib.ListN.{length, get_or, length-map}
@@ -20,9 +20,8 @@ use Rattle.buckets.specs.Bucket.{Body, index_body, data_body, Bucket, print_head
 use Rattle.buckets.specs.BucketLines.{body_lines, nth, bucket_line, numbers, line_bytes}
 use Rattle.buckets.specs.declared.Misprinted.{Misprinted}
 use Rattle.arrayvec.specs.ArrayVec.{ArrayVec}
-use Rattle.buckets.specs.declared.Contents.{Contents}
 use Rattle.buckets.specs.declared.Contents.TheVariants.{Index, Data}
-use Rattle.buckets.specs.Inner.Held.{contents_of, reading_of}
+use Rattle.buckets.specs.Inner.Held.{contents_of}
 use Rattle.buckets.proofs.ListLines.{length_line_columns, spelled_alone}
 use Rattle.buckets.proofs.Good.{GoodData, bucket_good}
 use Rattle.buckets.proofs.Buckets.{length_print_head, print_of_read_bucket}

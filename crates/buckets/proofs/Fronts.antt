@@ -3,24 +3,18 @@
 --     item_written                     the same, the items being the first of some
 --     line_written, line_columns_at    one more line, and where its columns stand in a list
 -- Assumes nothing.
-use Prim.Native.Nat.{ℕ, zero, suc, ◌+◌, ◌*◌, ◌≤◌, ◌<◌}
-use mathlib.Core.Path.{◌≡◌, refl, sym, ap, ◌∙◌}
-use mathlib.Core.Bool.{true, false}
-use mathlib.Core.List.{List, [], ◌∷◌, ◌++◌, map, append_assoc, append-nil}
+use Prim.Native.Nat.{ℕ, ◌+◌, ◌*◌, ◌≤◌, ◌<◌}
+use mathlib.Core.Path.{◌≡◌, sym, ap, ◌∙◌}
+use mathlib.Core.List.{List, [], ◌∷◌, ◌++◌, append-nil}
 use native.Mathlib.Numerals.{add-one}
-use native.Mathlib.Omega.{arith}
 use lib.Dec.{lit≤}
 use lib.ListN.{length, take, drop, get_or}
 use lib.Seq.{length-take-le, take-suc, take-take, take_at}
-use Rattle.columns.specs.Lists.{joined, padded}
-use Rattle.columns.specs.PrintedNumbers.{print, blanks}
-use Rattle.columns.proofs.FromTheRight.{length_blanks}
-use Rattle.columns.proofs.Printed.{length_print}
-use Rattle.columns.proofs.Padded.{padded_on, padded_over}
+use Rattle.columns.specs.Lists.{joined}
 use Rattle.columns.proofs.Joined.{joined_append, length_joined, joined_at}
 use Rattle.buckets.specs.declared.Line.{Line}
 use Rattle.buckets.specs.ListLine.{line_columns, print_line}
-use Rattle.buckets.specs.Lengths.{newline, tag_width, line_columns_width, line_length, place_width, entry_width}
+use Rattle.buckets.specs.Lengths.{newline, line_columns_width, line_length}
 use Rattle.buckets.proofs.ListLines.{length_line_columns, length_print_line}
 
 pub joined_next : {A : Type 0} (f : A → List ℕ) (xs : List A) (x : A) → joined f (xs ++ x ∷ []) ≡ joined f xs ++ f x

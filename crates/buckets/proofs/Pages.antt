@@ -5,13 +5,12 @@
 --     newline_filled               a bucket's last column
 --     front_started                an index bucket with blank entries
 -- Assumes nothing.
-use Prim.Native.Nat.{ℕ, suc, ◌+◌, ◌-◌, ◌≤◌}
+use Prim.Native.Nat.{ℕ, ◌+◌, ◌-◌}
 use mathlib.Core.Path.{◌≡◌, refl, sym, ap, ◌∙◌}
-use mathlib.Core.Bool.{Bool}
 use mathlib.Core.List.{List, [], ◌∷◌, ◌++◌, append_assoc}
 use native.Mathlib.Omega.{arith}
 use lib.Dec.{lit<, lit≤}
-use lib.ListN.{length, take, set, length-append, length-take, length-map}
+use lib.ListN.{length, set, length-append}
 use Rattle.columns.specs.Lists.{joined, padded}
 use Rattle.columns.specs.PrintedNumbers.{blanks}
 use Rattle.columns.proofs.Printed.{length_padded}
@@ -22,7 +21,7 @@ use Rattle.buckets.specs.ListLine.{line_columns}
 use Rattle.buckets.specs.declared.Pair.{Pair}
 use Rattle.buckets.specs.Bucket.{Body, data_body, follow_on, letter, pair_count, item_count, head_columns, print_head, print_body, print_bucket, print_pair}
 use Rattle.buckets.specs.Inner.Held.{bucket_with, index_front}
-use Rattle.buckets.specs.Lengths.{newline, letter_index, letter_data, pairs_most, bucket_end, bucket_length}
+use Rattle.buckets.specs.Lengths.{newline, letter_index, letter_data, bucket_end, bucket_length}
 use Rattle.buckets.specs.Lengths.{pairs_width, entries_start, entries_width, lines_width}
 
 -- the columns before the body, their first three numbers in h

@@ -13,6 +13,7 @@ use Rattle.buckets.specs.Lengths.{position_start, to_cycle_start, to_segment_sta
 use Rattle.buckets.specs.Lengths.{pair_count_start, item_count_start, pairs_most, entries_most, bucket_lines_most, distance_start}
 use Rattle.buckets.specs.Lengths.{entry_width, pairs_start, pairs_width, entries_start, entries_width, lines_start, lines_width}
 use Rattle.buckets.specs.Lengths.{buckets_most}
+
 -- what tells the two kinds of bucket apart: control pairs and entries, or follow-on and lines
 pub data Body : Type 0 where
   index_body : List Pair → List Entry → Body

@@ -1,5 +1,4 @@
 -- Length, newline, columns, and the ranges of tare and tag.
-use Rattle.std.proofs.Common.{arith}
 use Rattle.buckets.proofs.LenientLines.{no_line_length, no_newline, no_numbers, tare_over, tag_holds, tag_over_lem, tag_read}
 use Rattle.buckets.proofs.lines.line_tag.Goals as goal
 use Rattle.buckets.proofs.lines.line_tag.Goals.{then-part-ne-LENGTH-via-then-part-ne-LENGTH, then-part-ne-LENGTH-via-else-part-ne-LENGTH+then-part-ne-NEWLINE}

@@ -1,5 +1,5 @@
 -- Length, newline, columns.
-use Rattle.std.proofs.Common.{ℕ, sym, ap, ◌∙◌}
+use Rattle.std.proofs.Common.{sym, ap, ◌∙◌}
 use Rattle.std.specs.Option.{option_map}
 use Rattle.buckets.specs.declared.Line.{Line}
 use Rattle.buckets.proofs.Chained.{both_on, first_out, second_out}

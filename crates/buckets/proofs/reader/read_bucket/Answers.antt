@@ -1,6 +1,6 @@
 -- Length, newline, head, letter, and what is behind the head.
 use Rattle.std.proofs.Common.{get_or, sym, ap, ◌∙◌, arith}
-use borrow.Author.Tests.{eq-eqb, ne_eqb}
+use borrow.Author.Tests.{ne_eqb}
 use Rattle.std.specs.Option.{option_map}
 use Rattle.buckets.specs.Lengths.{letter_column, letter_index, letter_data}
 use Rattle.buckets.specs.Inner.Held.{reading_of}

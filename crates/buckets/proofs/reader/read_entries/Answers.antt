@@ -1,5 +1,5 @@
 -- The entrys read so far, and what the reading of all of them is.
-use Rattle.std.proofs.Common.{ℕ, suc, refl, sym, ap, ◌∙◌}
+use Rattle.std.proofs.Common.{ℕ, refl, sym, ap, ◌∙◌}
 use Rattle.std.specs.Option.{option_map}
 use Rattle.buckets.specs.declared.Entry.{Entry}
 use Rattle.buckets.specs.Lengths.{entry_width}

@@ -1,5 +1,4 @@
 -- The entries read so far.
-use Rattle.std.proofs.Common.{◌≡◌}
 use Rattle.buckets.specs.Lengths.{entry_width}
 use Rattle.buckets.specs.Inner.Columns.{read_entry}
 use Rattle.buckets.proofs.Progress.{ReadSoFar}

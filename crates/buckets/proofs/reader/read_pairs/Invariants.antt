@@ -1,5 +1,5 @@
 -- The pairs read so far.
-use Rattle.std.proofs.Common.{◌≡◌, suc}
+use Rattle.std.proofs.Common.{suc}
 use Rattle.buckets.specs.Lengths.{entry_width}
 use Rattle.buckets.specs.Inner.Columns.{read_pair}
 use Rattle.buckets.proofs.Progress.{ReadSoFar}

@@ -1,5 +1,5 @@
 -- The lines read so far, of which the tags are held, and what the reading of all of them is.
-use Rattle.std.proofs.Common.{ℕ, ◌+◌, Some, [], ◌∷◌, ◌++◌, map, refl, subst, sym, ap, ap₂, ◌∙◌, List}
+use Rattle.std.proofs.Common.{ℕ, ◌+◌, Some, [], ◌∷◌, ◌++◌, refl, subst, sym, ap, ap₂, ◌∙◌, List}
 use Rattle.std.proofs.lemmas.List.{map-append}
 use Rattle.std.specs.Option.{option_map}
 use Rattle.buckets.specs.declared.Line.{Line}

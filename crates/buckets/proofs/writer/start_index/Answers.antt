@@ -9,9 +9,8 @@ use Rattle.columns.specs.Lists.{padded}
 use Rattle.columns.specs.PrintedNumbers.{blanks}
 use Rattle.columns.proofs.Padded.{padded_nil, lent_blank, back_padded}
 use Rattle.buckets.specs.declared.Head.{Head}
-use Rattle.buckets.specs.declared.Pair.{Pair}
 use Rattle.buckets.specs.Lengths.{newline, letter_index, position_start, head_width, bucket_end, bucket_length}
-use Rattle.buckets.specs.Lengths.{pairs_start, pairs_width, entries_start, pairs_most}
+use Rattle.buckets.specs.Lengths.{pairs_start, pairs_width, entries_start}
 use Rattle.buckets.proofs.Buckets.{length_pairs}
 use Rattle.buckets.proofs.Pages.{front_of, pair_columns, index_front_lem, front_started}
 use Rattle.buckets.proofs.writer.start_index.Goals as goal

@@ -1,10 +1,9 @@
 -- The tag, if there is one, and the distance behind its columns.
-use Rattle.std.proofs.Common.{◌≡◌, ℕ, List, [], ◌++◌, Option, None, Some, length, refl, sym, ap, ◌∙◌, arith}
+use Rattle.std.proofs.Common.{◌≡◌, ℕ, List, [], ◌++◌, Option, None, Some, refl, sym, ◌∙◌}
 use lib.Dec.{lit≤}
 use Rattle.columns.specs.Lists.{padded, put}
 use Rattle.columns.specs.PrintedNumbers.{print, blanks}
 use Rattle.columns.proofs.Padded.{padded_nil, padded_on, padded_full, ready, printed}
-use Rattle.buckets.specs.declared.Pair.{Pair}
 use Rattle.buckets.specs.Bucket.{print_tag, print_pair}
 use Rattle.buckets.specs.Lengths.{tag_width, distance_start, place_width, entry_width}
 use Rattle.buckets.proofs.Buckets.{length_print_tag, length_print_pair}
