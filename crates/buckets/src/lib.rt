@@ -2,6 +2,7 @@
 #![tactic(auto)]
 
 use arrayvec::ArrayVec;
+use std::fmt;
 
 pub mod bucket_line;
 mod fields;
@@ -163,3 +164,9 @@ pub struct Reading {
 // The refusal of a bucket that is not 240 bytes long, or misprinted.
 #[derive(Clone, Copy, PartialEq, Eq)]
 pub struct Misprinted;
+
+impl fmt::Display for Misprinted {
+    fn fmt<W: fmt::Write>(&self, f: &mut fmt::Formatter<W>) -> fmt::Result {
+        f.write_str("bucket not 240 bytes, or misprinted")
+    }
+}

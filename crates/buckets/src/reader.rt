@@ -1,4 +1,5 @@
-// A bucket, read: field by field, each column once.
+// A bucket, read: field by field, each column once. The hints on inlining change no answer: with them a reading is written where it
+// is used, and the compiler clears no memory by the C library's memset for one that is None.
 ghost use Rattle.std.specs.Prelude.{◌≡◌, ◌≤◌, length};
 ghost use Rattle.std.specs.Option.{option_map};
 ghost use Rattle.buckets.specs.Lengths.{entry_width, pairs_width, entries_width, lines_width, bucket_length};
