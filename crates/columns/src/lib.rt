@@ -9,6 +9,7 @@ ghost use Rattle.columns.specs.PrintedNumbers.{print, blanks, all_blank, value, 
 
 // The place of a column in its field.
 #[derive(Clone, Copy, PartialEq, Eq)]
+#[repr(u8)]
 pub enum Place {
     First,
     Between,
@@ -213,11 +214,7 @@ pub fn read_number(part: &[u8]) -> Option<u64>
 fn may_be_blank(place: Place, before: u8) -> bool
     ensures { result ≡ leading place before }
 {
-    match place {
-        Place::First => true,
-        Place::Between => before == BLANK,
-        Place::Last => false,
-    }
+    ((before == BLANK) | (place == Place::First)) & (place != Place::Last)
 }
 
 // Whether c is well printed and the columns before it are. Behind unused columns of its field, and in the first one, c is blank
