@@ -1,16 +1,76 @@
 // The kinds of request, each with its call.
-use super::answers::{say, stop};
+ghost use Rattle.std.specs.Prelude.{◌<◌, IfOk};
+
+use super::answers::say;
 use super::changes::{serve_change, settings};
+use super::errors::{Stopped, StreamError};
 use super::hearing::{hear, hear_marked};
 use super::lent::{fill, hash};
-use super::numbers::{COLUMNS, Figure, number};
-use super::requests::Numbers;
+use super::numbers::{COLUMNS, number};
+use super::requests::{Head, Numbers};
 use listener::Looked;
 use std::io;
 use std::io::Print;
 
+// The calls, by the letter of their request.
+#[derive(Clone, Copy, PartialEq, Eq)]
+pub enum Call {
+    Build,
+    ReadBack,
+    Lookup,
+    Hear,
+    HearMarked,
+    Size,
+    Arrive,
+    TakeOut,
+    Mean,
+}
+
+impl TryFrom<u8> for Call {
+    type Error = StreamError;
+
+    fn try_from(letter: u8) -> Result<Self, StreamError> {
+        match letter {
+            b'B' => Ok(Call::Build),
+            b'R' => Ok(Call::ReadBack),
+            b'L' => Ok(Call::Lookup),
+            b'H' => Ok(Call::Hear),
+            b'Q' => Ok(Call::HearMarked),
+            b'F' => Ok(Call::Size),
+            b'A' => Ok(Call::Arrive),
+            b'T' => Ok(Call::TakeOut),
+            b'M' => Ok(Call::Mean),
+            _ => Err(StreamError::UnknownLetter),
+        }
+    }
+}
+
+impl Call {
+    // The length of the lent buffer.
+    fn room(self, numbers: &Numbers) -> u64 {
+        match self {
+            Call::Build | Call::ReadBack | Call::Arrive | Call::TakeOut => numbers[4],
+            Call::Lookup => numbers[2],
+            Call::Hear | Call::HearMarked | Call::Size | Call::Mean => 0,
+        }
+    }
+}
+
+// A request with its lent buffer.
+#[derive(Drop)]
+pub struct Request<'a> {
+    pub numbers: &'a Numbers,
+    pub body: &'a mut [u8],
+    pub lent: &'a mut [u8],
+}
+
 // B: building.
-fn build(rt: &impl Print, numbers: &Numbers, body: &[u8], lent: &mut [u8]) -> io::Result<bool> {
+fn build(rt: &impl Print, request: Request<'_>) -> io::Result<()> {
+    let Request {
+        numbers,
+        body,
+        lent,
+    } = request;
     let built = cycle::build::build(body, settings(numbers), lent);
     let after = hash(lent);
     match built {
@@ -20,7 +80,12 @@ fn build(rt: &impl Print, numbers: &Numbers, body: &[u8], lent: &mut [u8]) -> io
 }
 
 // R: reading back.
-fn read_back(rt: &impl Print, numbers: &Numbers, body: &[u8], lent: &mut [u8]) -> io::Result<bool> {
+fn read_back(rt: &impl Print, request: Request<'_>) -> io::Result<()> {
+    let Request {
+        numbers,
+        body,
+        lent,
+    } = request;
     let answer = cycle::read_back::read_back(body, settings(numbers), lent);
     let after = hash(lent);
     match answer {
@@ -30,7 +95,12 @@ fn read_back(rt: &impl Print, numbers: &Numbers, body: &[u8], lent: &mut [u8]) -
 }
 
 // L: a lookup.
-fn lookup(rt: &impl Print, numbers: &Numbers, body: &[u8], lent: &mut [u8]) -> io::Result<bool> {
+fn lookup(rt: &impl Print, request: Request<'_>) -> io::Result<()> {
+    let Request {
+        numbers,
+        body,
+        lent,
+    } = request;
     let looked = listener::lookup::lookup(body, numbers[0], numbers[1], lent);
     let after = hash(lent);
     match looked {
@@ -44,26 +114,39 @@ fn lookup(rt: &impl Print, numbers: &Numbers, body: &[u8], lent: &mut [u8]) -> i
     }
 }
 
-// H, and Q with lost buckets: one listener, given the body's buckets.
-fn hearing(rt: &impl Print, letter: u8, numbers: &Numbers, body: &[u8]) -> io::Result<bool> {
-    let size = numbers[1] as usize;
-    if size == 0 {
-        return stop(rt, b"error: a bucket of 0 bytes\n");
+// The bytes of a bucket of H or Q.
+fn bucket_size(numbers: &Numbers) -> Result<usize, StreamError>
+    ensures { IfOk result (λ n. 0 < n) }
+{
+    match numbers[1] as usize {
+        0 => Err(StreamError::EmptyBucket),
+        size => Ok(size),
     }
-    if letter == b'Q' {
-        return hear_marked(rt, numbers[0], size, body);
-    }
-    hear(rt, numbers[0], size, body)
 }
 
-// F: the dimensions of a cycle, C in the body.
-fn size(rt: &impl Print, numbers: &Numbers, body: &[u8]) -> io::Result<bool> {
+// H: one listener, given the body's buckets.
+fn hearing(rt: &impl Print, request: Request<'_>) -> Result<(), Stopped> {
+    let Request { numbers, body, .. } = request;
+    hear(rt, numbers[0], bucket_size(numbers)?, body)?;
+    Ok(())
+}
+
+// Q: the same with lost buckets.
+fn hearing_marked(rt: &impl Print, request: Request<'_>) -> Result<(), Stopped> {
+    let Request { numbers, body, .. } = request;
+    hear_marked(rt, numbers[0], bucket_size(numbers)?, body)
+}
+
+// The body of F: C in its columns.
+fn most_buckets(body: &[u8]) -> Result<u64, StreamError> {
     if body.len() != COLUMNS {
-        return stop(rt, b"error: a body of F is not 12 bytes\n");
+        return Err(StreamError::LengthOfSize);
     }
-    let Figure::Value(c) = number(body) else {
-        return stop(rt, b"error: a body of F is no number\n");
-    };
+    number(body).ok_or(StreamError::SizeWithoutNumber)
+}
+
+// F: the dimensions of a cycle.
+fn size(rt: &impl Print, numbers: &Numbers, c: u64) -> io::Result<()> {
     match cycle::size::size(numbers[4], settings(numbers), c) {
         Ok(f) => say(rt, &[0, 0, f.k, f.d, f.n, f.bytes, f.heard]),
         Err(refusal) => say(rt, &[refusal.number(), refusal.place, 0, 0, 0, 0, 0]),
@@ -71,58 +154,43 @@ fn size(rt: &impl Print, numbers: &Numbers, body: &[u8]) -> io::Result<bool> {
 }
 
 // M: the mean wait.
-fn mean(rt: &impl Print, numbers: &Numbers, body: &[u8]) -> io::Result<bool> {
+fn mean(rt: &impl Print, request: Request<'_>) -> io::Result<()> {
+    let Request { numbers, body, .. } = request;
     match listener::mean::mean(body, settings(numbers)) {
         Ok(w) => say(rt, &[0, 0, w.sum, w.divisor, w.quotient, w.remainder]),
         Err(refusal) => say(rt, &[refusal.number(), refusal.place, 0, 0, 0, 0]),
     }
 }
 
-// The length of the lent buffer.
-fn room(letter: u8, numbers: &Numbers) -> u64 {
-    match letter {
-        b'B' | b'R' | b'A' | b'T' => numbers[4],
-        b'L' => numbers[2],
-        _ => 0,
-    }
-}
-
-// Makes the call that the letter stands for.
-fn call(
-    rt: &impl Print,
-    letter: u8,
-    numbers: &Numbers,
-    body: &mut [u8],
-    lent: &mut [u8],
-) -> io::Result<bool> {
-    match letter {
-        b'B' => build(rt, numbers, body, lent),
-        b'R' => read_back(rt, numbers, body, lent),
-        b'L' => lookup(rt, numbers, body, lent),
-        b'H' | b'Q' => hearing(rt, letter, numbers, body),
-        b'F' => size(rt, numbers, body),
-        b'A' | b'T' => serve_change(rt, letter, numbers, body, lent),
-        b'M' => mean(rt, numbers, body),
-        _ => stop(
-            rt,
-            b"error: a letter is none of B, R, L, H, F, A, T, Q, M\n",
-        ),
-    }
-}
-
-// Makes a request's call, with a lent buffer of its length, and says the answer. Whether the stream goes on.
+// Makes a request's call, with a lent buffer of its length, and says the answer.
 pub fn answer(
     rt: &impl Print,
-    letter: u8,
-    numbers: &Numbers,
+    head: &Head,
     body: &mut [u8],
     lent: &mut [u8],
-) -> io::Result<bool> {
-    let end = room(letter, numbers) as usize;
-    if lent.len() < end {
-        return stop(rt, b"error: a lent buffer is over the limit\n");
+) -> Result<(), Stopped> {
+    let call = Call::try_from(head.letter)?;
+    let numbers = &head.numbers;
+    let room = call.room(numbers) as usize;
+    if lent.len() < room {
+        return Err(StreamError::LentOverLimit.into());
     }
-    let part = &mut lent[..end];
-    fill(part);
-    call(rt, letter, numbers, body, part)
+    let lent = &mut lent[..room];
+    fill(lent);
+    let request = Request {
+        numbers,
+        body,
+        lent,
+    };
+    match call {
+        Call::Build => build(rt, request)?,
+        Call::ReadBack => read_back(rt, request)?,
+        Call::Lookup => lookup(rt, request)?,
+        Call::Hear => hearing(rt, request)?,
+        Call::HearMarked => hearing_marked(rt, request)?,
+        Call::Size => size(rt, numbers, most_buckets(request.body)?)?,
+        Call::Arrive | Call::TakeOut => serve_change(rt, call, request)?,
+        Call::Mean => mean(rt, request)?,
+    }
+    Ok(())
 }

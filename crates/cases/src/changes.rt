@@ -1,11 +1,13 @@
 // A and T: a line arrives in a list, or is taken out of it. The body has the number of lines, the length of the list's buffer and
 // that of the given line, each in its columns; then the given line; then the list's buffer, which is lent where it stands.
-ghost use Rattle.std.specs.Prelude.{◌≡◌, ◌≤◌, length, slice_index};
+ghost use Rattle.std.specs.Prelude.{◌≡◌, slice_index};
 ghost use Rattle.cycle.specs.Tree.{settings};
 
-use super::answers::{say, stop};
+use super::answers::say;
+use super::calls::{Call, Request};
+use super::errors::{Stopped, StreamError};
 use super::lent::hash;
-use super::numbers::{COLUMNS, Figure, number};
+use super::numbers::{COLUMNS, number};
 use super::requests::Numbers;
 use cycle::changes::{arrive, take_out};
 use cycle::{Counts, Refusal, Settings};
@@ -13,20 +15,7 @@ use std::io;
 use std::io::Print;
 
 // The columns of the three numbers.
-const FRONT: usize = 36;
-
-// The bytes of a given line that are looked at: one more than a list line has, so that a longer one is seen to be too long.
-const GIVEN: usize = 28;
-
-// How many bytes of a given line are looked at.
-fn looked_at(length: usize) -> usize
-    ensures { (result ≤ length) × (result ≤ 28) }
-{
-    if GIVEN < length {
-        return GIVEN;
-    }
-    length
-}
+const FRONT: usize = 3 * COLUMNS;
 
 // The settings that a request's numbers begin with.
 pub fn settings(numbers: &Numbers) -> Settings
@@ -43,7 +32,7 @@ pub fn settings(numbers: &Numbers) -> Settings
 
 // Makes the call.
 fn change(
-    letter: u8,
+    call: Call,
     numbers: &Numbers,
     lines: u64,
     given: &[u8],
@@ -51,7 +40,7 @@ fn change(
     lent: &mut [u8],
 ) -> Result<Counts, Refusal> {
     let settings = settings(numbers);
-    if letter == b'A' {
+    if call == Call::Arrive {
         return arrive(list, lines, given, settings, lent);
     }
     take_out(list, lines, given, settings, lent)
@@ -60,14 +49,14 @@ fn change(
 // Makes the call and says its answer.
 fn say_change(
     rt: &impl Print,
-    letter: u8,
+    call: Call,
     numbers: &Numbers,
     lines: u64,
     given: &[u8],
     list: &mut [u8],
     lent: &mut [u8],
-) -> io::Result<bool> {
-    let changed = change(letter, numbers, lines, given, list, lent);
+) -> io::Result<()> {
+    let changed = change(call, numbers, lines, given, list, lent);
     let list_after = hash(list);
     let lent_after = hash(lent);
     match changed {
@@ -88,66 +77,27 @@ fn say_change(
     }
 }
 
-// Parts a body behind its numbers, where the given line has so many bytes, and makes the call.
-fn part(
-    rt: &impl Print,
-    letter: u8,
-    numbers: &Numbers,
-    lines: u64,
-    size: usize,
-    body: &mut [u8],
-    lent: &mut [u8],
-) -> io::Result<bool>
-    requires { size ≤ length body.old }
-{
-    let count = looked_at(size);
-    let mut given = [0u8; GIVEN];
-    columns::copy_columns(&mut given[0..count], &body[0..count]);
-    say_change(
-        rt,
-        letter,
+// Reads the numbers of a body, parts the rest of it by them, and makes the call.
+pub fn serve_change(rt: &impl Print, call: Call, request: Request<'_>) -> Result<(), Stopped> {
+    let Request {
         numbers,
-        lines,
-        &given[0..count],
-        &mut body[size..],
+        body,
         lent,
-    )
-}
-
-// Reads the numbers of a body and makes the call.
-pub fn serve_change(
-    rt: &impl Print,
-    letter: u8,
-    numbers: &Numbers,
-    body: &mut [u8],
-    lent: &mut [u8],
-) -> io::Result<bool> {
+    } = request;
     if body.len() < FRONT {
-        return stop(rt, b"error: a body of A or T is under 36 bytes\n");
+        return Err(StreamError::ChangeTooShort.into());
     }
-    let Figure::Value(lines) = number(&body[0..COLUMNS]) else {
-        return stop(rt, b"error: a number of lines is no number\n");
-    };
-    let Figure::Value(length) = number(&body[COLUMNS..2 * COLUMNS]) else {
-        return stop(rt, b"error: the length of a list's buffer is no number\n");
-    };
-    let Figure::Value(size) = number(&body[2 * COLUMNS..FRONT]) else {
-        return stop(rt, b"error: the length of a given line is no number\n");
-    };
-    let rest = (body.len() - FRONT) as u64;
-    if rest < size {
-        return stop(rt, b"error: a body of A or T ends inside its given line\n");
+    let (front, rest) = body.split_at_mut(FRONT);
+    let lines = number(&front[..COLUMNS]).ok_or(StreamError::LinesWithoutNumber)?;
+    let length = number(&front[COLUMNS..2 * COLUMNS]).ok_or(StreamError::ListLengthWithoutNumber)?;
+    let size = number(&front[2 * COLUMNS..]).ok_or(StreamError::GivenLengthWithoutNumber)?;
+    if (rest.len() as u64) < size {
+        return Err(StreamError::GivenCutOff.into());
     }
-    if rest - size != length {
-        return stop(rt, b"error: a list's buffer has another length\n");
+    let (given, list) = rest.split_at_mut(size as usize);
+    if list.len() as u64 != length {
+        return Err(StreamError::OtherListLength.into());
     }
-    part(
-        rt,
-        letter,
-        numbers,
-        lines,
-        size as usize,
-        &mut body[FRONT..],
-        lent,
-    )
+    say_change(rt, call, numbers, lines, given, list, lent)?;
+    Ok(())
 }

@@ -1,116 +1,88 @@
 // H and Q: one listener, given bucket after bucket; in Q some may be lost.
-ghost use Rattle.std.specs.Prelude.{◌≡◌, ◌+◌, ◌<◌, ◌≤◌, min};
+ghost use Rattle.std.specs.Prelude.{◌<◌};
 
-use super::answers::{say, stop};
-use listener::{Answer, Listener, Stepped};
+use super::answers::say;
+use super::errors::{Stopped, StreamError};
+use listener::{Answer, Listener};
 use std::io;
 use std::io::Print;
 
-// An answer's number: 1 doze, 2 found, 3 absent, 4 refused.
-fn kind(answer: Answer) -> u64 {
+// An answer's number (1 doze, 2 found, 3 absent, 4 refused), and its distance or refusal number, else 0.
+fn figures(answer: Answer) -> (u64, u64) {
     match answer {
-        Answer::Doze(_) => 1,
-        Answer::Found => 2,
-        Answer::Absent => 3,
-        Answer::Refused(_) => 4,
+        Answer::Doze(distance) => (1, distance),
+        Answer::Found => (2, 0),
+        Answer::Absent => (3, 0),
+        Answer::Refused(number) => (4, number),
     }
 }
 
-// Its distance or refusal number, else 0.
-fn figure(answer: Answer) -> u64 {
-    match answer {
-        Answer::Doze(distance) => distance,
-        Answer::Found => 0,
-        Answer::Absent => 0,
-        Answer::Refused(number) => number,
-    }
-}
-
-// The answer to one bucket, with the counts of the listener handed back.
-fn say_step(rt: &impl Print, stepped: Stepped) -> io::Result<bool> {
-    let answer = stepped.answer;
+// Gives the listener a bucket, or a lost one where there is none, and says its answer, with the counts of the listener that is
+// handed back.
+fn hand_in(rt: &impl Print, current: Listener, bucket: Option<&[u8]>) -> io::Result<Listener> {
+    let stepped = match bucket {
+        Some(bytes) => current.step(bytes),
+        None => current.lost(),
+    };
+    let (kind, figure) = figures(stepped.answer);
     let next = stepped.listener;
-    let line = [
-        kind(answer),
-        figure(answer),
-        stepped.first,
-        stepped.count,
-        next.heard(),
-        next.elapsed(),
-    ];
-    say(rt, &line)
+    say(
+        rt,
+        &[
+            kind,
+            figure,
+            stepped.first,
+            stepped.count,
+            next.heard(),
+            next.elapsed(),
+        ],
+    )?;
+    Ok(next)
 }
 
-// Where the bucket that starts at `from` ends: the last one may be shorter.
-fn bucket_end(from: usize, size: usize, length: usize) -> usize
-    requires { from ≤ length }
-    ensures { result ≡ min (from + size) length }
-{
-    if size < length - from {
-        from + size
-    } else {
-        length
-    }
-}
-
-// A listener started with tag, given the buckets of body in turn, each of size bytes. The stream goes on.
-pub fn hear(rt: &impl Print, tag: u64, size: usize, body: &[u8]) -> io::Result<bool>
+// A listener started with tag, given the buckets of body in turn, each of size bytes; the last one may be shorter.
+pub fn hear(rt: &impl Print, tag: u64, size: usize, body: &[u8]) -> io::Result<()>
     requires { 0 < size }
 {
     let mut current = Listener::new(tag);
-    let mut from = 0;
-    while from < body.len() {
-        let end = bucket_end(from, size, body.len());
-        let stepped = current.step(&body[from..end]);
-        say_step(rt, stepped)?;
-        current = stepped.listener;
-        from = end;
+    for bucket in body.chunks(size) {
+        current = hand_in(rt, current, Some(bucket))?;
     }
-    Ok(true)
+    Ok(())
 }
 
-// The same of a bucket with its letter in front: a lost one, X, has no bytes.
-fn marked_end(letter: u8, from: usize, size: usize, length: usize) -> usize
-    requires { from ≤ length }
-    ensures { (from ≤ result) × (result ≤ length) }
-{
-    if letter == b'X' {
-        return from;
-    }
-    bucket_end(from, size, length)
+// The letter in front of a bucket: whether its bytes follow, or it is lost.
+enum Mark {
+    Bytes,
+    Lost,
 }
 
-// The answer to a bucket with its letter: B, or X for a lost one.
-fn hand_in(l: Listener, letter: u8, bytes: &[u8]) -> Stepped {
-    if letter == b'X' {
-        return l.lost();
-    }
-    l.step(bytes)
-}
+impl TryFrom<u8> for Mark {
+    type Error = StreamError;
 
-// Whether a letter stands for a bucket.
-fn is_mark(letter: u8) -> bool {
-    if letter == b'B' {
-        return true;
-    }
-    letter == b'X'
-}
-
-// A listener started with tag, given the buckets of body in turn, each behind its letter. Whether the stream goes on.
-pub fn hear_marked(rt: &impl Print, tag: u64, size: usize, body: &[u8]) -> io::Result<bool> {
-    let mut current = Listener::new(tag);
-    let mut from = 0;
-    while from < body.len() {
-        let letter = body[from];
-        if !is_mark(letter) {
-            return stop(rt, b"error: a bucket's letter is none of B, X\n");
+    fn try_from(letter: u8) -> Result<Self, StreamError> {
+        match letter {
+            b'B' => Ok(Mark::Bytes),
+            b'X' => Ok(Mark::Lost),
+            _ => Err(StreamError::UnknownMark),
         }
-        let at = from + 1;
-        let end = marked_end(letter, at, size, body.len());
-        let stepped = hand_in(current, letter, &body[at..end]);
-        say_step(rt, stepped)?;
-        current = stepped.listener;
-        from = end;
     }
-    Ok(true)
+}
+
+// A listener started with tag, given the buckets of body in turn, each behind its letter.
+pub fn hear_marked(rt: &impl Print, tag: u64, size: usize, body: &[u8]) -> Result<(), Stopped> {
+    let mut current = Listener::new(tag);
+    let mut rest = body;
+    while let Some((letter, behind)) = rest.split_first() {
+        let (bucket, next) = match Mark::try_from(*letter)? {
+            Mark::Bytes => {
+                let (bytes, next) = behind.split_at(size.min(behind.len()));
+                (Some(bytes), next)
+            }
+            Mark::Lost => (None, behind),
+        };
+        current = hand_in(rt, current, bucket)?;
+        rest = next;
+    }
+    Ok(())
 }

@@ -1,30 +1,28 @@
 // The lent buffer: its content before a call, and the hash over it after the call.
-ghost use Rattle.std.specs.Prelude.{◌<◌};
+ghost use Rattle.std.specs.Prelude.{◌≡◌, ℕ, ◌+◌, ◌*◌, ◌%◌, ◌<◌, length, slice_index};
+ghost use Rattle.std.specs.List.{fold};
+
+// What the hash is counted by.
+const MODULUS: u64 = 2147483647;
 
 // Byte i of a buffer before a call is (7 + 31 i) mod 256.
-pub fn fill(lent: &mut [u8]) {
-    let mut i = 0;
+pub fn fill(lent: &mut [u8])
+    ensures { (i : ℕ) → i < length lent.new → slice_index lent.new i ≡ (7 + 31 * i) % 256 }
+{
     let mut x: u8 = 7;
-    while i < lent.len() {
-        lent[i] = x;
-        x = std::num::wrapping_add_u8(x, 31);
-        i += 1;
+    for byte in lent {
+        *byte = x;
+        x = x.wrapping_add(31);
     }
 }
 
-fn wide(x: u8) -> u64
-    ensures { result < 256 }
-{
-    x as u64
-}
-
 // From 0, for each byte: (hash × 257 + byte + 1) mod 2,147,483,647.
-pub fn hash(lent: &[u8]) -> u64 {
-    let mut h: u64 = 0;
-    let mut i = 0;
-    while i < lent.len() {
-        h = (h * 257 + wide(lent[i]) + 1) % 2147483647;
-        i += 1;
+pub fn hash(lent: &[u8]) -> u64
+    ensures { result ≡ fold (λ h x. (h * 257 + x + 1) % 2147483647) 0 lent.now }
+{
+    let mut h = 0;
+    for byte in lent {
+        h = (h * 257 + u64::from(*byte) + 1) % MODULUS;
     }
     h
 }

@@ -5,11 +5,14 @@
 mod answers;
 mod calls;
 mod changes;
+mod errors;
 mod hearing;
 mod lent;
 mod numbers;
 mod requests;
 
+use errors::Stopped;
+use requests::Head;
 use std::io;
 use std::io::{Print, Read};
 
@@ -22,11 +25,13 @@ fn serve<R: Read>(
     rt: &impl Print,
     body: &mut [u8],
     lent: &mut [u8],
-) -> io::Result<()> {
+) -> Result<(), Stopped> {
     for _ in 0..u64::MAX {
-        if !requests::serve_request(input, rt, body, lent)? {
+        let Some(head) = Head::read(input)? else {
             break;
-        }
+        };
+        let size = head.read_body(input, body)?;
+        calls::answer(rt, &head, &mut body[..size], lent)?;
     }
     Ok(())
 }
@@ -34,5 +39,9 @@ fn serve<R: Read>(
 fn main(rt: HostRuntime) -> io::Result<()> {
     let mut body = [0u8; LIMIT];
     let mut lent = [0u8; LIMIT];
-    serve(&mut rt.reader(), &rt, &mut body, &mut lent)
+    match serve(&mut rt.reader(), &rt, &mut body, &mut lent) {
+        Ok(()) => Ok(()),
+        Err(Stopped::Stream(wrong)) => println!(rt; "error: {wrong}"),
+        Err(Stopped::Io(failed)) => Err(failed),
+    }
 }

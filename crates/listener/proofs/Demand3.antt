@@ -37,7 +37,7 @@ use Rattle.listener.proofs.OnAir.{demand_3_on_air}
 
 -- ---- a cycle repeated
 
-module _ (c : Sending) (Some : 0 < c.n) where
+module _ (c : Sending) (some : 0 < c.n) where
   -- all cycles are the same
   abbrev same : Air
   same = λ x. c
@@ -53,10 +53,10 @@ module _ (c : Sending) (Some : 0 < c.n) where
       (le_or_lt c.n (suc x))
 
   position_is : (x : ℕ) → (place_at same x).position ≡ x % c.n
-  position_is zero = sym (mod-eq_of_lt Some)
+  position_is zero = sym (mod-eq_of_lt some)
   position_is (suc x) =
       let p : AirPlace = place_at same x in
-      next_position p.position (rw (position_is x) (mod-lt x Some)) p.cycle ∙
+      next_position p.position (rw (position_is x) (mod-lt x some)) p.cycle ∙
       (ap (λ y. suc y % c.n) (position_is x) ∙
       (ap (λ y. y % c.n) (sym (add-one (x % c.n))) ∙ (mod-add-mod x c.n 1 ∙ ap (λ y. y % c.n) (add-one x))))
 

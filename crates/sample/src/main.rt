@@ -21,11 +21,8 @@ const IMAGE: usize = 65536;
 fn image_length(image: &[u8], count: u64) -> usize
     ensures { (result ≤ length image.now) × (result ≡ length (take result image.now)) }
 {
-    let room = image.len() / Listener::BUCKET;
-    if count <= room as u64 {
-        return count as usize * Listener::BUCKET;
-    }
-    image.len()
+    let length = (count as usize).saturating_mul(Listener::BUCKET);
+    length.min(image.len())
 }
 
 // The settings: n 2, p 1, layout 1, r 1.
@@ -36,20 +33,9 @@ const SETTINGS: Settings = Settings {
     copies: 1,
 };
 
-// x in 6 columns.
-fn say_number(rt: &impl Print, x: u64) -> io::Result<()> {
-    let mut part = [0u8; 6];
-    columns::print_number(&mut part, x);
-    rt.write_all(&part)
-}
-
 // A row of the table.
 fn say_row(rt: &impl Print, tune_in: u64, heard: u64, elapsed: u64, lines: u64) -> io::Result<()> {
-    say_number(rt, tune_in)?;
-    say_number(rt, heard)?;
-    say_number(rt, elapsed)?;
-    say_number(rt, lines)?;
-    rt.write_all(b"\n")
+    println!(rt; "{tune_in:>6}{heard:>6}{elapsed:>6}{lines:>6}")
 }
 
 // The row of one tune-in.

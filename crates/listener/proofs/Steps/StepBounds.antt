@@ -109,8 +109,8 @@ bounded_data c tag f ls h =
     by_follow_on false zero e r = r
     by_follow_on true true e r = r
     by_follow_on true false e r =
-        let Some : f ≡ 0 → ⊥ = eqb-false f 0 e in
-        (record { onward = omega (arith, Some); near = h; wakes = refl }, r)
+        let some : f ≡ 0 → ⊥ = eqb-false f 0 e in
+        (record { onward = omega (arith, some); near = h; wakes = refl }, r)
 
 module _ (b : Bucket) (g : Good b) (tag : ℕ) where
   bounded_body :

@@ -1,9 +1,6 @@
--- The buffer keeps its length, and the measure is what is left of it.
-use Rattle.std.proofs.Common.{◌-◌, ◌≤◌, length}
+-- The bytes so far are as they are to be, and x is the next one.
+use Rattle.std.proofs.Common.{◌≡◌, ℕ, ◌+◌, ◌*◌, ◌%◌, ◌<◌, slice_index}
 use Rattle.cases.proofs.lent.fill.Given as goal
 
-abbrev pub invariant-loop-i : goal.invariant-loop-i
-invariant-loop-i l = l.i ≤ length l.lent
-
-abbrev pub decreases-loop-i : goal.decreases-loop-i
-decreases-loop-i l = length l.initial.lent - l.i
+abbrev pub invariant-loop-byte : goal.invariant-loop-byte
+invariant-loop-byte l = (l.x ≡ (7 + 31 * l.byte-index) % 256) × ((i : ℕ) → i < l.byte-index → slice_index l.byte-items i ≡ (7 + 31 * i) % 256)
