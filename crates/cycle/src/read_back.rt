@@ -54,11 +54,9 @@ fn same_bucket(a: &[u8], b: &[u8]) -> bool
     requires { (length a.now ≡ bucket_length) × (length b.now ≡ bucket_length) }
     ensures { Decides (a.now ≡ b.now) result }
 {
-    let mut same = true;
-    for i in 0..Bucket::LENGTH {
-        same = still_same(same, a[i], b[i]);
-    }
-    same
+    a.iter()
+        .zip(b)
+        .fold(true, |same, (x, y)| still_same(same, *x, *y))
 }
 
 // Whether these columns are the bucket at x.
