@@ -1,5 +1,5 @@
 -- The level looked for is the least from k on.
-use Rattle.std.proofs.Common.{◌≡◌, ℕ, ◌+◌, ◌-◌, ◌^◌, ◌≤◌}
+use Rattle.std.proofs.Common.{◌≡◌, ◌-◌, ◌^◌, ◌≤◌}
 use Rattle.cycle.specs.Tree.{levels, levels_most}
 use Rattle.cycle.proofs.Trees.Levels.{levels_from}
 use Rattle.cycle.proofs.measures.levels_of.Given as goal
