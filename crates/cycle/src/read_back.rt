@@ -39,24 +39,12 @@ fn same_head(a: Head, b: Head) -> bool
     a.to_segment == b.to_segment
 }
 
-// Whether two columns are the same and those before them are.
-fn still_same(before: bool, a: u8, b: u8) -> bool
-    ensures { result ≡ (before && eqb a b) }
-{
-    if a == b {
-        return before;
-    }
-    false
-}
-
 // Whether two buckets are the same. It looks at each column, so that many are tested at once.
 fn same_bucket(a: &[u8], b: &[u8]) -> bool
     requires { (length a.now ≡ bucket_length) × (length b.now ≡ bucket_length) }
     ensures { Decides (a.now ≡ b.now) result }
 {
-    a.iter()
-        .zip(b)
-        .fold(true, |same, (x, y)| still_same(same, *x, *y))
+    a.iter().zip(b).fold(true, |same, (x, y)| same & (x == y))
 }
 
 // Whether these columns are the bucket at x.
