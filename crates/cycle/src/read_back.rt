@@ -1,5 +1,5 @@
 // Reading back: whether an image is the cycle of some list under given settings, and of which.
-ghost use Rattle.std.specs.Prelude.{◌≡◌, ◌&&◌, [], eqb, ◌+◌, ◌-◌, ◌*◌, ◌/◌, ◌%◌, ◌≤◌, ◌<◌, min, length};
+ghost use Rattle.std.specs.Prelude.{◌≡◌, [], ◌+◌, ◌-◌, ◌*◌, ◌/◌, ◌%◌, ◌≤◌, ◌<◌, min, length};
 ghost use Rattle.columns.specs.Lists.{put, onto};
 ghost use Rattle.buckets.specs.Lengths.{line_length, bucket_length, buckets_most};
 ghost use Rattle.cycle.specs.Tree.{settings, children, last_tag};
