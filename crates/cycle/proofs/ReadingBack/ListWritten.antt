@@ -2,14 +2,14 @@
 -- Assumes nothing.
 use mathlib.Core.Path.{◌≡◌, sym, ap, ap₂, ◌∙◌}
 use mathlib.Core.Logic.{⊎_elim}
-use Prim.Native.Nat.{ℕ, zero, suc, ◌+◌, ◌-◌, ◌*◌, ◌≤◌, ◌<◌, min, max}
+use Prim.Native.Nat.{ℕ, ◌+◌, ◌-◌, ◌*◌, ◌≤◌, ◌<◌, min}
 use native.Mathlib.Nat.{zero-mul, suc-mul, mul-le-mul_right, eq-or-lt_of_le}
 use native.Mathlib.Numerals.{add-one}
 use native.Mathlib.Omega.{arith}
 use mathlib.Core.List.{List, []}
 use lib.ListN.{length, drop}
 use Rattle.columns.specs.Lists.{put, up}
-use Rattle.columns.proofs.Put.{put_nil, put_put, length_put}
+use Rattle.columns.proofs.Put.{put_nil, put_put}
 use Rattle.buckets.specs.ListLine.{ended_lines}
 use Rattle.buckets.specs.Lengths.{line_length, bucket_length, lines_start}
 use Rattle.cycle.specs.Tree.{Plan}
@@ -30,11 +30,6 @@ unfoldable pub text_to : Figures → List ℕ → ℕ → List ℕ
 text_to f bytes x = list_text f bytes 0 (min f.lines (sent_by (plan_of f []) x * f.p))
 
 module _ (f : Figures) (bytes : List ℕ) (w : Holding f bytes) where
-  -- the lines before a data bucket
-  pub lines_before_lem : (q : ℕ) → q < max 1 f.d → q * f.p ≤ f.lines
-  lines_before_lem zero h = rw (zero-mul f.p) (omega arith)
-  lines_before_lem (suc q) h = let l = full_lines f w.ready.shaped (suc q) (omega arith) in omega arith
-
   -- ---- the data buckets of a segment, whose first line is a
 
   pub bucket_more :

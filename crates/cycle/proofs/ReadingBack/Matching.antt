@@ -4,11 +4,9 @@ use mathlib.Core.Path.{◌≡◌, subst}
 use mathlib.Core.Logic.{⊎_elim}
 use Prim.Native.Nat.{ℕ, ◌+◌, ◌-◌, ◌≤◌, ◌<◌}
 use native.Mathlib.Omega.{arith}
-use mathlib.Core.Bool.{Bool, true, false, not}
 use mathlib.Core.List.{List}
 use Rattle.cycle.specs.Tree.{Plan}
-use Rattle.cycle.specs.Inner.Comparing.{Decides, MatchesAt, Matches, DataMatches}
-use Rattle.cycle.proofs.Basics.Deciding.{decides_yes, decides_not}
+use Rattle.cycle.specs.Inner.Comparing.{MatchesAt, Matches, DataMatches}
 use Rattle.cycle.proofs.Basics.Ranges.{le_or_lt}
 use Rattle.cycle.proofs.Basics.RangeTests.{Each}
 

@@ -10,7 +10,7 @@ use Rattle.cycle.specs.declared.Figures.{Figures}
 use Rattle.cycle.specs.declared.Segment.{Segment}
 use Rattle.cycle.specs.Inner.Held.{plan_of, Ready, HoldsSegment, segment_count}
 use Rattle.cycle.proofs.Basics.RangeTests.{Each}
-use Rattle.cycle.proofs.Segmenting.SegmentParts.{before, before_none, before_all, before_within, start_before, end_before}
+use Rattle.cycle.proofs.Segmenting.SegmentParts.{before, before_none, before_all, start_before, end_before}
 
 -- the loop has come to segment i of `count`, and P holds of the number of buckets before it
 pub record Through (f : Figures) (P : ℕ → Type 0) (count i : ℕ) : Type 0 where
