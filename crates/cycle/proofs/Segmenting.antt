@@ -9,7 +9,6 @@ pub mod HeldParts
 pub mod SegmentData
 pub mod SegmentParts
 pub mod SegmentLoops
-pub mod BucketRows
 pub mod SegmentSizes
 pub mod Positions
 pub mod BucketAt

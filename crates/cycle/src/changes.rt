@@ -100,7 +100,7 @@ fn first_equal(list: &[u8], lines: u64, line: Line) -> Option<u64>
     None
 }
 
-// Moves the bytes from at up to end one line on, the last first.
+// Moves the bytes from at up to end one line on.
 fn open_place(list: &mut [u8], at: usize, end: usize)
     requires { (at ≤ end) × (end + line_length ≤ length list.old) }
     ensures { list.new ≡
@@ -109,7 +109,7 @@ fn open_place(list: &mut [u8], at: usize, end: usize)
     list.copy_within(at..end, at + Line::LENGTH);
 }
 
-// Moves the bytes behind the line at `at`, up to end, one line back, the first first.
+// Moves the bytes behind the line at `at`, up to end, one line back.
 fn close_place(list: &mut [u8], at: usize, end: usize)
     requires { (at + line_length ≤ end) × (end ≤ length list.old) }
     ensures { list.new ≡

@@ -37,9 +37,10 @@ fn levels_of(n: u64, d: u64) -> u64
     ensures { result ≡ levels n d }
 {
     let mut k = 1;
+    // Stays a `while`: it ends by the power, and a search over a range would work each power out anew.
     let mut power = n;
     while power < d {
-        power = power * n;
+        power *= n;
         k += 1;
     }
     k

@@ -1,5 +1,5 @@
 // Reading back: whether an image is the cycle of some list under given settings, and of which.
-ghost use Rattle.std.specs.Prelude.{◌≡◌, ◌&&◌, [], eqb, ◌+◌, ◌-◌, ◌*◌, ◌/◌, ◌%◌, ◌≤◌, ◌<◌, min, length};
+ghost use Rattle.std.specs.Prelude.{◌≡◌, [], ◌+◌, ◌-◌, ◌*◌, ◌/◌, ◌%◌, ◌≤◌, ◌<◌, min, length};
 ghost use Rattle.columns.specs.Lists.{put, onto};
 ghost use Rattle.buckets.specs.Lengths.{line_length, bucket_length, buckets_most};
 ghost use Rattle.cycle.specs.Tree.{settings, children, last_tag};
@@ -26,26 +26,12 @@ const LINES: u64 = Bucket::LINES as u64;
 // The most buckets of an image.
 const BUCKETS_MOST: usize = Bucket::BUCKETS_MOST as usize;
 
-// Whether two columns are the same and those before them are.
-fn still_same(before: bool, a: u8, b: u8) -> bool
-    ensures { result ≡ (before && eqb a b) }
-{
-    if a == b {
-        return before;
-    }
-    false
-}
-
 // Whether two buckets are the same. It looks at each column, so that many are tested at once.
 fn same_bucket(a: &[u8], b: &[u8]) -> bool
     requires { (length a.now ≡ bucket_length) × (length b.now ≡ bucket_length) }
     ensures { Decides (a.now ≡ b.now) result }
 {
-    let mut same = true;
-    for i in 0..Bucket::LENGTH {
-        same = still_same(same, a[i], b[i]);
-    }
-    same
+    a.iter().zip(b).fold(true, |same, (x, y)| same & (x == y))
 }
 
 // Whether these columns are the bucket at x.

@@ -6,16 +6,15 @@
 --     line_put, line_removed                  the same by the list that the buffer holds
 --     onto_..                                 a buffer with bytes written at its front
 -- Assumes nothing.
-use Prim.Native.Nat.{ℕ, suc, ◌+◌, ◌-◌, ◌≤◌, ◌<◌}
+use Prim.Native.Nat.{ℕ, ◌+◌, ◌-◌, ◌≤◌}
 use mathlib.Core.Path.{◌≡◌, refl, sym, ap, ap₂, ◌∙◌}
-use mathlib.Core.List.{List, [], ◌∷◌, ◌++◌, append_assoc}
-use native.Mathlib.Nat.{add-zero}
+use mathlib.Core.List.{List, [], ◌++◌, append_assoc}
 use native.Mathlib.Omega.{arith}
-use lib.ListN.{length, take, drop, get_or, set, length-append, length-drop, length-set}
-use lib.Seq.{length-take-le, take-take, take_at, take-suc, drop_at, drop-cons, drop-drop, drop-append-add, take-append_seam, get_or-take, get_or-drop, take-add, paste}
+use lib.ListN.{length, take, drop, length-append, length-drop}
+use lib.Seq.{length-take-le, take-take, take_at, drop_at, drop-drop, drop-append-add, take-append_seam, take-add, paste}
 use Rattle.columns.specs.Lists.{put, onto}
 use Rattle.columns.specs.PrintedNumbers.{blanks}
-use Rattle.columns.proofs.Put.{put_nil, put_put, put_part, put_set, drop_place, drop_put, length_part}
+use Rattle.columns.proofs.Put.{put_put, put_part, drop_place, length_part}
 use Rattle.columns.proofs.FromTheRight.{length_blanks}
 use Rattle.buckets.specs.Lengths.{line_length}
 use Rattle.cycle.specs.Inner.Changing.{with_line, without_line}

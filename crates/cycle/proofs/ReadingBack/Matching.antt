@@ -4,14 +4,11 @@ use mathlib.Core.Path.{◌≡◌, subst}
 use mathlib.Core.Logic.{⊎_elim}
 use Prim.Native.Nat.{ℕ, ◌+◌, ◌-◌, ◌≤◌, ◌<◌}
 use native.Mathlib.Omega.{arith}
-use mathlib.Core.Bool.{Bool, true, false, not}
 use mathlib.Core.List.{List}
 use Rattle.cycle.specs.Tree.{Plan}
-use Rattle.cycle.specs.Inner.Comparing.{Decides, MatchesAt, Matches, DataMatches}
-use Rattle.cycle.proofs.Basics.Deciding.{decides_yes, decides_not}
+use Rattle.cycle.specs.Inner.Comparing.{MatchesAt, Matches, DataMatches}
 use Rattle.cycle.proofs.Basics.Ranges.{le_or_lt}
 use Rattle.cycle.proofs.Basics.RangeTests.{Each}
-use Rattle.cycle.proofs.Segmenting.BucketRows.{RowAt, row_inside, row_end}
 
 module _ {t : Plan} {bytes : List ℕ} where
   pub matches_none : (x : ℕ) → Matches t bytes x x
@@ -30,23 +27,13 @@ module _ {t : Plan} {bytes : List ℕ} where
   matches_one {x} a =
       record { each = λ w low high. let e : x ≡ w = omega arith in subst (MatchesAt t bytes) e a }
 
-  pub matches_next : {x y : ℕ} → Matches t bytes x y → MatchesAt t bytes y → Matches t bytes x (y + 1)
-  matches_next a b = matches_on a (matches_one b)
-
   pub matches_at : {x z : ℕ} (y : ℕ) → x ≤ y → y < z → Matches t bytes x z → MatchesAt t bytes y
   matches_at y low high a = a.each y low high
 
   pub matches_to : {x y z : ℕ} → y ≡ z → Matches t bytes x y → Matches t bytes x z
   matches_to {x} e a = subst (Matches t bytes x) e a
 
-  -- ---- a row of buckets, compared one after the other
-
-  module _ {first last at end q x : ℕ} (ends : end ≡ at + (last - first)) (r : RowAt first last at q x) where
-    pub row_not : {b : Bool} → q < last → not b ≡ true → Decides (MatchesAt t bytes x) b → Decides (Matches t bytes at end) false
-    row_not h e d = let i = row_inside ends r h in decides_not e (matches_at x i.0 i.1) d
-
-    pub row_all : last ≤ q → Matches t bytes at x → Decides (Matches t bytes at end) true
-    row_all h m = decides_yes (matches_to (row_end ends r h) m)
+  -- ---- a row of buckets
 
   module _ {first last at end : ℕ} (ends : end ≡ at + (last - first)) (rising : first ≤ last) where
     pub matches_row : Each (λ q. MatchesAt t bytes (at + (q - first))) first last → Matches t bytes at end

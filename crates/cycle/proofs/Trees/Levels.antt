@@ -2,7 +2,7 @@
 -- Assumes nothing.
 use mathlib.Core.Path.{◌≡◌, ap, ◌∙◌}
 use mathlib.Core.Logic.{⊎_elim}
-use Prim.Native.Nat.{ℕ, suc, ◌-◌, ◌*◌, ◌^◌, ◌≤◌, ◌<◌}
+use Prim.Native.Nat.{ℕ, suc, ◌+◌, ◌-◌, ◌*◌, ◌^◌, ◌≤◌, ◌<◌}
 use native.Mathlib.Nat.{pow-succ', pow-zero, mul-one, mul-le-mul, eq-or-lt_of_le}
 use native.Mathlib.Omega.{arith}
 use lib.Dec.{leb, lit≤}
@@ -12,7 +12,12 @@ use Rattle.cycle.proofs.Basics.Ranges.{le_or_lt}
 use Rattle.cycle.proofs.Basics.Least.{least_found, least_from, least_fails, least_passes}
 use Rattle.cycle.proofs.Basics.Powers.{power_reaches}
 use Rattle.cycle.specs.Inner.Held.{span_most}
+use Rattle.columns.specs.Lists.{least}
 use Rattle.buckets.specs.Lengths.{lines_most, entries_most}
+
+-- the least level from k on
+abbrev pub levels_from : ℕ → ℕ → ℕ → ℕ
+levels_from n d k = least (levels_most + 1 - k) k (λ x. leb d (n ^ x))
 
 module _ (n d : ℕ) where
   pub levels_low : 1 ≤ levels n d

@@ -1,5 +1,5 @@
 -- A subtree is its bucket and then each child's subtree, one behind the other.
-use Rattle.std.proofs.Common.{◌≡◌, refl, ap, ◌∙◌, ◌+◌, ◌-◌, ◌<◌, arith}
+use Rattle.std.proofs.Common.{refl, ap, ◌∙◌, arith}
 use Rattle.cycle.specs.Inner.Held.{plan_in, written}
 use Rattle.cycle.specs.declared.Source.TheVariants.{List as InList}
 use Rattle.cycle.proofs.Segmenting.Subtrees.{own_there, alone, first_fits, none_behind, child_place, child_fits, next_behind, all_behind}

@@ -1,7 +1,7 @@
 -- A segment is written over the buckets before it, and the last one ends the cycle.
 use Rattle.std.proofs.Common.{arith, length, rules}
 use Rattle.cycle.specs.Inner.Held.{Writing}
-use Rattle.cycle.proofs.Segmenting.SegmentLoops.{through_none, through_next, segment_asked, through_all}
+use Rattle.cycle.proofs.Segmenting.SegmentLoops.{through_none, through_next, through_all}
 use Rattle.cycle.proofs.Building.Writings.{seats, begun, grown}
 use Rattle.cycle.proofs.build.write_cycle.Goals as goal
 

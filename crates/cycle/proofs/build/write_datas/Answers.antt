@@ -1,5 +1,5 @@
 -- Data bucket q is written over those before it, and the last one ends the segment.
-use Rattle.std.proofs.Common.{◌≡◌, [], ◌+◌, ◌-◌, ap, ◌∙◌, arith, rules}
+use Rattle.std.proofs.Common.{◌≡◌, [], ◌+◌, ◌-◌, ap, ◌∙◌, arith}
 use Rattle.cycle.specs.Inner.Held.{plan_in, written}
 use Rattle.cycle.specs.declared.Source.TheVariants.{List as InList}
 use Rattle.cycle.proofs.Building.Writings.{seats, begun, grown}

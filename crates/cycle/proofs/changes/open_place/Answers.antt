@@ -1,5 +1,5 @@
 -- What is moved on is the part that it was, put where it goes.
-use Rattle.std.proofs.Common.{◌≡◌, ◌∙◌, ◌+◌, ◌-◌, ◌≤◌, length, drop, arith}
+use Rattle.std.proofs.Common.{◌∙◌, ◌+◌, ◌-◌, arith}
 use Rattle.buckets.specs.Lengths.{line_length}
 use Rattle.cycle.proofs.Changing.Moves.{pasted}
 use Rattle.cycle.proofs.changes.open_place.Goals as goal

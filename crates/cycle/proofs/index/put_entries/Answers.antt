@@ -1,9 +1,9 @@
 -- An entry is put behind those of the earlier children, in columns that are still blank.
-use Rattle.std.proofs.Common.{◌≡◌, [], length, sym, ap, ◌∙◌, ◌+◌, ◌-◌, ◌*◌, ◌≤◌, ◌<◌, arith}
+use Rattle.std.proofs.Common.{◌≡◌, [], length, sym, ap, ◌∙◌, ◌+◌, ◌-◌, ◌<◌, arith}
 use Rattle.columns.proofs.Put.{put_nil}
-use Rattle.buckets.specs.Lengths.{entries_most, entries_start}
-use Rattle.cycle.specs.Tree.{levels_most, children}
-use Rattle.cycle.specs.Inner.Held.{plan_of, span_most}
+use Rattle.buckets.specs.Lengths.{entries_start}
+use Rattle.cycle.specs.Tree.{children}
+use Rattle.cycle.specs.Inner.Held.{plan_of}
 use Rattle.cycle.proofs.Trees.Readiness.{reached}
 use Rattle.cycle.proofs.Trees.Children.{first_small}
 use Rattle.cycle.proofs.Buckets.ChildEntries.{columns_to, few_left, place_asked, tag_within, tag_stays, columns_wide, blank_there, one_entry}

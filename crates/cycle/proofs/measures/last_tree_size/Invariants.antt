@@ -1,5 +1,5 @@
 -- The sum is that of the rows below height h.
-use Rattle.std.proofs.Common.{◌≡◌, ◌+◌, ◌-◌, ◌*◌, ◌≤◌}
+use Rattle.std.proofs.Common.{◌≡◌, ◌-◌, ◌*◌, ◌≤◌}
 use Rattle.buckets.specs.Lengths.{lines_most}
 use Rattle.cycle.proofs.Trees.TreeSizes.{last_rows}
 use Rattle.cycle.proofs.measures.last_tree_size.Given as goal

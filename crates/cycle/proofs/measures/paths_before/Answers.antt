@@ -2,7 +2,7 @@
 use Rattle.std.proofs.Common.{◌≡◌, [], ℕ, suc, sym, ap, ◌∙◌, ◌+◌, ◌-◌, ◌*◌, ◌≤◌, ◌<◌, arith}
 use Rattle.std.proofs.Math.Nat.{add-zero, add_assoc, mul-le-mul_left}
 use Rattle.columns.specs.Lists.{up}
-use Rattle.buckets.specs.Lengths.{lines_most, pairs_most}
+use Rattle.buckets.specs.Lengths.{lines_most}
 use Rattle.cycle.specs.Inner.Held.{plan_of}
 use Rattle.cycle.proofs.Trees.TreeLaws.{up_least}
 use Rattle.cycle.proofs.Trees.Readiness.{path_facts}

@@ -1,8 +1,5 @@
 -- A subtree stands where its bucket stands and then each child's subtree, one behind the other.
-use Rattle.std.proofs.Common.{◌≡◌, refl, sym, ◌+◌, ◌-◌, ◌<◌, arith, rules, None}
-use Rattle.cycle.specs.Inner.Held.{plan_in}
-use Rattle.cycle.specs.Inner.Comparing.{Matches, Finds}
-use Rattle.cycle.specs.declared.Source.TheVariants.{Image as InImage}
+use Rattle.std.proofs.Common.{refl, sym, arith}
 use Rattle.cycle.proofs.Segmenting.Subtrees.{own_there, alone, first_fits, none_behind, child_place, child_fits, child_inside, next_behind, all_behind}
 use Rattle.cycle.proofs.ReadingBack.Matching.{matches_one, matches_on, matches_at, matches_part, matches_to}
 use Rattle.cycle.proofs.read_back.+behind_subtree.Goals as goal

@@ -1,6 +1,5 @@
 -- The height falls. The bucket and the subtrees of the children before i stand in their places, and `next` is the place behind
 -- them.
-use Rattle.std.proofs.Common.{◌+◌}
 use Rattle.cycle.specs.Inner.Held.{plan_in}
 use Rattle.cycle.specs.Inner.Comparing.{Matches}
 use Rattle.cycle.specs.declared.Source.TheVariants.{Image as InImage}

@@ -1,5 +1,5 @@
 -- The buckets of a segment are held against the cycle's, and follow those of the segments before it.
-use Rattle.std.proofs.Common.{◌≡◌, ℕ, [], List, arith, rules}
+use Rattle.std.proofs.Common.{◌≡◌, List, arith, rules}
 use Rattle.buckets.specs.declared.Line.{Line}
 use Rattle.cycle.specs.declared.Segment.{Segment}
 use Rattle.cycle.specs.declared.Source.TheVariants.{Image as InImage}

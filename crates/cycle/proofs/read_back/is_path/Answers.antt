@@ -1,5 +1,5 @@
 -- The path bucket at x is held against the cycle's.
-use Rattle.std.proofs.Common.{◌≡◌, ◌+◌, ◌-◌, ◌≤◌, ◌<◌, arith, rules}
+use Rattle.std.proofs.Common.{◌≡◌, ◌+◌, ◌-◌, ◌≤◌, arith, rules}
 use Rattle.std.proofs.lemmas.Iterator.{serves_from_Range}
 use Rattle.cycle.specs.Inner.Held.{plan_in}
 use Rattle.cycle.specs.Inner.Comparing.{Decides, MatchesAt, Matches}

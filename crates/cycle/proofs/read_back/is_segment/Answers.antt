@@ -1,5 +1,5 @@
 -- The path stands before the tree, and the tree before the data buckets.
-use Rattle.std.proofs.Common.{◌≡◌, ℕ, [], Bool, true, false, refl, sym, length, ◌∙◌, ◌+◌, arith, Option, None, Some}
+use Rattle.std.proofs.Common.{◌≡◌, ℕ, [], refl, sym, length, ◌+◌, arith, Option, None, Some}
 use Rattle.std.specs.Option.{is_some}
 use Rattle.cycle.specs.Judging.{tree_at}
 use Rattle.cycle.specs.Inner.Held.{plan_of}

@@ -1,5 +1,5 @@
 -- A bucket more, a data bucket or not; at the end the data buckets tell the number of lines.
-use Rattle.std.proofs.Common.{◌≡◌, ℕ, List, refl, sym, ap, ◌∙◌, ◌+◌, ◌-◌, ◌*◌, ◌/◌, ◌≤◌, ◌<◌, ◌++◌, length, length-append, arith, eq-eqb, ne_eqb}
+use Rattle.std.proofs.Common.{◌≡◌, ℕ, List, sym, ap, ◌∙◌, ◌-◌, ◌*◌, ◌/◌, ◌≤◌, ◌<◌, length, length-append, arith, eq-eqb, ne_eqb}
 use Rattle.std.proofs.Math.Nat.{mul-le-mul}
 use Rattle.columns.specs.Lists.{parts}
 use Rattle.buckets.specs.Lengths.{letter_data, bucket_lines_most, bucket_length, buckets_most}

@@ -1,5 +1,5 @@
 -- A data bucket's lines follow those of the data buckets before it.
-use Rattle.std.proofs.Common.{◌≡◌, List, ℕ, [], length, sym, ap, ◌∙◌, ◌+◌, ◌-◌, ◌*◌, ◌≤◌, ◌<◌, min, arith}
+use Rattle.std.proofs.Common.{◌≡◌, List, ℕ, [], length, sym, ap, ◌∙◌, ◌+◌, ◌*◌, ◌≤◌, ◌<◌, min, arith}
 use Rattle.std.proofs.Math.Nat.{mul-le-mul_right}
 use Rattle.columns.specs.Lists.{put}
 use Rattle.columns.proofs.Put.{put_nil}

@@ -1,6 +1,6 @@
 -- A line with another tag ends the tag before it; the last tag ends with the list.
-use Rattle.std.proofs.Common.{◌≤◌, arith}
-use Rattle.cycle.proofs.Waiting.ListPass.{ListPass, list_starts, waits_asked, waits_small, list_same, list_next, all_passed, list_ends}
+use Rattle.std.proofs.Common.{arith}
+use Rattle.cycle.proofs.Waiting.ListPass.{list_starts, waits_asked, waits_small, list_same, list_next, all_passed, list_ends}
 use Rattle.cycle.proofs.waits.add_waits.Goals as goal
 use Rattle.cycle.proofs.waits.add_waits.Goals.{then-other, else-other}
 
