@@ -16,7 +16,7 @@ fn average(w: WaitSum) -> MeanWait
     let divisor = w.n * w.tags;
     MeanWait {
         sum: w.sum,
-        divisor: divisor,
+        divisor,
         quotient: w.sum / divisor,
         remainder: w.sum % divisor,
     }

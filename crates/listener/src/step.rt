@@ -18,42 +18,25 @@ use cycle::Reason;
 const COUNT_MOST: u64 = 4294967295;
 
 // A count with some more, stopped where it would pass the largest.
+#[tactic(auto, unfolding(crate::specs::Listener::stopped))]
 fn count_on(count: u64, more: u64) -> u64
     ensures { result ≡ stopped (count + more) }
 {
-    if COUNT_MOST < count {
-        return COUNT_MOST;
-    }
-    if COUNT_MOST - count < more {
-        return COUNT_MOST;
-    }
-    count + more
+    count.saturating_add(more).min(COUNT_MOST)
 }
 
 // Whether the tune-in bucket is awaited.
 fn is_tune_in(phase: Phase) -> bool
     ensures { result ≡ is_tune_in phase }
 {
-    match phase {
-        Phase::TuneIn => true,
-        Phase::Index => false,
-        Phase::Either => false,
-        Phase::Data => false,
-        Phase::Ended => false,
-    }
+    matches!(phase, Phase::TuneIn)
 }
 
 // Whether nothing is awaited any more.
 fn is_ended(phase: Phase) -> bool
     ensures { result ≡ is_ended phase }
 {
-    match phase {
-        Phase::TuneIn => false,
-        Phase::Index => false,
-        Phase::Either => false,
-        Phase::Data => false,
-        Phase::Ended => true,
-    }
+    matches!(phase, Phase::Ended)
 }
 
 impl Listener {
@@ -67,11 +50,12 @@ impl Listener {
     pub const LINE: usize = Line::LENGTH;
 
     // A listener that waits for its tune-in bucket.
+    #[tactic(auto, unfolding(crate::specs::Listener::start))]
     pub fn new(tag: u64) -> Listener
         ensures { result ≡ start tag }
     {
         Listener {
-            tag: tag,
+            tag,
             phase: Phase::TuneIn,
             due: 0,
             cycle: 0,
@@ -97,12 +81,14 @@ impl Listener {
     }
 
     // Both counts with the bucket at hand.
+    #[tactic(auto, unfolding(crate::specs::Listener::heard_with))]
     fn heard_with(self) -> u64
         ensures { result ≡ heard_with self }
     {
         count_on(self.heard, 1)
     }
 
+    #[tactic(auto, unfolding(crate::specs::Listener::elapsed_with))]
     fn elapsed_with(self) -> u64
         ensures { result ≡ elapsed_with self }
     {
@@ -110,28 +96,25 @@ impl Listener {
     }
 
     // The ended listener with these counts.
+    #[tactic(auto, unfolding(crate::specs::Listener::ended))]
     fn ended(self, heard: u64, elapsed: u64) -> Listener
         ensures { result ≡ ended self heard elapsed }
     {
         Listener {
-            tag: self.tag,
             phase: Phase::Ended,
-            due: self.due,
-            cycle: self.cycle,
-            passed: self.passed,
-            doze: self.doze,
-            heard: heard,
-            elapsed: elapsed,
+            heard,
+            elapsed,
+            ..self
         }
     }
 
     // The refusal by 8, 9 or 10: the bucket is not counted.
+    #[tactic(auto, unfolding(crate::specs::Listener::refused, crate::specs::Listener::stepped))]
     fn refused(self, reason: Reason) -> Stepped
         ensures { result ≡ refused self reason }
     {
-        let listener = self.ended(self.heard, self.elapsed);
         Stepped {
-            listener: listener,
+            listener: self.ended(self.heard, self.elapsed),
             answer: Answer::Refused(reason),
             first: 0,
             count: 0,
@@ -139,19 +122,20 @@ impl Listener {
     }
 
     // Found or absent, at the bucket at hand.
+    #[tactic(auto, unfolding(crate::specs::Listener::stepped))]
     fn end_by(self, answer: Answer, first: u64, count: u64) -> Stepped
         ensures { result ≡ stepped (ended self (heard_with self) (elapsed_with self)) answer first count }
     {
-        let listener = self.ended(self.heard_with(), self.elapsed_with());
         Stepped {
-            listener: listener,
-            answer: answer,
-            first: first,
-            count: count,
+            listener: self.ended(self.heard_with(), self.elapsed_with()),
+            answer,
+            first,
+            count,
         }
     }
 
     // Doze by d to the bucket at position `due`, awaiting one of the kind named, with the cycle starts passed by then.
+    #[tactic(auto, unfolding(buckets::specs::Inner::Held::bucket_with, buckets::specs::Bucket::cycle_length, crate::specs::Listener::stepped, crate::specs::Listener::dozing))]
     fn dozing(
         self,
         h: Head,
@@ -169,18 +153,18 @@ impl Listener {
         let listener = Listener {
             tag: self.tag,
             phase: awaits,
-            due: due,
+            due,
             cycle: h.position + h.to_cycle,
-            passed: passed,
+            passed,
             doze: d,
             heard: self.heard_with(),
             elapsed: self.elapsed_with(),
         };
         Stepped {
-            listener: listener,
+            listener,
             answer: Answer::Doze(d),
-            first: first,
-            count: count,
+            first,
+            count,
         }
     }
 
@@ -200,30 +184,25 @@ impl Listener {
     }
 
     // Whether the position is the one awaited, and N too where no cycle starts there.
+    #[tactic(auto, unfolding(buckets::specs::Inner::Held::bucket_with, buckets::specs::Bucket::cycle_length))]
     fn due_at(self, h: Head) -> bool
         requires { SoundHead h }
         ensures { (body : Body) → result ≡ due_at self (bucket_with h body) }
     {
-        if h.position != self.due {
-            return false;
-        }
-        if self.due == 0 {
-            return true;
-        }
-        h.position + h.to_cycle == self.cycle
+        h.position == self.due && (self.due == 0 || h.position + h.to_cycle == self.cycle)
     }
 
     // Whether a bucket with this head, of index or data, is as awaited.
+    #[tactic(auto, unfolding(buckets::specs::Inner::Held::bucket_with, crate::specs::Listener::awaited))]
     fn awaits(self, index: bool, h: Head) -> bool
         requires { SoundHead h }
         ensures { (body : Body) → is_index body ≡ index → result ≡ awaited self (bucket_with h body) }
     {
-        let phase = self.phase;
-        match phase {
+        match self.phase {
             Phase::TuneIn => true,
-            Phase::Index => if index { self.due_at(h) } else { false },
+            Phase::Index => index && self.due_at(h),
             Phase::Either => self.due_at(h),
-            Phase::Data => if index { false } else { self.due_at(h) },
+            Phase::Data => !index && self.due_at(h),
             Phase::Ended => false,
         }
     }
@@ -275,8 +254,7 @@ impl Listener {
         if !self.awaits(true, h) {
             return self.refused(Reason::NotAwaited);
         }
-        let phase = self.phase;
-        if is_tune_in(phase) {
+        if is_tune_in(self.phase) {
             return self.doze_by(h, h.to_segment, Phase::Index, 0, 0);
         }
         self.index_step(h, pairs, entries)
@@ -291,8 +269,7 @@ impl Listener {
         if !self.awaits(false, h) {
             return self.refused(Reason::NotAwaited);
         }
-        let phase = self.phase;
-        if is_tune_in(phase) {
+        if is_tune_in(self.phase) {
             return self.doze_by(h, h.to_segment, Phase::Index, 0, 0);
         }
         self.data_step(h, follow_on, tags)
@@ -316,6 +293,7 @@ impl Listener {
     }
 
     // The refusal by 14, which changes nothing.
+    #[tactic(auto, unfolding(crate::specs::Listener::refused_ended, crate::specs::Listener::stepped))]
     fn refused_ended(self) -> Stepped
         ensures { result ≡ refused_ended self }
     {
@@ -332,8 +310,7 @@ impl Listener {
         ensures { (result.listener ≡ (step self bucket.now).listener) ×
             (step_numbers result ≡ step_numbers (step self bucket.now)) }
     {
-        let phase = self.phase;
-        if is_ended(phase) {
+        if is_ended(self.phase) {
             return self.refused_ended();
         }
         let reading = reader::read_bucket(bucket);
@@ -341,6 +318,7 @@ impl Listener {
     }
 
     // The listener that starts over with the next bucket as its tune-in, its counts running on.
+    #[tactic(auto, unfolding(crate::specs::Listener::starts_over, crate::specs::Listener::counting, crate::specs::Listener::start))]
     fn starts_over(self) -> Listener
         ensures { result ≡ starts_over self }
     {
@@ -356,13 +334,11 @@ impl Listener {
     pub fn lost(self) -> Stepped
         ensures { (result.listener ≡ (lost self).listener) × (step_numbers result ≡ step_numbers (lost self)) }
     {
-        let phase = self.phase;
-        if is_ended(phase) {
+        if is_ended(self.phase) {
             return self.refused_ended();
         }
-        let listener = self.starts_over();
         Stepped {
-            listener: listener,
+            listener: self.starts_over(),
             answer: Answer::Doze(1),
             first: 0,
             count: 0,

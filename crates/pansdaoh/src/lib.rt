@@ -232,7 +232,7 @@ fn no_line(number: u64) -> LineAnswer
     ensures { result ≡ line_answer (number ∷ []) }
 {
     LineAnswer {
-        number: number,
+        number,
         place: 0,
         present: 0,
         tag: 0,
