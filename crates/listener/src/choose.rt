@@ -30,7 +30,8 @@ fn is_below(pair: Pair, tag: u64) -> bool
     }
 }
 
-// The distance of the first control pair behind the first one whose tag is below ours.
+// The distance of the first control pair behind the first one whose tag is below ours. A loop that breaks with the chosen distance,
+// here and for the entries, is the form that the yard's contract names.
 pub fn pair_below(tag: u64, pairs: &[Pair]) -> Option<u64>
     ensures { result ≡ chosen (λ p. tag_below p.tag tag) (λ p. p.distance) (drop 1 pairs.now) }
 {
