@@ -24,12 +24,13 @@ exit $CARGO
 /// Runs the gate with these statuses of `rt lib`, `cargo test` and `rt ci`: its
 /// own, and the lines written.
 fn gate(lib: i32, cargo: i32, ci: i32) -> (i32, Vec<String>) {
-    gate_with(lib, cargo, ci, "")
+    gate_with("statuses", lib, cargo, ci, "")
 }
 
-/// The same where `rt ci` says this behind the number of edits refused.
-fn gate_with(lib: i32, cargo: i32, ci: i32, bad: &str) -> (i32, Vec<String>) {
-    let folder = Path::new(env!("CARGO_TARGET_TMPDIR")).join("gate");
+/// The same in a folder of this name, where `rt ci` says this behind the number
+/// of edits refused.
+fn gate_with(name: &str, lib: i32, cargo: i32, ci: i32, bad: &str) -> (i32, Vec<String>) {
+    let folder = Path::new(env!("CARGO_TARGET_TMPDIR")).join("gate").join(name);
     for (name, script) in [
         (".ci/run", GATE),
         ("bin/rt", RT),
@@ -78,10 +79,10 @@ fn last_line_and_status() {
 /// the gate fails.
 #[test]
 fn bad_edits() {
-    let (status, lines) = gate_with(0, 0, 0, ", 1 bad; done in this run: all");
+    let (status, lines) = gate_with("edits", 0, 0, 0, ", 1 bad; done in this run: all");
     assert_eq!(status, 1);
     assert!(lines.last().unwrap().starts_with("A must-fail edit was bad"), "{lines:?}");
 
-    let (status, lines) = gate_with(0, 0, 0, "; done in this run: 5 of the 8 proofs");
+    let (status, lines) = gate_with("edits", 0, 0, 0, "; done in this run: 5 of the 8 proofs");
     assert_eq!((status, lines.last().unwrap().as_str()), (0, "7 passed, 0 failed"));
 }
