@@ -107,16 +107,14 @@ fn write_lines(part: &mut [u8], lines: &[u8], plain: bool)
         × (plain ≡ true → PlainList lines.now)))) }
     ensures { part.new ≡ padded lines_width (joined line_columns (list_lines lines.now)) }
 {
-    let mut from = 0;
-    let mut at = 0;
-    while from < lines.len() {
+    for i in 0..lines.len() / Line::LENGTH {
+        let from = i * Line::LENGTH;
+        let at = i * Line::COLUMNS;
         put_columns(
             &mut part[at..at + Line::COLUMNS],
             &lines[from..from + Line::COLUMNS],
             plain,
         );
-        from += Line::LENGTH;
-        at += Line::COLUMNS;
     }
 }
 
