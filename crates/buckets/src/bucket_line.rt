@@ -24,6 +24,7 @@ pub fn line_of(bucket: &[u8], i: u64) -> Result<Option<Line>, Misprinted>
 }
 
 // The line in the columns of line i.
+#[tactic(auto, unfolding(crate::specs::BucketLines::line_bytes))]
 fn line_at(bucket: &[u8], i: usize) -> Line
     requires { (length bucket.now ≡ bucket_length) × (i < bucket_lines_most) }
     ensures { result ≡ spelled_line (line_bytes bucket.now i) }

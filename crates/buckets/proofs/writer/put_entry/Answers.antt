@@ -1,20 +1,12 @@
--- `buckets::writer::put_entry` meets its contract: the distance stands right behind the tag.
--- Assumes nothing.
-use Prim.Native.Nat.{ℕ, ◌+◌, ◌-◌, ◌≤◌, ◌<◌}
-use mathlib.Core.Path.{◌≡◌, ◌∙◌, ap}
-use mathlib.Core.Bool.{Bool, true}
-use mathlib.Core.List.{List, ◌++◌}
-use native.Mathlib.Omega.{arith}
-use lib.ListN.{length, take, drop}
-use borrow.Author.Rules.{rules}
+-- The tag over its columns, and the distance over those behind.
+use Rattle.std.proofs.Common.{arith, ℕ, ◌+◌, ◌-◌, ◌≤◌, ◌<◌, ◌≡◌, ap, ◌∙◌, List, ◌++◌, length, take, drop, Bool, true}
 use Rattle.columns.specs.Lists.{put}
 use Rattle.columns.specs.PrintedNumbers.{print, blanks, blank_zeros}
 use Rattle.columns.proofs.Lenient.{length_blanked}
 use Rattle.columns.proofs.Put.{length_part, length_put, put_part, put_put, part_behind}
 use Rattle.buckets.specs.Inner.Held.{entry_start, EntryBlank}
 use Rattle.buckets.specs.Lengths.{tag_width, place_width, distance_start, entry_width, entries_most, bucket_length}
-use Rattle.buckets.proofs.writer.put_entry.Statement.{statement}
-use Rattle.buckets.proofs.writer.put_entry.Tie as tie
+use Rattle.buckets.proofs.writer.put_entry.Goals as goal
 
 lent_width : (k w : ℕ) → k + w - k ≡ w
 lent_width k w = omega arith
@@ -59,53 +51,17 @@ module _ (d text : List ℕ) (i from : ℕ) (long : length d ≡ bucket_length) 
       p
       ∙ rw (behind_width, e) (put_put d (entry_start i) tag (entry_start i + distance_start) (print place_width x) (omega (arith, tag_wide)) (omega (arith, tag_wide)))
 
-abbrev start : tie.After-put_tag → tie.Start
-start c = c.before.before.before.before.before
+pub put_tag-requires : goal.put_tag-requires
+put_tag-requires c =
+    tag_ready c.args.part.now c.args.text.now c.args.i c.args.from c.requires.0 c.requires.1.0 c.requires.1.1.0 c.requires.1.1.1.1
 
-after_tag : (c : tie.After-put_tag) →
-    let a = (start c).args in
-    take (entry_start a.i) a.part.now
-    ++ (c.put_tag.new.part ++ drop (entry_start a.i + distance_start - entry_start a.i) (drop (entry_start a.i) a.part.now))
-    ≡ put a.part.now (entry_start a.i) (blank_zeros (take tag_width (drop a.from a.text.now)))
-after_tag c =
-    let s = start c in
-    tag_put s.args.part.now s.args.text.now s.args.i s.args.from s.requires.0 s.requires.1.0 s.requires.1.1.0 c.put_tag.ensures
+pub print_at-requires : goal.print_at-requires
+print_at-requires c =
+    distance_ready c.args.part.now c.args.text.now c.args.i c.args.from c.requires.0 c.requires.1.0 c.requires.1.1.0 c.requires.1.1.1.0
+    (tag_put c.args.part.now c.args.text.now c.args.i c.args.from c.requires.0 c.requires.1.0 c.requires.1.1.0 c.put_tag.ensures)
 
-put_tag_requires : tie.Need-put_tag-requires
-put_tag_requires c κs =
-    let s = c.before.before.before.before in
-    tag_ready s.args.part.now s.args.text.now s.args.i s.args.from s.requires.0 s.requires.1.0 s.requires.1.1.0 s.requires.1.1.1.1
-
-print_at_requires : tie.Need-print_at-requires
-print_at_requires c κs =
-    let t = c.before.before.before in
-    let s = start t in
-    distance_ready s.args.part.now s.args.text.now s.args.i s.args.from s.requires.0 s.requires.1.0 s.requires.1.1.0 s.requires.1.1.1.0 (after_tag t)
-
-returns : tie.Need-returns
+pub returns : goal.returns
 returns c =
-    let p = c.before.before in
-    let t = p.before.before.before.before in
-    let s = start t in
-    distance_put s.args.part.now s.args.text.now s.args.i s.args.from s.requires.0 s.requires.1.0 s.requires.1.1.0 s.args.distance (after_tag t)
-    p.print_at.ensures
-
-pub put_entry_spec : {M : Type 1} → statement M
-put_entry_spec =
-    tie.close
-    (tie.spec
-    (λ c. search rules)
-    (λ c. search rules)
-    (λ c. search rules)
-    (λ c. search rules)
-    (λ c. search rules)
-    (λ c. search rules)
-    (λ c. search rules)
-    (λ c. search rules)
-    (λ c. search rules)
-    (λ c. search rules)
-    put_tag_requires
-    (λ c. search rules)
-    print_at_requires
-    (λ c. search rules)
-    returns)
+    distance_put c.args.part.now c.args.text.now c.args.i c.args.from c.requires.0 c.requires.1.0 c.requires.1.1.0 c.args.distance
+    (tag_put c.args.part.now c.args.text.now c.args.i c.args.from c.requires.0 c.requires.1.0 c.requires.1.1.0 c.put_tag.ensures)
+    c.print_at.ensures

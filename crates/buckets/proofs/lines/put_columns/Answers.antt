@@ -1,20 +1,14 @@
--- `buckets::lines::put_columns` meets its contract: each field's leading zeros are made blank where the field stands.
--- Assumes nothing.
-use Prim.Native.Nat.{ℕ, ◌+◌, ◌≤◌}
-use mathlib.Core.Path.{◌≡◌, refl, sym, ap, ◌∙◌}
-use mathlib.Core.List.{List, [], ◌++◌, append_assoc}
-use native.Mathlib.Omega.{arith}
-use lib.ListN.{length, take, drop, length-append}
+-- Each field with its leading zeros made blank, one behind the other.
+use Rattle.std.proofs.Common.{arith, ℕ, ◌+◌, ◌≤◌, ◌≡◌, refl, sym, ap, ◌∙◌, List, [], ◌++◌, length, take, drop}
+use mathlib.Core.List.{append_assoc}
+use lib.ListN.{length-append}
 use lib.Seq.{take_at, drop_at, drop-drop, drop-length}
-use borrow.Author.Rules.{rules}
 use Rattle.columns.specs.PrintedNumbers.{blank_zeros}
-use Rattle.columns.proofs.Rows.{◌▹◌, ◌▹₂◌, ◌▹₈◌, ◌▹₉◌}
 use Rattle.columns.proofs.Lenient.{length_blanked}
 use Rattle.columns.proofs.Put.{length_part}
 use Rattle.buckets.specs.Lengths.{tag_start, tag_width, tare_start, tare_width, code_start, code_width, weighing_start, weighing_width, line_columns_width}
 use Rattle.buckets.specs.Inner.Columns.{blanked_columns}
-use Rattle.buckets.proofs.lines.put_columns.Statement.{statement}
-use Rattle.buckets.proofs.lines.put_columns.Tie as tie
+use Rattle.buckets.proofs.lines.put_columns.Goals as goal
 
 -- d with e in the place of the w columns from k on
 abbrev field : ℕ → ℕ → List ℕ → List ℕ → List ℕ
@@ -60,27 +54,14 @@ four_fields s long is tag tare code weighing =
     (four_joined (blank_zeros (take tag_width s)) (blank_zeros (take tare_width (drop tare_start s))) (blank_zeros (take code_width (drop code_start s))) (blank_zeros (take weighing_width (drop weighing_start s))))
 
 -- a line without leading zeros is copied
-returns : tie.Need-returns-then-plain
+pub returns-then-plain : goal.returns-then-plain
+returns-then-plain c = c.copy_columns.ensures ∙ sym (c.requires.1.1 c.if-plain.true)
+
+pub returns : goal.returns
 returns c =
-    let copied = c.before.before.before in
-    copied.copy_columns.ensures ∙ sym (copied.before.before.before.before.requires.1.1 c.if-plain.true)
-
-returns_2 : tie.Need-returns
-returns_2 c =
-    let weighing = c.before.before in
-    let code = weighing.before.before.before.before in
-    let tare = code.before.before.before.before in
-    let tag = tare.before.before.before.before in
-    let copied = tag.before.before.before.before.before in
-    let s = copied.before.before.before.before in
-    four_fields s.args.line.now s.requires.1.0
-    copied.copy_columns.ensures
-    tag.blank_zeros.ensures
-    tare.blank_zeros-2.ensures
-    code.blank_zeros-3.ensures
-    weighing.blank_zeros-4.ensures
-
-pub put_columns_spec : {M : Type 1} → statement M
-put_columns_spec =
-    tie.close
-    (tie.spec ▹₂ search rules ▹ returns ▹₉ search rules ▹₈ search rules ▹ returns_2)
+    four_fields c.args.line.now c.requires.1.0
+    c.copy_columns.ensures
+    c.blank_zeros.ensures
+    c.blank_zeros-2.ensures
+    c.blank_zeros-3.ensures
+    c.blank_zeros-4.ensures
