@@ -16,11 +16,11 @@ use Rattle.buckets.specs.Lengths.{tare_width, code_width, weighing_width}
 
 -- column i, behind the columns before it
 module _ (test : Place → ℕ → ℕ → Bool) (ks : List Place) (s : List ℕ) (i b : ℕ) (still : Bool) (e : columns_by test ks 32 s ≡ (still && columns_by test (drop i ks) b (drop i s))) where
-  pub one_more : i < length ks → i < length s → (k : Place) (c n : ℕ) (next : Bool) → k ≡ get_or ks i k → c ≡ get_or s i 0 → n ≡ i + 1
+  pub one_more : i < length ks → i < length s → (none k : Place) (c n : ℕ) (next : Bool) → k ≡ get_or ks i none → c ≡ get_or s i 0 → n ≡ i + 1
       → next ≡ (still && test k b c) → columns_by test ks 32 s ≡ (next && columns_by test (drop n ks) c (drop n s))
-  one_more h t k c n next place column on is =
+  one_more h t none k c n next place column on is =
       e
-      ∙ rw (drop-cons ks i k h, drop-cons s i 0 t, is, on, add-one i, ← place, ← column)
+      ∙ rw (drop-cons ks i none h, drop-cons s i 0 t, is, on, add-one i, ← place, ← column)
       (and_assoc still (test k b c) (columns_by test (drop (suc i) ks) c (drop (suc i) s)))
 
   pub all_passed : length ks ≤ i → still ≡ columns_by test ks 32 s

@@ -15,8 +15,9 @@ use columns;
 use columns::Place;
 use columns::Place::{Between, First, Last};
 
-// The places of the columns of tare, material code and weighing number in their fields.
-const PLACES: [Place; Line::REST] = [
+// The places of the columns of tare, material code and weighing number in their fields. A constant would be put together anew for
+// each column.
+static PLACES: [Place; Line::REST] = [
     First, Between, Between, Between, Between, Last, First, Between, Between, Last, First, Between,
     Between, Between, Between, Last,
 ];
@@ -47,16 +48,16 @@ pub fn read_columns(part: &[u8], low: u64) -> Option<Line>
 }
 
 // Whether tare, material code and weighing number are well printed in the columns behind the tag. Each column is looked at, so
-// that all are tested at once.
+// that all are tested at once: over indices, since the compiler unrolls a `zip` of these columns and then tests them one by one.
 fn rest_printed(part: &[u8]) -> bool
     requires { length part.now ≡ rest_width }
     ensures { result ≡ columns_by column_printed rest_places 32 part.now }
 {
     let mut still = true;
     let mut before = BLANK;
-    for (c, place) in part.iter().zip(&PLACES) {
-        still = columns::still_printed(still, *place, before, *c);
-        before = *c;
+    for i in 0..Line::REST {
+        still = columns::still_printed(still, PLACES[i], before, part[i]);
+        before = part[i];
     }
     still
 }

@@ -118,14 +118,15 @@ fn close_place(list: &mut [u8], at: usize, end: usize)
     list.copy_within(at + Line::LENGTH..end, at);
 }
 
-// Puts a line into the list that ends at end, in front of the line at `at`.
+// Puts a line into the list that ends at end, in front of the line at `at`. The line is cut at its known length, since a copy of any
+// length takes `memmove` of the C library, which the library must not need.
 fn put_line(list: &mut [u8], at: usize, end: usize, line: &[u8])
     requires { (at ≤ end) × (end + line_length ≤ length list.old) × (length line.now ≡ line_length) }
     ensures { list.new ≡ with_line list.old at end line.now }
 {
     open_place(list, at, end);
     let behind = at + Line::LENGTH;
-    copy_columns(&mut list[at..behind], line);
+    copy_columns(&mut list[at..behind], &line[..Line::LENGTH]);
 }
 
 // Takes the line at `at` out of the list that ends at end; the last line's place becomes blank.

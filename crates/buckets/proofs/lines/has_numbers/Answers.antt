@@ -14,4 +14,4 @@ loop-c-preserved c =
     let turn = zip_turn c.args.part.now line_places c.loop-c.yielded c.into_iter-c-iterator.result c.loop-c.c-iterator c.next.new.self c.next.result (cc) (cc)
     c.loop-c.yielded_by pair c.in-Some.is c.next.ensures.steps in
     one_more column_digits line_places c.args.part.now (length c.loop-c.yielded) c.loop-c.before c.loop-c.still c.loop-c.invariant turn.1 turn.0
-    c.in-Some.place.now c.in-Some.c.now _ _ (turn.3 c.in-Some.place.now) (turn.2 0) (length_push c.loop-c.yielded pair) c.still_digits-still.ensures
+    c.in-Some.place.now c.in-Some.place.now c.in-Some.c.now _ _ (turn.3 c.in-Some.place.now) (turn.2 0) (length_push c.loop-c.yielded pair) c.still_digits-still.ensures
