@@ -398,7 +398,7 @@ struct pansdaoh_line_answer {
  */
 struct pansdaoh_line_answer pansdaoh_line(const uint8_t *bucket, size_t bucket_length, uint64_t i);
 
-#define PANSDAOH_LINE_STACK 2048 /* bytes of stack, at most */
+#define PANSDAOH_LINE_STACK 1024 /* bytes of stack, at most */
 
 #ifdef __cplusplus
 }

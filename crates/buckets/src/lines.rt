@@ -195,7 +195,8 @@ fn spelled_columns(text: &[u8], at: usize, width: usize) -> u64
     x
 }
 
-// The number that a tag's columns from a place of a text on spell.
+// The number that a tag's columns from a place of a text on spell. Compiled once: the header promises how much code there is.
+#[inline(never)]
 pub fn spelled_tag(text: &[u8], at: usize) -> u64
     requires { at + tag_width ≤ length text.now }
     ensures { result ≡ value 0 (take tag_width (drop at text.now)) }

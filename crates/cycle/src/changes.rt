@@ -100,13 +100,17 @@ fn first_equal(list: &[u8], lines: u64, line: Line) -> Option<u64>
     None
 }
 
-// Moves the bytes from at up to end one line on.
+// Moves the bytes from at up to end one line on. Byte by byte and compiled apart: `copy_within`, and the loop where it is compiled into
+// its caller, take `memmove` of the C library, which the library must not need.
+#[inline(never)]
 fn open_place(list: &mut [u8], at: usize, end: usize)
     requires { (at ≤ end) × (end + line_length ≤ length list.old) }
     ensures { list.new ≡
         put list.old (at + line_length) (take (end - at) (drop at list.old)) }
 {
-    list.copy_within(at..end, at + Line::LENGTH);
+    for i in (at..end).rev() {
+        list[i + Line::LENGTH] = list[i];
+    }
 }
 
 // Moves the bytes behind the line at `at`, up to end, one line back.
@@ -158,7 +162,8 @@ fn counts_of(f: Figures) -> Counts
     }
 }
 
-// Writes the cycle of a changed list.
+// Writes the cycle of a changed list. Compiled once, as all that a call does once is: the header promises how much code there is.
+#[inline(never)]
 fn send(list: &[u8], plain: bool, f: Figures, out: &mut [u8]) -> Counts
     requires { AcceptedList f list.now × (bucket_length * f.size ≤ length out.old) × (plain ≡ true → PlainList list.now) }
     ensures { (result ≡ counts_held f) ×

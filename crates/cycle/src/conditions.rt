@@ -27,6 +27,8 @@ pub struct ListFigures {
 }
 
 // The first misprinted line.
+// Compiled once, since the header promises how much code there is.
+#[inline(never)]
 pub fn first_misprint(list: &[u8], lines: u64) -> Option<u64>
     requires { (length list.now ≡ line_length * lines) × (lines ≤ lines_most) }
     ensures { result ≡ misprint_from 0 (cut_lines list.now) }
@@ -92,6 +94,8 @@ fn all_rise(list: &[u8], lines: u64, plain: bool) -> bool
 }
 
 // Conditions 5, 6 and 7 of figures and a buffer's room; and the figures with N.
+// Compiled once, since the header promises how much code there is.
+#[inline(never)]
 pub fn judge_room(f: Figures, room: u64) -> Result<Figures, Refusal>
     requires { Shaped f }
     ensures { result ≡ outcome (first_refusal (plan_conditions (plan_of f []) room)) (sized f (cycle_size (plan_of f []))) }

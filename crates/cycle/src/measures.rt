@@ -76,6 +76,8 @@ pub fn settings_fit(settings: Settings) -> bool
 }
 
 // The figures of settings within their ranges and of a number of lines, N left 0.
+// Compiled once, since the header promises how much code there is.
+#[inline(never)]
 pub fn figures_of(settings: Settings, lines: u64) -> Figures
     requires { SettingsFit settings × (lines ≤ lines_most) }
     ensures { Figured settings result × (result.lines ≡ lines) }
@@ -103,6 +105,8 @@ pub fn figures_of(settings: Settings, lines: u64) -> Figures
 }
 
 // Whether copies is within its range.
+// Compiled once, since the header promises how much code there is.
+#[inline(never)]
 pub fn copies_fit(f: Figures) -> bool
     requires { Shaped f }
     ensures { result ≡ copies_fit (plan_of f []) }

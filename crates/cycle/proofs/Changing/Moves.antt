@@ -1,20 +1,21 @@
 -- Bytes that move in a list's buffer when a line is put in or taken out, and what the buffer holds then.
---     take_place                              what a write does not touch
+--     take_place, at_before                   what a write does not touch
 --     put_before, put_onto                    a write that ends where another begins; a write by the buffer's front
+--     opened_none, opened_more, opened_all    bytes moved on: none yet, one more, all
 --     pasted                                  a part moved within a list
 --     line_in, line_out                       a place opened and filled, a place closed and blanked
 --     line_put, line_removed                  the same by the list that the buffer holds
 --     onto_..                                 a buffer with bytes written at its front
 -- Assumes nothing.
-use Prim.Native.Nat.{ℕ, ◌+◌, ◌-◌, ◌≤◌}
+use Prim.Native.Nat.{ℕ, suc, ◌+◌, ◌-◌, ◌≤◌, ◌<◌}
 use mathlib.Core.Path.{◌≡◌, refl, sym, ap, ap₂, ◌∙◌}
-use mathlib.Core.List.{List, [], ◌++◌, append_assoc}
+use mathlib.Core.List.{List, [], ◌∷◌, ◌++◌, append_assoc}
 use native.Mathlib.Omega.{arith}
-use lib.ListN.{length, take, drop, length-append, length-drop}
-use lib.Seq.{length-take-le, take-take, take_at, drop_at, drop-drop, drop-append-add, take-append_seam, take-add, paste}
+use lib.ListN.{length, take, drop, get_or, set, length-append, length-drop, length-set}
+use lib.Seq.{length-take-le, take-take, take_at, drop_at, drop-drop, drop-append-add, take-append_seam, take-add, paste, drop-cons, get_or-take}
 use Rattle.columns.specs.Lists.{put, onto}
 use Rattle.columns.specs.PrintedNumbers.{blanks}
-use Rattle.columns.proofs.Put.{put_put, put_part, drop_place, length_part}
+use Rattle.columns.proofs.Put.{put_nil, put_put, put_part, put_set, drop_place, length_part}
 use Rattle.columns.proofs.FromTheRight.{length_blanks}
 use Rattle.buckets.specs.Lengths.{line_length}
 use Rattle.cycle.specs.Inner.Changing.{with_line, without_line}
@@ -24,6 +25,11 @@ use Rattle.cycle.specs.Inner.Changing.{with_line, without_line}
 take_place : (d : List ℕ) (k : ℕ) (s : List ℕ) → k ≤ length d → take k (put d k s) ≡ take k d
 unfolding put
 take_place d k s h = take_at (take k d) (s ++ drop (k + length s) d) k (length-take-le k d h)
+
+-- a byte in front of what is written
+at_before : (d : List ℕ) (k : ℕ) (s : List ℕ) (j : ℕ) → k ≤ length d → j < k → get_or (put d k s) j 0 ≡ get_or d j 0
+at_before d k s j h b =
+    sym (get_or-take k (put d k s) j 0 b) ∙ ap (λ (x : List ℕ). get_or x j 0) (take_place d k s h) ∙ get_or-take k d j 0 b
 
 -- a write that ends where the one before it begins
 put_before : (d : List ℕ) (k : ℕ) (s : List ℕ) (j : ℕ) (t : List ℕ) → k ≤ length d → j + length t ≡ k →
@@ -37,6 +43,57 @@ put_before d k s j t h e =
     let end : k + length s ≡ j + length (t ++ s) = simp length-append (omega arith) in
     ap₂ (λ (x y : List ℕ). x ++ (t ++ y)) front (back ∙ ap (λ (i : ℕ). s ++ drop i d) end)
     ∙ ap (λ (x : List ℕ). take j d ++ x) (sym (append_assoc t s (drop (j + length (t ++ s)) d)))
+
+-- ---- a place opens: the bytes from `at` up to `end` move on by w, the last first, and those from i on have
+
+pub record Opened (b : List ℕ) (w at end : ℕ) (list : List ℕ) (i : ℕ) : Type 0 where
+  pub from : at ≤ i
+  pub to : i ≤ end
+  pub long : length list ≡ length b
+  pub is : list ≡ put b (i + w) (take (end - i) (drop i b))
+
+pub opened_none : (b : List ℕ) (w at end : ℕ) → at ≤ end → Opened b w at end b end
+opened_none b w at end h =
+    let none : 0 ≡ end - end = omega arith in
+    record {
+      from = h;
+      to = omega arith;
+      long = refl;
+      is = sym (put_nil b (end + w)) ∙ ap (λ (c : ℕ). put b (end + w) (take c (drop end b))) none;
+    }
+
+-- the byte in front of them moves too
+pub opened_more :
+    (b : List ℕ) (w at end : ℕ) (list : List ℕ) (i j : ℕ) → end + w ≤ length b → Opened b w at end list i → at < i → i ≡ suc j →
+    Opened b w at end (set list (j + w) (get_or list j 0)) j
+opened_more b w at end list i j room o h e =
+    let rest : List ℕ = take (end - i) (drop i b) in
+    let there : j + w < length list = omega arith in
+    let near : j + w + 1 ≡ i + w = omega arith in
+    let byte : get_or list j 0 ≡ get_or b j 0 =
+    ap (λ (x : List ℕ). get_or x j 0) o.is ∙ at_before b (i + w) rest j (omega arith) (omega arith) in
+    let one : end - j ≡ suc (end - i) = omega arith in
+    let part : get_or b j 0 ∷ rest ≡ take (end - j) (drop j b) =
+    ap (λ (k : ℕ). get_or b j 0 ∷ take (end - i) (drop k b)) e
+    ∙ ap (take (suc (end - i))) (sym (drop-cons b j 0 (omega arith)))
+    ∙ ap (λ (c : ℕ). take c (drop j b)) (sym one) in
+    record {
+      from = omega arith;
+      to = omega arith;
+      long = simp length-set o.long;
+      is =
+          put_set list (j + w) (get_or list j 0) there
+          ∙ ap₂ (λ (x : List ℕ) (v : ℕ). put x (j + w) (v ∷ [])) o.is byte
+          ∙ put_before b (i + w) rest (j + w) (get_or b j 0 ∷ []) (omega arith) near
+          ∙ ap (put b (j + w)) part;
+    }
+
+pub opened_all :
+    (b : List ℕ) (w at end : ℕ) (list : List ℕ) (i : ℕ) → Opened b w at end list i → i ≤ at →
+    list ≡ put b (at + w) (take (end - at) (drop at b))
+opened_all b w at end list i o h =
+    let e : i ≡ at = omega arith in
+    o.is ∙ ap (λ (k : ℕ). put b (k + w) (take (end - k) (drop k b))) e
 
 -- ---- a part moved within a list
 
