@@ -22,6 +22,7 @@ use buckets::lines::{line_tag, plain_tag, spelled_line, spelled_tag};
 use columns::{copy_columns, print_blanks};
 
 // Whether a buffer has place for so many lines.
+#[tactic(auto, unfolding(crate::specs::Changes::places_for))]
 fn places_for(buffer: &[u8], lines: u64) -> bool
     requires { lines ≤ lines_most + 1 }
     ensures { result ≡ places_for buffer.now lines }

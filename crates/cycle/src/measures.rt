@@ -166,6 +166,7 @@ pub fn paths_before(f: Figures, b: u64) -> u64
 }
 
 // The height of a segment's tree.
+#[tactic(auto, unfolding(crate::specs::Inner::Held::plan_of))]
 fn tree_height(f: Figures) -> usize
     requires { Shaped f × (copies_fit (plan_of f []) ≡ true) }
     ensures { result ≡ tree_height (plan_of f []) }
@@ -177,6 +178,7 @@ fn tree_height(f: Figures) -> usize
 }
 
 // The place of the last segment's tree, `span` data buckets under each full one.
+#[tactic(auto, unfolding(crate::specs::Judging::last_place))]
 fn last_root(f: Figures, span: u64) -> u64
     requires { Shaped f × (1 ≤ span) × (span ≤ span_most) }
     ensures { result ≡ last_place f.d span }
@@ -225,6 +227,7 @@ fn one_m_size(f: Figures) -> u64
 }
 
 // The figures with those of a segment's tree and with N.
+#[tactic(auto, unfolding(crate::specs::Inner::Held::plan_of, crate::specs::Inner::Held::sized))]
 pub fn with_size(f: Figures) -> Figures
     requires { Shaped f × (copies_fit (plan_of f []) ≡ true) }
     ensures { result ≡ sized f (cycle_size (plan_of f [])) }
