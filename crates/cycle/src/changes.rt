@@ -120,6 +120,7 @@ fn close_place(list: &mut [u8], at: usize, end: usize)
 }
 
 // Puts a line into the list that ends at end, in front of the line at `at`.
+#[tactic(auto, using(crate::proofs::Changing::Moves::line_in))]
 fn put_line(list: &mut [u8], at: usize, end: usize, line: &[u8])
     requires { (at ≤ end) × (end + line_length ≤ length list.old) × (length line.now ≡ line_length) }
     ensures { list.new ≡ with_line list.old at end line.now }
@@ -130,6 +131,7 @@ fn put_line(list: &mut [u8], at: usize, end: usize, line: &[u8])
 }
 
 // Takes the line at `at` out of the list that ends at end; the last line's place becomes blank.
+#[tactic(auto, using(crate::proofs::Changing::Moves::line_out))]
 fn remove_line(list: &mut [u8], at: usize, end: usize)
     requires { (at + line_length ≤ end) × (end ≤ length list.old) }
     ensures { list.new ≡ without_line list.old at end }

@@ -47,6 +47,7 @@ fn levels_of(n: u64, d: u64) -> u64
 }
 
 // n to the power h: the data buckets under a full bucket of height h.
+#[tactic(auto, using(crate::proofs::Basics::Powers::power_high))]
 pub fn power(n: u64, h: usize) -> u64
     requires { (2 ≤ n) × (n ≤ entries_most) × (h ≤ levels_most) }
     ensures { result ≡ n ^ h }
@@ -76,6 +77,7 @@ pub fn settings_fit(settings: Settings) -> bool
 }
 
 // The figures of settings within their ranges and of a number of lines, N left 0.
+#[tactic(auto, using(crate::proofs::Trees::Readiness::few_data))]
 pub fn figures_of(settings: Settings, lines: u64) -> Figures
     requires { SettingsFit settings × (lines ≤ lines_most) }
     ensures { Figured settings result × (result.lines ≡ lines) }
