@@ -140,6 +140,7 @@ fn last_tree_size(f: Figures, e: usize, j: u64) -> u64
 }
 
 // The index buckets of the subtree of bucket j of height e.
+#[tactic(auto, using(crate::proofs::Trees::Readiness::reached))]
 fn tree_size(f: Figures, e: usize, j: u64) -> u64
     requires { Shaped f × (1 ≤ e) × InTree f e j }
     ensures { result ≡ length (tree_at (plan_of f []) e j) }
@@ -180,7 +181,7 @@ fn tree_height(f: Figures) -> usize
 }
 
 // The place of the last segment's tree, `span` data buckets under each full one.
-#[tactic(auto, unfolding(crate::specs::Judging::last_place))]
+#[tactic(auto, using(crate::proofs::Sequences::PathSizes::up_none, crate::proofs::Sequences::PathSizes::last_part, crate::proofs::Trees::Readiness::data_high), unfolding(crate::specs::Judging::last_place))]
 fn last_root(f: Figures, span: u64) -> u64
     requires { Shaped f × (1 ≤ span) × (span ≤ span_most) }
     ensures { result ≡ last_place f.d span }

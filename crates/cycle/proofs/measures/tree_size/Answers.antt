@@ -5,20 +5,7 @@ use native.Mathlib.Numerals.{add-one}
 use native.Mathlib.Omega.{arith}
 use Rattle.cycle.specs.Inner.Held.{plan_of, InTree}
 use Rattle.cycle.proofs.Trees.TreeSizes.{tree_full}
-use Rattle.cycle.proofs.Trees.Readiness.{reached}
 use Rattle.cycle.proofs.measures.tree_size.Goals as goal
-
-pub overflow_add-j : goal.overflow_add-j
-overflow_add-j c = omega (arith, (reached c.args.f _ _ c.requires.0 c.requires.2).place)
-
-pub power-requires : goal.power-requires
-power-requires c = (c.requires.0.n_low, c.requires.0.n_high, (reached c.args.f _ _ c.requires.0 c.requires.2).height)
-
-pub overflow_mul-j : goal.overflow_mul-j
-overflow_mul-j c = rw c.power.ensures (omega (arith, (reached c.args.f _ _ c.requires.0 c.requires.2).end))
-
-pub full_size-requires : goal.full_size-requires
-full_size-requires c = (c.requires.0.n_low, c.requires.0.n_high, (reached c.args.f _ _ c.requires.0 c.requires.2).height)
 
 pub returns-then-j-power : goal.returns-then-j-power
 unfolding plan_of InTree
