@@ -22,6 +22,7 @@ use buckets::lines::{line_tag, plain_tag, spelled_line, spelled_tag};
 use columns::{copy_columns, print_blanks};
 
 // Whether a buffer has place for so many lines.
+#[tactic(auto, unfolding(crate::specs::Changes::places_for))]
 fn places_for(buffer: &[u8], lines: u64) -> bool
     requires { lines ≤ lines_most + 1 }
     ensures { result ≡ places_for buffer.now lines }
@@ -124,6 +125,7 @@ fn close_place(list: &mut [u8], at: usize, end: usize)
 
 // Puts a line into the list that ends at end, in front of the line at `at`. The line is cut at its known length, since a copy of any
 // length takes `memmove` of the C library, which the library must not need.
+#[tactic(auto, using(crate::proofs::Changing::Moves::line_in))]
 fn put_line(list: &mut [u8], at: usize, end: usize, line: &[u8])
     requires { (at ≤ end) × (end + line_length ≤ length list.old) × (length line.now ≡ line_length) }
     ensures { list.new ≡ with_line list.old at end line.now }
@@ -134,6 +136,7 @@ fn put_line(list: &mut [u8], at: usize, end: usize, line: &[u8])
 }
 
 // Takes the line at `at` out of the list that ends at end; the last line's place becomes blank.
+#[tactic(auto, using(crate::proofs::Changing::Moves::line_out))]
 fn remove_line(list: &mut [u8], at: usize, end: usize)
     requires { (at + line_length ≤ end) × (end ≤ length list.old) }
     ensures { list.new ≡ without_line list.old at end }

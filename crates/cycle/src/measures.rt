@@ -47,6 +47,7 @@ fn levels_of(n: u64, d: u64) -> u64
 }
 
 // n to the power h: the data buckets under a full bucket of height h.
+#[tactic(auto, using(crate::proofs::Basics::Powers::power_high))]
 pub fn power(n: u64, h: usize) -> u64
     requires { (2 ≤ n) × (n ≤ entries_most) × (h ≤ levels_most) }
     ensures { result ≡ n ^ h }
@@ -78,6 +79,7 @@ pub fn settings_fit(settings: Settings) -> bool
 // The figures of settings within their ranges and of a number of lines, N left 0.
 // Compiled once, since the header promises how much code there is.
 #[inline(never)]
+#[tactic(auto, using(crate::proofs::Trees::Readiness::few_data))]
 pub fn figures_of(settings: Settings, lines: u64) -> Figures
     requires { SettingsFit settings × (lines ≤ lines_most) }
     ensures { Figured settings result × (result.lines ≡ lines) }
@@ -142,6 +144,7 @@ fn last_tree_size(f: Figures, e: usize, j: u64) -> u64
 }
 
 // The index buckets of the subtree of bucket j of height e.
+#[tactic(auto, using(crate::proofs::Trees::Readiness::reached))]
 fn tree_size(f: Figures, e: usize, j: u64) -> u64
     requires { Shaped f × (1 ≤ e) × InTree f e j }
     ensures { result ≡ length (tree_at (plan_of f []) e j) }
@@ -170,6 +173,7 @@ pub fn paths_before(f: Figures, b: u64) -> u64
 }
 
 // The height of a segment's tree.
+#[tactic(auto, unfolding(crate::specs::Inner::Held::plan_of))]
 fn tree_height(f: Figures) -> usize
     requires { Shaped f × (copies_fit (plan_of f []) ≡ true) }
     ensures { result ≡ tree_height (plan_of f []) }
@@ -181,6 +185,7 @@ fn tree_height(f: Figures) -> usize
 }
 
 // The place of the last segment's tree, `span` data buckets under each full one.
+#[tactic(auto, using(crate::proofs::Sequences::PathSizes::up_none, crate::proofs::Sequences::PathSizes::last_part, crate::proofs::Trees::Readiness::data_high), unfolding(crate::specs::Judging::last_place))]
 fn last_root(f: Figures, span: u64) -> u64
     requires { Shaped f × (1 ≤ span) × (span ≤ span_most) }
     ensures { result ≡ last_place f.d span }
@@ -229,6 +234,7 @@ fn one_m_size(f: Figures) -> u64
 }
 
 // The figures with those of a segment's tree and with N.
+#[tactic(auto, unfolding(crate::specs::Inner::Held::plan_of, crate::specs::Inner::Held::sized))]
 pub fn with_size(f: Figures) -> Figures
     requires { Shaped f × (copies_fit (plan_of f []) ≡ true) }
     ensures { result ≡ sized f (cycle_size (plan_of f [])) }

@@ -23,6 +23,7 @@ fn heard_most(k: u64, c: u64) -> u64
 }
 
 // The dimensions that figures with their N have, for a tag in c data buckets.
+#[tactic(auto, unfolding(crate::specs::Size::dimensions, crate::specs::Inner::Held::plan_of))]
 fn dimensions_of(f: Figures, c: u64) -> Dimensions
     requires { (f.k ≤ levels_most) × (f.d ≤ lines_most) × (f.size ≤ buckets_most) × (f.size ≡ cycle_size (plan_of f [])) }
     ensures { result ≡ dimensions (plan_of f []) c }

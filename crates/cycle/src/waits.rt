@@ -15,6 +15,7 @@ use buckets::Bucket;
 const ROOM_MOST: u64 = BUCKET * Bucket::BUCKETS_MOST;
 
 // Elapsed over all tune-ins, added, for a tag whose lines lie in data buckets first to last.
+#[tactic(auto, unfolding(crate::specs::Waits::waits_between, crate::specs::Inner::Held::plan_of))]
 fn waits_between(f: Figures, first: u64, last: u64) -> u64
     requires { Ready f × (first ≤ last) × (last < f.d) }
     ensures { result ≡ waits_between (plan_of f []) first last }
