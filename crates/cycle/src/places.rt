@@ -54,6 +54,7 @@ pub fn data_place(f: Figures, q: u64) -> u64
 }
 
 // The place of line i's first byte.
+#[tactic(auto, unfolding(crate::specs::Inner::Held::plan_of))]
 pub fn line_place(f: Figures, source: Source, i: u64) -> usize
     requires { Ready f × (i < f.lines) }
     ensures { result ≡ line_at (plan_of f []) source i }
@@ -68,6 +69,7 @@ pub fn line_place(f: Figures, source: Source, i: u64) -> usize
 }
 
 // The tag of line i.
+#[tactic(auto, unfolding(crate::specs::Inner::Held::tag_at))]
 pub fn tag_of(text: &[u8], f: Figures, source: Source, i: u64) -> u64
     requires { Ready f × (i < f.lines) × TextFits f source (length text.now) }
     ensures { result ≡ tag_at f source text.now i }
@@ -111,6 +113,7 @@ fn segment_place(f: Figures, s: Segment, span: u64, j: u64) -> usize
 }
 
 // The same wherever they stand: in layout 1, a bucket below the root of the segment's tree has them in the segment.
+#[tactic(auto, unfolding(crate::specs::Inner::Held::tag_place))]
 fn image_place(f: Figures, s: Segment, span: u64, j: u64) -> usize
     requires ready { Ready f }
     requires holds_segment { (ls : List Line) → HoldsSegment (plan_of f ls) s }
@@ -128,6 +131,7 @@ fn image_place(f: Figures, s: Segment, span: u64, j: u64) -> usize
 }
 
 // Where a text has it.
+#[tactic(auto, unfolding(crate::specs::Inner::Held::tag_place))]
 pub fn tag_place(f: Figures, source: Source, s: Segment, span: u64, j: u64) -> usize
     requires ready { Ready f }
     requires holds_segment { (ls : List Line) → HoldsSegment (plan_of f ls) s }
