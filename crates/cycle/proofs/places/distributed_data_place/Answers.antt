@@ -20,8 +20,8 @@ record Sum (f : Figures) (q b : ℕ) : Type 0 where
       first_place (plan_of f []) (f.k + 1) q
       ≡ q + b * f.full + length (tree_at (plan_of f []) (f.k - f.copies) b) + climbs f.n f.copies (b + 1)
 
-summed : (f : Figures) (q : ℕ) → Ready f → f.layout ≡ 1 → q < f.d → Sum f q (q / f.span)
-summed f q ready one inside =
+summed : {f : Figures} {q : ℕ} → Ready f × (f.layout ≡ 1) × (q < f.d) → Sum f q (q / f.span)
+summed {f} {q} (ready, one, inside) =
     let k = block f ready.shaped one ready.copies_fit_lem in
     let t = block_trees f ready.shaped ready.trees one in
     let b = data_in_block f q ready inside one in
@@ -57,31 +57,30 @@ nonzero_div-b c =
     rw (block_trees c.args.f r.shaped r.trees c.requires.1).span (block c.args.f r.shaped c.requires.1 r.copies_fit_lem).power_low
 
 pub overflow_mul-result : goal.overflow_mul-result
-overflow_mul-result c = let s = summed c.args.f c.args.q c.requires.0 c.requires.1 c.requires.2 in omega arith
+overflow_mul-result c = let s = summed c.requires in omega arith
 
 pub overflow_add-result : goal.overflow_add-result
-overflow_add-result c = let s = summed c.args.f c.args.q c.requires.0 c.requires.1 c.requires.2 in omega arith
+overflow_add-result c = let s = summed c.requires in omega arith
 
 pub segment_tree-requires : goal.segment_tree-requires
-segment_tree-requires c =
-    (c.requires.0, c.requires.1, (summed c.args.f c.args.q c.requires.0 c.requires.1 c.requires.2).among)
+segment_tree-requires c = (c.requires.0, c.requires.1, (summed c.requires).among)
 
 pub overflow_add-result-2 : goal.overflow_add-result-2
 overflow_add-result-2 c =
-    let s = summed c.args.f c.args.q c.requires.0 c.requires.1 c.requires.2 in
+    let s = summed c.requires in
     rw c.segment_tree.ensures (omega arith)
 
 pub paths_before-requires : goal.paths_before-requires
 paths_before-requires c =
-    let s = summed c.args.f c.args.q c.requires.0 c.requires.1 c.requires.2 in
+    let s = summed c.requires in
     (c.requires.0.shaped, c.requires.1, c.requires.0.copies_fit_lem, omega arith)
 
 pub overflow_add-result-3 : goal.overflow_add-result-3
 overflow_add-result-3 c =
-    let s = summed c.args.f c.args.q c.requires.0 c.requires.1 c.requires.2 in
+    let s = summed c.requires in
     rw (c.segment_tree.ensures, climbed c) (omega arith)
 
 pub returns : goal.returns
 returns c =
-    let s = summed c.args.f c.args.q c.requires.0 c.requires.1 c.requires.2 in
+    let s = summed c.requires in
     rw (c.segment_tree.ensures, climbed c) (sym s.is)

@@ -28,8 +28,8 @@ record Room (f : Figures) (b : ℕ) : Type 0 where
       + (block_end f b - b * f.n ^ (f.k - f.copies))
       ≤ buckets_most
 
-room : (f : Figures) (b : ℕ) → Ready f → f.layout ≡ 1 → b < segment_count (plan_of f []) → Room f b
-room f b r one inside =
+room : {f : Figures} {b : ℕ} → Ready f × (f.layout ≡ 1) × (b < segment_count (plan_of f [])) → Room f b
+room {f} {b} (r, one, inside) =
     record {
       known = block f r.shaped one r.copies_fit_lem;
       span = (block_trees f r.shaped r.trees one).span;
@@ -41,53 +41,53 @@ room f b r one inside =
     }
 
 -- what `lesser` gave
-ended : (f : Figures) (b : ℕ) → Room f b → (x : ℕ) → x ≡ min f.d (b * f.span + f.span) → x ≡ block_end f b
-ended f b r x e = e ∙ ap (min f.d) (ap₂ (λ x y. b * x + y) r.span r.span ∙ sym r.wide)
+ended : {f : Figures} {b : ℕ} → Room f b → {x : ℕ} → x ≡ min f.d (b * f.span + f.span) → x ≡ block_end f b
+ended {f} {b} r e = e ∙ ap (min f.d) (ap₂ (λ x y. b * x + y) r.span r.span ∙ sym r.wide)
 
 pub overflow_sub-e : goal.overflow_sub-e
-overflow_sub-e c = omega (arith, (room c.args.f c.args.b c.requires.0 c.requires.1 c.requires.2).known.fits)
+overflow_sub-e c = omega (arith, (room c.requires).known.fits)
 
 pub overflow_add-tree_at : goal.overflow_add-tree_at
-overflow_add-tree_at c = omega (arith, (room c.args.f c.args.b c.requires.0 c.requires.1 c.requires.2).known.few)
+overflow_add-tree_at c = omega (arith, (room c.requires).known.few)
 
 pub overflow_sub-tree_at : goal.overflow_sub-tree_at
-overflow_sub-tree_at c = omega (arith, (room c.args.f c.args.b c.requires.0 c.requires.1 c.requires.2).top, c.path_top-top.ensures)
+overflow_sub-tree_at c = omega (arith, (room c.requires).top, c.path_top-top.ensures)
 
 pub overflow_add-tree_at-2 : goal.overflow_add-tree_at-2
 overflow_add-tree_at-2 c =
-    let r = room c.args.f c.args.b c.requires.0 c.requires.1 c.requires.2 in
+    let r = room c.requires in
     omega (arith, r.known.few, c.distributed_start-start.ensures)
 
 pub overflow_add-data_at : goal.overflow_add-data_at
 overflow_add-data_at c =
-    let r = room c.args.f c.args.b c.requires.0 c.requires.1 c.requires.2 in
+    let r = room c.requires in
     rw (c.distributed_start-start.ensures, c.path_top-top.ensures, c.segment_tree.ensures) (omega (arith, r.ends))
 
 pub overflow_mul-first : goal.overflow_mul-first
 overflow_mul-first c =
-    let r = room c.args.f c.args.b c.requires.0 c.requires.1 c.requires.2 in
+    let r = room c.requires in
     rw r.span (omega (arith, r.begins, r.known.some))
 
 pub overflow_add-first : goal.overflow_add-first
 overflow_add-first c =
-    let r = room c.args.f c.args.b c.requires.0 c.requires.1 c.requires.2 in
+    let r = room c.requires in
     let k = r.known in
     rw r.span (omega arith)
 
 pub overflow_sub-result : goal.overflow_sub-result
 overflow_sub-result c =
-    let r = room c.args.f c.args.b c.requires.0 c.requires.1 c.requires.2 in
-    rw (r.span, ended c.args.f c.args.b r _ c.lesser-last.ensures) r.grows
+    let r = room c.requires in
+    rw (r.span, ended r c.lesser-last.ensures) r.grows
 
 pub overflow_add-result : goal.overflow_add-result
 overflow_add-result c =
-    let r = room c.args.f c.args.b c.requires.0 c.requires.1 c.requires.2 in
+    let r = room c.requires in
     rw (
       r.span,
       c.distributed_start-start.ensures,
       c.path_top-top.ensures,
       c.segment_tree.ensures,
-      ended c.args.f c.args.b r _ c.lesser-last.ensures,
+      ended r c.lesser-last.ensures,
     )
     (omega (arith, r.ends))
 
@@ -95,9 +95,9 @@ pub returns : goal.returns
 returns c =
     let f = c.args.f in
     let b = c.args.b in
-    let r = room f b c.requires.0 c.requires.1 c.requires.2 in (
+    let r = room c.requires in (
       placed_block f b c.requires.0 c.requires.1 c.requires.2 c.distributed_start-start.result c.path_top-top.result c.segment_tree.result
           (b * f.span) c.lesser-last.result c.distributed_start-start.ensures c.path_top-top.ensures c.segment_tree.ensures (ap (λ x. b * x) r.span)
-          (ended f b r _ c.lesser-last.ensures),
+          (ended r c.lesser-last.ensures),
       refl,
     )

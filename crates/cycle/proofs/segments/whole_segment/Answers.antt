@@ -19,9 +19,9 @@ record Room (f : Figures) (i : ℕ) : Type 0 where
   tree : f.last ≡ whole_tree f
   ends : i * whole_tree f + part_from f i + whole_tree f + (part_from f (suc i) - part_from f i) ≤ buckets_most
 
-room : (f : Figures) (i : ℕ) → Ready f → f.layout ≡ 2 → i < f.copies → Room f i
+room : {f : Figures} {i : ℕ} → Ready f × (f.layout ≡ 2) × (i < f.copies) → Room f i
 unfolding plan_of
-room f i r two inside =
+room {f} {i} (r, two, inside) =
     let k = parts f r.shaped (λ e. omega arith) r.copies_fit_lem in
     record {
       few = k.few;
@@ -34,29 +34,29 @@ room f i r two inside =
     }
 
 pub overflow_mul-first : goal.overflow_mul-first
-overflow_mul-first c = omega (arith, (room c.args.f c.args.i c.requires.0 c.requires.1 c.requires.2).data_before)
+overflow_mul-first c = omega (arith, (room c.requires).data_before)
 
 pub overflow_mul-last : goal.overflow_mul-last
-overflow_mul-last c = omega (arith, (room c.args.f c.args.i c.requires.0 c.requires.1 c.requires.2).data_behind)
+overflow_mul-last c = omega (arith, (room c.requires).data_behind)
 
 pub overflow_mul-start : goal.overflow_mul-start
-overflow_mul-start c = let r = room c.args.f c.args.i c.requires.0 c.requires.1 c.requires.2 in rw r.tree (omega (arith, r.ends))
+overflow_mul-start c = let r = room c.requires in rw r.tree (omega (arith, r.ends))
 
 pub overflow_add-start : goal.overflow_add-start
-overflow_add-start c = let r = room c.args.f c.args.i c.requires.0 c.requires.1 c.requires.2 in rw r.tree (omega (arith, r.ends))
+overflow_add-start c = let r = room c.requires in rw r.tree (omega (arith, r.ends))
 
 pub overflow_add-data_at : goal.overflow_add-data_at
-overflow_add-data_at c = let r = room c.args.f c.args.i c.requires.0 c.requires.1 c.requires.2 in rw r.tree (omega (arith, r.ends))
+overflow_add-data_at c = let r = room c.requires in rw r.tree (omega (arith, r.ends))
 
 pub overflow_add-result : goal.overflow_add-result
-overflow_add-result c = omega (arith, (room c.args.f c.args.i c.requires.0 c.requires.1 c.requires.2).few)
+overflow_add-result c = omega (arith, (room c.requires).few)
 
 pub overflow_add-result-2 : goal.overflow_add-result-2
-overflow_add-result-2 c = let r = room c.args.f c.args.i c.requires.0 c.requires.1 c.requires.2 in rw (r.tree, r.next) (omega (arith, r.ends))
+overflow_add-result-2 c = let r = room c.requires in rw (r.tree, r.next) (omega (arith, r.ends))
 
 pub returns : goal.returns
 returns c =
-    let r = room c.args.f c.args.i c.requires.0 c.requires.1 c.requires.2 in (
+    let r = room c.requires in (
       placed_whole c.args.f c.args.i c.requires.0 (λ e. omega arith) c.requires.2 c.args.f.last ((c.args.i + 1) * c.args.f.d / c.args.f.copies) r.tree
           r.next,
       refl,
