@@ -1,5 +1,5 @@
 -- Some line stands up to the end of the bucket, and the code works out no more than eight lines for each data bucket.
-use Rattle.std.proofs.Common.{ℕ, ap, ◌+◌, ◌-◌, ◌*◌, ◌≤◌, arith}
+use Rattle.std.proofs.Common.{ℕ, ◌+◌, ◌*◌, ◌≤◌, arith}
 use Rattle.std.proofs.Math.Nat.{mul-le-mul}
 use Rattle.cycle.specs.declared.Figures.{Figures}
 use Rattle.cycle.specs.Inner.Held.{Ready, Spans}
@@ -20,13 +20,3 @@ overflow_mul-j-2 c =
     let end = (known c.requires.ready c.requires.le_d c.requires.spans).end in
     let m : (c.args.j + 1) * c.args.span * c.args.f.p ≤ 360000 * 8 = mul-le-mul {n₂ = 360000} {m₂ = 8} end c.requires.ready.shaped.p_high in
     omega arith
-
-pub overflow_sub-result : goal.overflow_sub-result
-overflow_sub-result c =
-    omega (arith, c.lesser.ensures, (known c.requires.ready c.requires.le_d c.requires.spans).lines_some)
-
-pub returns : goal.returns
-returns c = (
-  omega (arith, c.lesser.ensures, (known c.requires.ready c.requires.le_d c.requires.spans).lines_some),
-  ap (λ x. x - 1) c.lesser.ensures,
-)

@@ -3,7 +3,7 @@ use Rattle.std.proofs.Common.{◌≡◌, [], sym, ap, ◌∙◌, ◌-◌, ◌^�
 use Rattle.columns.specs.Lists.{up}
 use Rattle.cycle.specs.Inner.Held.{plan_of}
 use Rattle.cycle.proofs.Sequences.PathSizes.{up_none, last_part}
-use Rattle.cycle.proofs.Segmenting.SegmentSizes.{count_blocks, count_wholes}
+use Rattle.cycle.proofs.Segmenting.SegmentSizes.{count_blocks}
 use Rattle.cycle.proofs.Trees.Readiness.{block, block_trees}
 use Rattle.cycle.proofs.segments.segment_count.Goals as goal
 
@@ -15,11 +15,6 @@ returns-then-f-eq0 c =
     let zero_up : up f.d (f.n ^ (f.k - f.copies)) ≡ 0 = rw c.if-f-eq0.true (up_none (f.n ^ (f.k - f.copies)) b.power_low) in
     sym (count_blocks (plan_of f []) b.pos b.fits c.if-f-eq1.true ∙ rw zero_up)
 
-pub up-requires : goal.up-requires
-up-requires c =
-    let b = block c.args.f c.requires.shaped c.if-f-eq1.true c.requires.copies_fit_lem in
-    rw (block_trees c.args.f c.requires.shaped c.requires.trees c.if-f-eq1.true).span (b.power_low, omega (arith, b.some, b.power_high))
-
 pub returns-then-f-eq1 : goal.returns-then-f-eq1
 unfolding plan_of
 returns-then-f-eq1 c =
@@ -29,7 +24,3 @@ returns-then-f-eq1 c =
     c.up.ensures
     ∙ ap (up f.d) (block_trees f c.requires.shaped c.requires.trees c.if-f-eq1.true).span
     ∙ sym (count_blocks (plan_of f []) b.pos b.fits c.if-f-eq1.true ∙ omega (arith, some.some))
-
-pub returns : goal.returns
-unfolding plan_of
-returns c = sym (count_wholes (plan_of c.args.f []) c.if-f-eq1.false)
