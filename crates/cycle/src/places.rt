@@ -54,6 +54,7 @@ pub fn data_place(f: Figures, q: u64) -> u64
 }
 
 // The place of line i's first byte.
+#[tactic(auto, using(crate::proofs::Reach::DataHeld::data_ends, crate::proofs::Lines::LinesHeld::line_bucket, crate::proofs::Lines::LinesHeld::line_column), unfolding(crate::specs::Inner::Held::plan_of))]
 pub fn line_place(f: Figures, source: Source, i: u64) -> usize
     requires { Ready f × (i < f.lines) }
     ensures { result ≡ line_at (plan_of f []) source i }
@@ -68,6 +69,7 @@ pub fn line_place(f: Figures, source: Source, i: u64) -> usize
 }
 
 // The tag of line i.
+#[tactic(auto, using(crate::proofs::Lines::LinesHeld::line_fits), unfolding(crate::specs::Inner::Held::tag_at))]
 pub fn tag_of(text: &[u8], f: Figures, source: Source, i: u64) -> u64
     requires { Ready f × (i < f.lines) × TextFits f source (length text.now) }
     ensures { result ≡ tag_at f source text.now i }
@@ -77,6 +79,7 @@ pub fn tag_of(text: &[u8], f: Figures, source: Source, i: u64) -> u64
 }
 
 // The last line under bucket j of a level whose full buckets have `span` data buckets under them.
+#[tactic(auto, using(crate::proofs::Trees::LargestTags::span_reached))]
 fn last_line(f: Figures, span: u64, j: u64) -> u64
     requires ready { Ready f }
     requires le_d { 1 ≤ f.d }
@@ -87,6 +90,7 @@ fn last_line(f: Figures, span: u64, j: u64) -> u64
 }
 
 // The largest tag under bucket j of height e.
+#[tactic(auto, using(crate::proofs::Trees::Readiness::reached, crate::proofs::Trees::LargestTags::largest_tag_lem))]
 pub fn largest_tag(text: &[u8], f: Figures, source: Source, e: usize, j: u64) -> u64
     requires { Ready f × (1 ≤ f.d) × InTree f e j × TextFits f source (length text.now) }
     ensures { result ≡ largest_tag (plan_in f source text.now) (f.k + 1 - e) j }
@@ -111,6 +115,7 @@ fn segment_place(f: Figures, s: Segment, span: u64, j: u64) -> usize
 }
 
 // The same wherever they stand: in layout 1, a bucket below the root of the segment's tree has them in the segment.
+#[tactic(auto, unfolding(crate::specs::Inner::Held::tag_place))]
 fn image_place(f: Figures, s: Segment, span: u64, j: u64) -> usize
     requires ready { Ready f }
     requires holds_segment { (ls : List Line) → HoldsSegment (plan_of f ls) s }
@@ -128,6 +133,7 @@ fn image_place(f: Figures, s: Segment, span: u64, j: u64) -> usize
 }
 
 // Where a text has it.
+#[tactic(auto, unfolding(crate::specs::Inner::Held::tag_place))]
 pub fn tag_place(f: Figures, source: Source, s: Segment, span: u64, j: u64) -> usize
     requires ready { Ready f }
     requires holds_segment { (ls : List Line) → HoldsSegment (plan_of f ls) s }

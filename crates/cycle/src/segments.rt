@@ -22,6 +22,7 @@ impl Segment {
 }
 
 // How many segments there are.
+#[tactic(auto, using(crate::proofs::Segmenting::SegmentSizes::count_wholes, crate::proofs::Trees::Readiness::block, crate::proofs::Trees::Readiness::block_trees), unfolding(crate::specs::Inner::Held::plan_of))]
 pub fn segment_count(f: Figures) -> u64
     requires { Ready f }
     ensures { result ≡ segment_count (plan_of f []) }
@@ -70,6 +71,7 @@ fn whole_start(f: Figures, i: u64) -> u64
 }
 
 // The position where the segment of data bucket q starts.
+#[tactic(auto, using(crate::proofs::Reach::DataHeld::part_product, crate::proofs::Reach::DataHeld::data_in_part, crate::proofs::Waiting::SegmentStarts::start_in_part))]
 pub fn segment_start(f: Figures, q: u64) -> u64
     requires { Ready f × (q < f.d) }
     ensures { result ≡ segment_start (plan_of f []) q }
@@ -142,6 +144,7 @@ fn whole_segment(f: Figures, i: u64) -> Segment
 }
 
 // A segment by its number.
+#[tactic(auto, using(crate::proofs::Segmenting::SegmentSizes::count_wholes), unfolding(crate::specs::Inner::Held::plan_of))]
 pub fn segment_of(f: Figures, number: u64) -> Segment
     requires { Ready f × (number < segment_count (plan_of f [])) }
     ensures { ((ls : List Line) → HoldsSegment (plan_of f ls) result) × (result.number ≡ number) }
