@@ -12,9 +12,9 @@ use Rattle.cycle.proofs.index.pair_distance.Goals as goal
 
 -- how many buckets the level has, as the code tells
 wide :
-    (f : Figures) (level span count : ℕ) → Ready f → f.layout ≡ 1 → 2 ≤ level → level ≤ f.copies →
+    {f : Figures} {level span count : ℕ} → Ready f → f.layout ≡ 1 → 2 ≤ level → level ≤ f.copies →
     span ≡ f.n ^ (f.k + 1 - level) → count ≡ up f.d span → count ≡ width (plan_of f []) level
-wide f level span count ready layout low high span_is count_is =
+wide {f} {level} {span} {count} ready layout low high span_is count_is =
     count_is ∙ ap (up f.d) span_is ∙ sym (level_width f ready layout level (omega (arith, low)) (omega (arith, high)))
 
 pub overflow_add-e : goal.overflow_add-e
@@ -46,7 +46,7 @@ up-requires c =
 pub first_place-requires : goal.first_place-requires
 first_place-requires c =
     let f = c.args.f in
-    let w = wide f c.args.level c.power.result c.up.result c.requires.0 c.requires.2 c.requires.3 c.requires.4 c.power.ensures c.up.ensures in (
+    let w = wide c.requires.0 c.requires.2 c.requires.3 c.requires.4 c.power.ensures c.up.ensures in (
       c.requires.0,
       c.requires.2,
       omega (arith, c.requires.3),
@@ -57,18 +57,18 @@ first_place-requires c =
 
 pub overflow_sub-result-then-sibling-up : goal.overflow_sub-result-then-sibling-up
 overflow_sub-result-then-sibling-up c =
-    let w = wide c.args.f c.args.level c.power.result c.up.result c.requires.0 c.requires.2 c.requires.3 c.requires.4 c.power.ensures c.up.ensures in
+    let w = wide c.requires.0 c.requires.2 c.requires.3 c.requires.4 c.power.ensures c.up.ensures in
     omega (arith, c.first_place.ensures, c.requires.7 (omega (arith, w, c.if-sibling-up.true)) c.if-sibling-f-eq0.false)
 
 pub overflow_sub-result-then-sibling-up-2 : goal.overflow_sub-result-then-sibling-up-2
 overflow_sub-result-then-sibling-up-2 c =
-    let w = wide c.args.f c.args.level c.power.result c.up.result c.requires.0 c.requires.2 c.requires.3 c.requires.4 c.power.ensures c.up.ensures in
+    let w = wide c.requires.0 c.requires.2 c.requires.3 c.requires.4 c.power.ensures c.up.ensures in
     omega (arith, c.first_place.ensures, c.requires.7 (omega (arith, w, c.if-sibling-up.true)) c.if-sibling-f-eq0.false)
 
 pub returns-then-sibling-up : goal.returns-then-sibling-up
 unfolding plan_of
 returns-then-sibling-up c =
-    let w = wide c.args.f c.args.level c.power.result c.up.result c.requires.0 c.requires.2 c.requires.3 c.requires.4 c.power.ensures c.up.ensures in
+    let w = wide c.requires.0 c.requires.2 c.requires.3 c.requires.4 c.power.ensures c.up.ensures in
     ap (λ z. z - 1 - c.args.x) c.first_place.ensures
     ∙ sym
     (reach_turn (plan_of c.args.f []) c.args.f.size c.args.x c.args.level c.args.place c.if-sibling-f-eq0.false
@@ -77,7 +77,7 @@ returns-then-sibling-up c =
 pub returns : goal.returns
 unfolding plan_of
 returns c =
-    let w = wide c.args.f c.args.level c.power.result c.up.result c.requires.0 c.requires.2 c.requires.3 c.requires.4 c.power.ensures c.up.ensures in
+    let w = wide c.requires.0 c.requires.2 c.requires.3 c.requires.4 c.power.ensures c.up.ensures in
     sym
     (reach_end (plan_of c.args.f []) c.args.f.size c.args.x c.args.level c.args.place c.if-sibling-f-eq0.false
     (omega (arith, w, c.if-sibling-up.false)))
