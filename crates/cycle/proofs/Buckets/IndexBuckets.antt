@@ -21,7 +21,7 @@ use Rattle.cycle.specs.Layouts.{Slot, slot, slots}
 use Rattle.cycle.specs.Cycle.{to_next, pairs, entry, entries, cycle_size}
 use Rattle.cycle.specs.declared.Figures.{Figures}
 use Rattle.cycle.specs.declared.Source.{Source}
-use Rattle.cycle.specs.Inner.Held.{plan_of, InTree, Ready, lines_held, plan_in, last_of, last_sent_before, cycle_bucket, child_distance, child_entry, child_entries}
+use Rattle.cycle.specs.Inner.Held.{plan_of, InTree, Ready, lines_held, plan_in, last_sent_before, cycle_bucket, child_distance, child_entry, child_entries}
 use Rattle.cycle.proofs.Trees.Shapes.{children_shape, slots_shape}
 use Rattle.cycle.proofs.Trees.Children.{children_count, children_row, high}
 use Rattle.cycle.proofs.Building.AcceptedLists.{head_shape}

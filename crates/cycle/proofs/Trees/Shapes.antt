@@ -6,11 +6,11 @@ use mathlib.Core.List.{List, ◌∷◌, ◌++◌, map}
 use lib.Dec.{eqb, ltb}
 use Rattle.columns.specs.Lists.{pick, joined, range}
 use Rattle.buckets.specs.declared.Line.{Line}
-use Rattle.cycle.specs.Tree.{width, children, above, under, data_under}
+use Rattle.cycle.specs.Tree.{width, children, under, data_under}
 use Rattle.cycle.specs.Layouts.{Slot, slot, segment, subtree, tree_below, sent, path, distributed_segment, distributed, whole_segment, one_m, slots}
 use Rattle.cycle.specs.Judging.{tree_at}
 use Rattle.cycle.specs.Cycle.{first_place}
-use Rattle.cycle.specs.Inner.Held.{plan_of, StandsAt, place_over, pair_reach}
+use Rattle.cycle.specs.Inner.Held.{plan_of, StandsAt, pair_reach}
 use Rattle.cycle.specs.Cycle.{occurs, distance_to}
 use Rattle.cycle.specs.declared.Figures.{Figures}
 

@@ -1,5 +1,5 @@
 -- The columns at x are those of the cycle's bucket x.
-use Rattle.std.proofs.Common.{ℕ, ◌≤◌, ◌+◌, ◌*◌, ◌<◌, Bool, List, length, refl, arith}
+use Rattle.std.proofs.Common.{ℕ, ◌<◌, Bool, List, length, refl, arith}
 use Rattle.cycle.specs.declared.Figures.{Figures}
 use Rattle.cycle.specs.declared.Segment.{Segment}
 use Rattle.cycle.specs.Inner.Held.{Writing, TreePlace}

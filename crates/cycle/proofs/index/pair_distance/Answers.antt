@@ -1,9 +1,8 @@
 -- A pair reaches to before the next bucket of its level, and the last one of a row, or of the level, to the cycle's end.
-use Rattle.std.proofs.Common.{◌≡◌, ℕ, ◌+◌, ◌-◌, ◌^◌, ◌≤◌, ◌<◌, [], sym, ap, ◌∙◌, arith}
+use Rattle.std.proofs.Common.{◌≡◌, ℕ, ◌+◌, ◌-◌, ◌^◌, ◌≤◌, [], sym, ap, ◌∙◌, arith}
 use Rattle.columns.specs.Lists.{up}
-use Rattle.buckets.specs.Lengths.{pairs_most}
 use Rattle.cycle.specs.declared.Figures.{Figures}
-use Rattle.cycle.specs.Tree.{width, levels_most}
+use Rattle.cycle.specs.Tree.{width}
 use Rattle.cycle.specs.Inner.Held.{plan_of, Ready}
 use Rattle.cycle.proofs.Trees.Readiness.{reached}
 use Rattle.cycle.proofs.Reach.PathFigures.{few_copies, level_width, width_inside}

@@ -1,6 +1,6 @@
 -- The pair of one more level: the levels are few, each bucket over the path is one of the tree's, and the next one of its level is
 -- ahead.
-use Rattle.std.proofs.Common.{◌≡◌, ℕ, ◌+◌, ◌-◌, ◌*◌, ◌/◌, ◌%◌, ◌^◌, ◌≤◌, ◌<◌, suc, Some, List, [], ◌∷◌, ◌++◌, map, length, sym, ap, ap₂, ◌∙◌, arith}
+use Rattle.std.proofs.Common.{◌≡◌, ℕ, ◌+◌, ◌-◌, ◌/◌, ◌%◌, ◌^◌, ◌≤◌, ◌<◌, suc, Some, List, [], ◌∷◌, ◌++◌, map, length, sym, ap, ap₂, ◌∙◌, arith}
 use mathlib.Core.List.{map-append}
 use lib.ListN.{length-map}
 use Rattle.columns.specs.Lists.{range}

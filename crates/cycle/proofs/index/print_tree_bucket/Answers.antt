@@ -1,5 +1,5 @@
 -- It is an index bucket of the segment, and its pairs are the tree's.
-use Rattle.std.proofs.Common.{List, [], refl, ◌∙◌, ◌<◌, max, ℕ, arith}
+use Rattle.std.proofs.Common.{List, [], refl, ◌∙◌, ◌<◌, max, arith}
 use Rattle.buckets.specs.declared.Line.{Line}
 use Rattle.cycle.specs.declared.Figures.{Figures}
 use Rattle.cycle.specs.declared.Segment.{Segment}

@@ -14,7 +14,6 @@ use Rattle.buckets.specs.Bucket.{read_bucket, follow_on}
 use Rattle.buckets.specs.Inner.Held.{head_of, reading_of}
 use Rattle.buckets.specs.Lengths.{bucket_lines_most, bucket_length, buckets_most}
 use Rattle.buckets.proofs.Chained.{none_not_some}
-use Rattle.cycle.specs.Tree.{last_tag}
 use Rattle.cycle.specs.declared.Figures.{Figures}
 use Rattle.cycle.specs.declared.Segment.{Segment}
 use Rattle.cycle.specs.declared.Source.TheVariants.{Image as InImage}

@@ -1,5 +1,5 @@
 -- The columns at x are those of the cycle's bucket x.
-use Rattle.std.proofs.Common.{◌≡◌, ◌<◌, subst, arith}
+use Rattle.std.proofs.Common.{◌≡◌, subst, arith}
 use Rattle.cycle.specs.Cycle.{bucket_at}
 use Rattle.cycle.specs.Inner.Comparing.{Decides}
 use Rattle.cycle.proofs.Segmenting.TreePlaces.{tree_before}
