@@ -22,6 +22,7 @@ use buckets::writer::{put_entry, start_index};
 use buckets::{Head, Pair};
 
 // A distance from position x to a place of the cycle if it is ahead, else to the next cycle's start.
+#[tactic(auto, unfolding(crate::specs::Inner::Held::ahead_of))]
 fn ahead(f: Figures, x: u64, place: u64) -> u64
     requires { x < f.size }
     ensures { result ≡ ahead_of f.size x place }
