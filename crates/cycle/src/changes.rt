@@ -125,7 +125,6 @@ fn close_place(list: &mut [u8], at: usize, end: usize)
 
 // Puts a line into the list that ends at end, in front of the line at `at`. The line is cut at its known length, since a copy of any
 // length takes `memmove` of the C library, which the library must not need.
-#[tactic(auto, using(crate::proofs::Changing::Moves::line_in))]
 fn put_line(list: &mut [u8], at: usize, end: usize, line: &[u8])
     requires { (at ≤ end) × (end + line_length ≤ length list.old) × (length line.now ≡ line_length) }
     ensures { list.new ≡ with_line list.old at end line.now }
