@@ -50,7 +50,8 @@ fn read_printed_pair(part: &[u8], n: u64) -> Option<Pair>
     })
 }
 
-// Pair i, in part: only the first one's tag may be blank.
+// Pair i, in part: only the first one's tag may be blank. Compiled into what reads pairs, or a step misses its aim (docs/SPEED.md).
+#[inline(always)]
 #[tactic(auto, unfolding(crate::specs::Inner::Columns::read_pair, crate::specs::Bucket::columns))]
 fn read_pair(part: &[u8], i: usize, n: u64) -> Option<Pair>
     requires { length part.now ≡ entry_width }

@@ -47,6 +47,8 @@ fn judge_lines_given(list: &[u8], lines: u64, given: &[u8]) -> Result<bool, Refu
 
 // Settings, the list at a buffer's front and a given line held against 1 to 4: the first that holds, or whether the list is known
 // to have no leading zeros.
+// Compiled once, since the header promises how much code there is.
+#[inline(never)]
 fn judge_given(buffer: &[u8], lines: u64, given: &[u8], settings: Settings) -> Result<bool, Refusal>
     ensures { Told (given_conditions settings buffer.now lines given.now) (list_in buffer.now lines) result }
 {
