@@ -69,7 +69,8 @@ impl TryFrom<u8> for Mark {
     }
 }
 
-// A listener started with tag, given the buckets of body in turn, each behind its letter.
+// A listener started with tag, given the buckets of body in turn, each behind its letter. It ends by what is left: a letter X has no
+// bucket behind it, so the parts have no one length.
 pub fn hear_marked(rt: &impl Print, tag: u64, size: usize, body: &[u8]) -> Result<(), Stopped> {
     let mut current = Listener::new(tag);
     let mut rest = body;

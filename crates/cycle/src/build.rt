@@ -96,14 +96,15 @@ fn write_path(image: &mut [u8], list: &[u8], plain: bool, f: Figures, s: Segment
     }
 }
 
-// A column of a tag by the digit that it adds: a blank as a 0.
+// A column of a tag by the digit that it adds: a blank as a 0. One call of the library's, which does not say this by itself.
 fn as_digit(c: u8) -> u8
     ensures { result ≡ max c 48 }
 {
     c.max(b'0')
 }
 
-// Whether the tags that stand printed at a and b are the same, column by column from the last.
+// Whether the tags that stand printed at a and b are the same, column by column from the last. No equality of a type: a blank is
+// the same as a 0.
 fn same_tags(list: &[u8], a: usize, b: usize) -> bool
     requires { (a + tag_width ≤ length list.now) × (b + tag_width ≤ length list.now) }
     ensures { Decides (SameDigits (take tag_width (drop a list.now)) (take tag_width (drop b list.now))) result }
@@ -122,6 +123,7 @@ fn list_follow_on(list: &[u8], f: Figures, q: u64, x: u64) -> u64
     ensures { result ≡ follow_on (cycle_bucket (plan_in f Source.List list.now) x).body }
 {
     let next = q + 1;
+    // the 0 that the format prints in the last data bucket
     if next == f.d {
         return 0;
     }

@@ -81,7 +81,7 @@ fn first_over(list: &[u8], lines: u64, tag: u64) -> Option<u64>
     None
 }
 
-// Whether the line that stands at a place of a list has these four numbers.
+// Whether the line that stands at a place of a list has these four numbers. No equality of a type: one side stands in columns.
 fn equals_at(list: &[u8], at: usize, line: Line) -> bool
     requires { at + line_columns_width ≤ length list.now }
     ensures { result ≡ same_numbers line (spelled (drop at list.now)) }

@@ -19,7 +19,8 @@ use super::{BUCKET, Figures, LINE, Reason, Refusal, Settings};
 use buckets::Line;
 use buckets::lines::{line_tag, plain_tag, spelled_tag};
 
-// The figures of a list's cycle, and whether the list is known to have no leading zeros.
+// The figures of a list's cycle, and whether the list is known to have no leading zeros: no Option, since the figures are there
+// either way.
 #[derive(Clone, Copy)]
 pub struct ListFigures {
     pub figures: Figures,

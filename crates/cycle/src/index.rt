@@ -56,6 +56,7 @@ pub fn child_count(f: Figures, e: usize, j: u64) -> usize
         return f.n as usize;
     }
     let behind = up(f.d, span);
+    // a number, and not none: no children
     if behind < from {
         return 0;
     }

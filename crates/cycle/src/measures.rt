@@ -16,7 +16,7 @@ use super::{Figures, Reason, Refusal, Settings};
 use buckets::Bucket;
 use columns;
 
-// a divided by b, rounded up
+// a divided by b, rounded up. The library's method under a name that contracts cite; so is `lesser`.
 pub fn up(a: u64, b: u64) -> u64
     requires { (1 ≤ b) × (a + b ≤ 2 ^ 60) }
     ensures { result ≡ Lists.up a b }
@@ -67,7 +67,7 @@ pub fn full_size(n: u64, h: usize) -> u64
     size
 }
 
-// Whether n, p and layout are within their ranges.
+// Whether n, p and layout are within their ranges. A chain of tests: with ranges and `contains` the goals have no names of the source.
 #[tactic(auto, unfolding(crate::specs::Building::settings_fit))]
 pub fn settings_fit(settings: Settings) -> bool
     ensures { result ≡ settings_fit settings }
@@ -160,6 +160,7 @@ pub fn paths_before(f: Figures, b: u64) -> u64
     requires { Shaped f × (f.layout ≡ 1) × (copies_fit (plan_of f []) ≡ true) × (b ≤ lines_most) }
     ensures { result ≡ length (joined (path (plan_of f [])) (range 0 b)) }
 {
+    // a number, and not none: no path buckets are sent
     if f.copies == 0 {
         return 0;
     }
@@ -190,6 +191,7 @@ fn last_root(f: Figures, span: u64) -> u64
     requires { Shaped f × (1 ≤ span) × (span ≤ span_most) }
     ensures { result ≡ last_place f.d span }
 {
+    // a place, and not none: the only tree
     if f.d == 0 {
         return 0;
     }

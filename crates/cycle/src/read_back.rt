@@ -197,7 +197,7 @@ fn is_segment(image: &[u8], f: Figures, s: Segment) -> bool
     is_path(image, f, s) && behind_subtree(image, f, s, s.height, s.root, s.tree_at).is_some()
 }
 
-// Whether all data buckets stand in their places.
+// Whether all data buckets stand in their places. One line here and in all_segments: a frame for both would be longer.
 fn all_datas(image: &[u8], f: Figures) -> bool
     requires { Holding f image.now }
     ensures { Decides (DataMatches (plan_in f Source.Image image.now) image.now 0 f.d) result }
@@ -236,6 +236,7 @@ fn line_count(image: &[u8], p: u64) -> u64
             last = bucket[Bucket::ITEM_DIGIT];
         }
     }
+    // numbers, and not none: an image without data buckets or with a bad digit counts no lines
     if d == 0 {
         return 0;
     }

@@ -275,7 +275,7 @@ impl Listener {
         self.data_step(h, follow_on, tags)
     }
 
-    // What was read: 8, or the bucket of its kind.
+    // What was read: 8, or the bucket of its kind. By value: by reference a step with 2 1 1 4 missed its aim (docs/SPEED.md).
     fn take_reading(self, r: Option<Reading>) -> Stepped
         requires { WasRead r }
         ensures { (bytes : List ℕ) → r ≡ option_map reading_of (read_bucket bytes) → result ≡ heed_read self (read_bucket bytes) }

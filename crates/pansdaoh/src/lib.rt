@@ -221,6 +221,7 @@ impl From<Result<Option<Line>, Misprinted>> for LineAnswer {
                 code: line.code,
                 weighing: line.weighing,
             },
+            // a record for C, without a refusal
             Ok(None) => no_line(0),
             Err(Misprinted) => no_line(Reason::BucketMisprinted as u64),
         }
