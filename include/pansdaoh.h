@@ -22,7 +22,7 @@
  * ELF object. Of other libraries it needs memcpy at most. Code and constants
  * take less than 48 KiB; linked with --gc-sections a program has only what it
  * calls: one that only listens (start, step, lost, heard, elapsed, line) less than
- * 16 KiB. Each call's need of stack is given with it, at most, without what memcpy
+ * 12 KiB. Each call's need of stack is given with it, at most, without what memcpy
  * takes. There is no other memory behind the calls.
  *
  * On another processor the library cannot be linked: the toolchain compiles for

@@ -18,7 +18,7 @@ use Rattle.buckets.specs.Lengths.{line_columns_width, pairs_most, entries_most, 
 use Rattle.buckets.specs.Lengths.{entries_width, lines_width, buckets_most}
 use Rattle.buckets.proofs.ListLines.{length_line_columns}
 use Rattle.buckets.proofs.Buckets.{length_print_pair, length_print_entry}
-use Rattle.buckets.proofs.Items.{keeps_rising, items_back, items_only}
+use Rattle.buckets.proofs.ItemRuns.{keeps_rising, items_back, items_only}
 use Rattle.buckets.proofs.LineColumns.{fits_from, line_columns_alone_back, line_columns_alone_only}
 use Rattle.buckets.proofs.Entries.{entry_from, entry_back, entry_only, pair_at, pair_back, pair_only, keeps_pairs}
 

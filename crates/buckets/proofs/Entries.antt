@@ -23,7 +23,7 @@ use Rattle.buckets.proofs.ListLines.{tag_small, small_tag}
 use Rattle.buckets.proofs.Good.{Reaches, entry_fits_lem, fits_entry, pair_fits_lem, fits_pair}
 use Rattle.buckets.proofs.Chained.{then_found}
 use Rattle.buckets.proofs.Within.{within_back, columns_split, columns_all, length_columns, field_only, blanks_of_blank, print_not_all_blank}
-use Rattle.buckets.proofs.Items.{keeps, and_regroup}
+use Rattle.buckets.proofs.ItemRuns.{keeps, and_regroup}
 
 -- an entry that keeps its rules in a cycle of n, its tag at least m
 abbrev pub entry_from : ℕ → ℕ → Entry → Bool

@@ -1,11 +1,12 @@
 -- What the writer's loops have written after i turns: the front of what they are to write, and one item more.
 --     joined_next                      one more item behind those that stand
 --     item_written                     the same, the items being the first of some
+--     later_printed_lem                pairs with printed tags, printed
 --     line_written, line_columns_at    one more line, and where its columns stand in a list
 -- Assumes nothing.
 use Prim.Native.Nat.{ℕ, ◌+◌, ◌*◌, ◌≤◌, ◌<◌}
-use mathlib.Core.Path.{◌≡◌, sym, ap, ◌∙◌}
-use mathlib.Core.List.{List, [], ◌∷◌, ◌++◌, append-nil}
+use mathlib.Core.Path.{◌≡◌, refl, sym, ap, ◌∙◌}
+use mathlib.Core.List.{List, [], ◌∷◌, ◌++◌, map, append-nil}
 use native.Mathlib.Numerals.{add-one}
 use lib.Dec.{lit≤}
 use lib.ListN.{length, take, drop, get_or}
@@ -13,7 +14,10 @@ use lib.Seq.{length-take-le, take-suc, take-take, take_at}
 use Rattle.columns.specs.Lists.{joined}
 use Rattle.columns.proofs.Joined.{joined_append, length_joined, joined_at}
 use Rattle.buckets.specs.declared.Line.{Line}
+use Rattle.buckets.specs.declared.Entry.{Entry}
 use Rattle.buckets.specs.ListLine.{line_columns, print_line}
+use Rattle.buckets.specs.Bucket.{print_pair, print_entry}
+use Rattle.buckets.specs.Inner.Held.{printed_pair}
 use Rattle.buckets.specs.Lengths.{newline, line_columns_width, line_length}
 use Rattle.buckets.proofs.ListLines.{length_line_columns, length_print_line}
 
@@ -27,6 +31,12 @@ item_written f xs d i h =
     sym (joined_next f (take i xs) (get_or xs i d))
     ∙ ap (joined f) (sym (take-suc xs i d h))
     ∙ ap (λ k. joined f (take k xs)) (sym (add-one i))
+
+-- pairs with printed tags are printed as entries are
+pub later_printed_lem : (es : List Entry) → joined print_pair (map printed_pair es) ≡ joined print_entry es
+unfolding print_pair print_entry
+later_printed_lem [] = refl
+later_printed_lem (e ∷ es) = ap (λ (s : List ℕ). print_entry e ++ s) (later_printed_lem es)
 
 -- the first i lines, without their newlines
 abbrev pub lines_to : List Line → ℕ → List ℕ

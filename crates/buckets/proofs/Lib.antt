@@ -6,7 +6,7 @@ pub mod BucketLines
 pub mod Chained
 pub mod Within
 pub mod Bounds
-pub mod Items
+pub mod ItemRuns
 pub mod LineColumns
 pub mod ColumnByColumn
 pub mod PrintedRest

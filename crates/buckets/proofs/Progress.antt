@@ -1,17 +1,21 @@
 -- A loop that reads items: what the reading of all of them is, once some were read.
 -- Assumes nothing.
-use Prim.Native.Nat.{ℕ, suc, ◌+◌, ◌-◌, ◌*◌, ◌<◌, ◌≤◌}
+use Prim.Native.Nat.{ℕ, zero, suc, ◌+◌, ◌-◌, ◌*◌, ◌<◌, ◌≤◌}
 use mathlib.Core.Path.{◌≡◌, refl, sym, ap, ◌∙◌}
 use mathlib.Core.Bool.{Bool, true, false}
 use Rattle.std.specs.Prelude.{Option, None, Some}
-use mathlib.Core.List.{List, [], ◌∷◌, ◌++◌, append_assoc, append-nil}
+use mathlib.Core.List.{List, [], ◌∷◌, ◌++◌, map, append_assoc, append-nil}
 use native.Mathlib.Omega.{arith}
 use native.Mathlib.Nat.{zero-mul, suc-mul}
 use native.Mathlib.Numerals.{add-one}
 use lib.ListN.{length, take, drop, length-append, length-drop}
 use lib.Seq.{drop-drop, take_all}
+use borrow.Author.Tests.{ne_eqb}
+use Rattle.std.specs.Option.{option_map}
+use Rattle.columns.specs.Lists.{pick}
 use Rattle.columns.specs.PrintedNumbers.{all_blank}
-use Rattle.buckets.specs.Inner.Columns.{and_then, read_run, read_items}
+use Rattle.buckets.specs.Inner.Columns.{and_then, read_pair, read_run, read_items, read_pairs}
+use Rattle.buckets.specs.Lengths.{entry_width}
 
 -- ---- parts of a slice, as the code lends them
 
@@ -89,3 +93,52 @@ module _ {A : Type 0} (read : ℕ → List ℕ → Option A) (next : ℕ → A �
       all_read l =
           let none_left : c - i ≡ 0 = omega arith in
           whole ∙ rw none_left (ap {B = Option (List A)} Some (append-nil xs))
+
+-- ---- items of which a number is held
+
+module _ {A : Type 0} (read : ℕ → List ℕ → Option A) (key : A → ℕ) (w : ℕ) where
+  key_behind : (a : A) (o : Option (List A)) → and_then (option_map (map key) o) (λ ks. Some (key a ∷ ks))
+      ≡ option_map (map key) (and_then o (λ xs. Some (a ∷ xs)))
+  key_behind a None = refl
+  key_behind a (Some xs) = refl
+
+  key_first : (o : Option A) (keys : ℕ → Option (List ℕ)) (rest : ℕ → Option (List A)) → ((k : ℕ) → keys k ≡ option_map (map key) (rest k))
+      → and_then (option_map key o) (λ k. and_then (keys k) (λ ks. Some (k ∷ ks)))
+      ≡ option_map (map key) (and_then o (λ a. and_then (rest (key a)) (λ xs. Some (a ∷ xs))))
+  key_first None keys rest e = refl
+  key_first (Some a) keys rest e = rw (e (key a)) (key_behind a (rest (key a)))
+
+  run_keys : (m c : ℕ) (s : List ℕ) → read_run (λ m s. option_map key (read m s)) (λ m k. k) w m c s
+      ≡ option_map (map key) (read_run read (λ m a. key a) w m c s)
+  run_keys m zero s = refl
+  run_keys m (suc c) s =
+      key_first (read m (take w s)) (λ k. read_run (λ m s. option_map key (read m s)) (λ m k. k) w k c (drop w s))
+      (λ k. read_run read (λ m a. key a) w k c (drop w s)) (λ k. run_keys k c (drop w s))
+
+  -- they are read as the items are
+  pub keys_read : (c : ℕ) (s : List ℕ) → read_items (λ m s. option_map key (read m s)) (λ m k. k) w c s
+      ≡ option_map (map key) (read_items read (λ m a. key a) w c s)
+  unfolding read_items
+  keys_read c s = by_test (all_blank (drop (c * w) s))
+    where
+      by_test : (t : Bool) → pick t (read_run (λ m s. option_map key (read m s)) (λ m k. k) w 0 c s) None
+          ≡ option_map (map key) (pick t (read_run read (λ m a. key a) w 0 c s) None)
+      by_test true = run_keys 0 c s
+      by_test false = refl
+
+-- ---- control pairs, of which the first one's tag alone may be blank
+
+pair_later : (n i : ℕ) (s : List ℕ) → read_pair n (suc i) s ≡ read_pair n 1 s
+unfolding read_pair
+pair_later n i s = rw (ne_eqb (suc i) 0 (λ e. omega arith))
+
+later_pairs : (n i c : ℕ) (s : List ℕ) → read_run (read_pair n) (λ k p. 1) entry_width 1 c s
+    ≡ read_run (read_pair n) (λ k p. suc k) entry_width (suc i) c s
+later_pairs n i zero s = refl
+later_pairs n i (suc c) s = rw (pair_later n i (take entry_width s), later_pairs n (suc i) c (drop entry_width s))
+
+-- 1 in place of the number of those before one gives the same
+pub pairs_read : (n c : ℕ) (s : List ℕ) → read_items (read_pair n) (λ k p. 1) entry_width c s ≡ read_pairs n c s
+unfolding read_items read_pairs
+pairs_read n zero s = refl
+pairs_read n (suc c) s = rw (later_pairs n 0 c (drop entry_width s))

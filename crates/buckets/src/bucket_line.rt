@@ -5,20 +5,19 @@ ghost use Rattle.buckets.specs.Bucket.{spelled_line, read_bucket};
 ghost use Rattle.buckets.specs.BucketLines.{bucket_line, line_bytes};
 
 use super::lines::spelled_line;
-use super::reader::read_bucket;
-use super::{Bucket, Contents, Line, Misprinted};
+use super::reader::read_into;
+use super::{Bucket, Items, Kind, Line, Misprinted};
 
 // Line i of a bucket, or nothing where it has no such line. Any bytes are answered, and any i.
 pub fn line_of(bucket: &[u8], i: u64) -> Result<Option<Line>, Misprinted>
     ensures { result ≡ bucket_line i (read_bucket bucket.now) }
 {
-    let Some(reading) = read_bucket(bucket) else {
+    let mut items = Items::new();
+    let Some(frame) = read_into(bucket, &mut items) else {
         return Err(Misprinted);
     };
-    match reading.contents {
-        Contents::Data { tags, .. } if i < tags.len() as u64 => Ok(Some(line_at(
-            bucket, i as usize,
-        ))),
+    match frame.kind {
+        Kind::Data { .. } if i < items.tags.len() as u64 => Ok(Some(line_at(bucket, i as usize))),
         _ => Ok(None),
     }
 }

@@ -1,6 +1,9 @@
 // List lines and buckets: document 01, "A list line" and "A bucket".
 #![tactic(auto)]
 
+ghost use Rattle.std.specs.Prelude.{◌≡◌};
+ghost use Rattle.buckets.specs.Inner.Held.{no_items};
+
 use arrayvec::ArrayVec;
 use std::fmt;
 
@@ -127,10 +130,21 @@ pub struct Head {
 }
 
 // A control pair: its tag, none if blank, and its distance.
-#[derive(Clone, Copy, PartialEq, Eq, Default)]
+#[derive(Clone, Copy, PartialEq, Eq)]
 pub struct Pair {
     pub tag: Option<u64>,
     pub distance: u64,
+}
+
+// The least pair, which fills a vector's unused places: were it all zeros, the compiler would clear `Items` by `memset`, and the
+// library calls `memcpy` alone.
+impl Default for Pair {
+    fn default() -> Pair {
+        Pair {
+            tag: None,
+            distance: 1,
+        }
+    }
 }
 
 // An index entry.
@@ -145,12 +159,12 @@ pub struct Entry {
 #[derive(Drop)]
 pub enum Contents {
     Index {
-        pairs: ArrayVec<Pair, 4>,
-        entries: ArrayVec<Entry, 8>,
+        pairs: ArrayVec<Pair, { Bucket::PAIRS_MOST }>,
+        entries: ArrayVec<Entry, { Bucket::ENTRIES_MOST }>,
     },
     Data {
         follow_on: u64,
-        tags: ArrayVec<u64, 8>,
+        tags: ArrayVec<u64, { Bucket::LINES_MOST }>,
     },
 }
 
@@ -159,6 +173,42 @@ pub enum Contents {
 pub struct Reading {
     pub head: Head,
     pub contents: Contents,
+}
+
+// What is read of a bucket behind its head, save its follow-on: an index bucket's control pairs and entries, or the tags of a data
+// bucket's lines.
+#[derive(Drop)]
+pub struct Items {
+    pub pairs: ArrayVec<Pair, { Bucket::PAIRS_MOST }>,
+    pub entries: ArrayVec<Entry, { Bucket::ENTRIES_MOST }>,
+    pub tags: ArrayVec<u64, { Bucket::LINES_MOST }>,
+}
+
+impl Items {
+    // No item.
+    pub fn new() -> Items
+        ensures { result ≡ no_items }
+    {
+        Items {
+            pairs: ArrayVec::new(),
+            entries: ArrayVec::new(),
+            tags: ArrayVec::new(),
+        }
+    }
+}
+
+// The kind of a bucket, a data bucket's with its follow-on.
+#[derive(Clone, Copy)]
+pub enum Kind {
+    Index,
+    Data { follow_on: u64 },
+}
+
+// A bucket that was read into items lent: all but these.
+#[derive(Clone, Copy)]
+pub struct Frame {
+    pub head: Head,
+    pub kind: Kind,
 }
 
 // The refusal of a bucket that is not 240 bytes long, or misprinted.

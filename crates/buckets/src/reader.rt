@@ -1,15 +1,17 @@
-// A bucket, read: field by field, each column once. The hints on inlining change no answer: with them a reading is written where it
-// is used, and the compiler clears no memory by the C library's memset for one that is None.
-ghost use Rattle.std.specs.Prelude.{◌≡◌, ◌≤◌, length};
+// A bucket, read: field by field, each column once. That the items lent are empty stays a clause, since each function that takes them
+// fills them.
+ghost use Rattle.std.specs.Prelude.{◌≡◌, ℕ, List, [], ◌∷◌, ◌++◌, ◌*◌, ◌≤◌, ◌<◌, length, get_or, Option, Some};
 ghost use Rattle.std.specs.Option.{option_map};
-ghost use Rattle.buckets.specs.Lengths.{entry_width, pairs_width, entries_width, lines_width, bucket_length};
+ghost use Rattle.buckets.specs.Lengths.{entry_width, line_columns_width, bucket_length, letter_column};
 ghost use Rattle.buckets.specs.Lengths.{pairs_most, entries_most, bucket_lines_most};
 ghost use Rattle.buckets.specs.Bucket.{read_bucket};
-ghost use Rattle.buckets.specs.Inner.Held.{vector, tags_held, reading_of};
-ghost use Rattle.buckets.specs.Inner.Columns.{read_entry, read_blank_pair, read_printed_pair, read_pair, read_pairs, read_entries, read_lines, read_head, read_index, read_data};
+ghost use Rattle.buckets.specs.Inner.Held.{no_items, reading_of, frame, reading_with};
+ghost use Rattle.buckets.specs.Inner.Columns.{read_entry, read_blank_pair, read_printed_pair, read_pair, read_line_tag, read_items, read_head, read_index, read_data, read_by_letter};
 
 use super::fields::number_within;
-use super::{Bucket, Contents, Entry, Head, Line, NEWLINE, Pair, Reading, lines};
+use super::{
+    Bucket, Contents, Entry, Frame, Head, Items, Kind, Line, NEWLINE, Pair, Reading, lines,
+};
 use arrayvec::ArrayVec;
 use columns;
 
@@ -50,78 +52,127 @@ fn read_printed_pair(part: &[u8], n: u64) -> Option<Pair>
     })
 }
 
-// Pair i, in part: only the first one's tag may be blank. Compiled into what reads pairs, or a step misses its aim (docs/SPEED.md).
-#[inline(always)]
+// The pair in part, with 0 or 1 before it: only the first one's tag may be blank.
 #[tactic(auto, unfolding(crate::specs::Inner::Columns::read_pair, crate::specs::Bucket::columns))]
-fn read_pair(part: &[u8], i: usize, n: u64) -> Option<Pair>
+fn read_pair(part: &[u8], before: u64, n: u64) -> Option<Pair>
     requires { length part.now ≡ entry_width }
-    ensures { result ≡ read_pair n i part.now }
+    ensures { result ≡ read_pair n before part.now }
 {
-    if i == 0 && columns::all_blank(&part[Line::TAG..Bucket::DISTANCE]) {
+    if before == 0 && columns::all_blank(&part[Line::TAG..Bucket::DISTANCE]) {
         read_blank_pair(part, n)
     } else {
         read_printed_pair(part, n)
     }
 }
 
-// The control pairs in part, count of them, each distance at most n.
-#[inline(always)]
-fn read_pairs(part: &[u8], count: usize, n: u64) -> Option<ArrayVec<Pair, 4>>
-    requires { (length part.now ≡ pairs_width) × (count ≤ pairs_most) }
-    ensures { result ≡ option_map vector (read_pairs n count part.now) }
-{
-    let used = count * Bucket::ENTRY;
-    if !columns::all_blank(&part[used..]) {
-        return None;
-    }
-    let mut pairs = ArrayVec::new();
-    for i in 0..count {
-        let at = i * Bucket::ENTRY;
-        let pair = read_pair(&part[at..at + Bucket::ENTRY], i, n)?;
-        pairs.push(pair);
-    }
-    Some(pairs)
+// A vector of items of one kind that are read of a bucket: control pairs, entries, or lines, of which the tags are held.
+trait ItemVec {
+    type Item;
+
+    // the columns of one
+    const WIDTH: usize;
+
+    ghost WIDTH: { ℕ };
+
+    ghost MOST: { ℕ };
+
+    ghost items: { Self → List Self.Item };
+
+    // one with a distance of at most n, by what those before it leave
+    ghost reads: { ℕ → ℕ → List ℕ → Option Self.Item };
+
+    ghost leaves: { Self.Item → ℕ };
+
+    // Takes the item in part: what it leaves for the one behind it.
+    fn take(&mut self, part: &[u8], before: u64, n: u64) -> Option<u64>
+        requires { (length part.now ≡ WIDTH) × (length (items self.old) < MOST) }
+        ensures left { result ≡ option_map leaves (reads n before part.now) }
+        ensures held { (x : Self.Item) → Some x ≡ reads n before part.now → items self.new ≡ items self.old ++ x ∷ [] };
 }
 
-// The entries in part, count of them, each distance at most n.
-#[inline(always)]
-fn read_entries(part: &[u8], count: usize, n: u64) -> Option<ArrayVec<Entry, 8>>
-    requires { (length part.now ≡ entries_width) × (count ≤ entries_most) }
-    ensures { result ≡ option_map vector (read_entries n count part.now) }
-{
-    let used = count * Bucket::ENTRY;
-    if !columns::all_blank(&part[used..]) {
-        return None;
+impl ItemVec for ArrayVec<Pair, { Bucket::PAIRS_MOST }> {
+    type Item = Pair;
+
+    const WIDTH: usize = Bucket::ENTRY;
+
+    ghost WIDTH = { entry_width };
+
+    ghost MOST = { pairs_most };
+
+    ghost items = { λ v. v.items };
+
+    ghost reads = { read_pair };
+
+    ghost leaves = { λ p. 1 };
+
+    fn take(&mut self, part: &[u8], before: u64, n: u64) -> Option<u64> {
+        let pair = read_pair(part, before, n)?;
+        self.push(pair);
+        Some(1)
     }
-    let mut entries = ArrayVec::new();
-    let mut last = 0;
-    for i in 0..count {
-        let at = i * Bucket::ENTRY;
-        let entry = read_entry(&part[at..at + Bucket::ENTRY], last, n)?;
-        last = entry.tag;
-        entries.push(entry);
-    }
-    Some(entries)
 }
 
-// The tags of the lines in part, count of them.
-#[inline(always)]
-fn read_tags(part: &[u8], count: usize) -> Option<ArrayVec<u64, 8>>
-    requires { (length part.now ≡ lines_width) × (count ≤ bucket_lines_most) }
-    ensures { result ≡ option_map tags_held (read_lines count part.now) }
+impl ItemVec for ArrayVec<Entry, { Bucket::ENTRIES_MOST }> {
+    type Item = Entry;
+
+    const WIDTH: usize = Bucket::ENTRY;
+
+    ghost WIDTH = { entry_width };
+
+    ghost MOST = { entries_most };
+
+    ghost items = { λ v. v.items };
+
+    ghost reads = { read_entry };
+
+    ghost leaves = { λ e. e.tag };
+
+    fn take(&mut self, part: &[u8], before: u64, n: u64) -> Option<u64> {
+        let entry = read_entry(part, before, n)?;
+        self.push(entry);
+        Some(entry.tag)
+    }
+}
+
+impl ItemVec for ArrayVec<u64, { Bucket::LINES_MOST }> {
+    type Item = u64;
+
+    const WIDTH: usize = Line::COLUMNS;
+
+    ghost WIDTH = { line_columns_width };
+
+    ghost MOST = { bucket_lines_most };
+
+    ghost items = { λ v. v.items };
+
+    ghost reads = { λ n. read_line_tag };
+
+    ghost leaves = { λ t. t };
+
+    fn take(&mut self, part: &[u8], before: u64, _n: u64) -> Option<u64> {
+        let tag = lines::read_tag(part, before)?;
+        self.push(tag);
+        Some(tag)
+    }
+}
+
+// The items in part, count of them, each distance at most n, taken into `items`; the columns behind them are blank.
+fn read_items<V: ItemVec>(part: &[u8], count: usize, n: u64, items: &mut V) -> Option<()>
+    requires fits { (count * V.WIDTH ≤ length part.now) × (count ≤ V.MOST) }
+    requires empty { V.items items.old ≡ [] }
+    ensures { option_map (λ _. V.items items.new) result ≡
+        read_items (V.reads n) (λ m x. V.leaves x) V.WIDTH count part.now }
 {
-    let used = count * Line::COLUMNS;
+    let used = count * V::WIDTH;
     if !columns::all_blank(&part[used..]) {
         return None;
     }
-    let mut tags = ArrayVec::new();
-    let mut last = 0;
+    let mut before = 0;
     for i in 0..count {
-        let at = i * Line::COLUMNS;
-        last = lines::read_tag(&part[at..at + Line::COLUMNS], last)?;
-        tags.push(last);
+        let at = i * V::WIDTH;
+        before = items.take(&part[at..at + V::WIDTH], before, n)?;
     }
-    Some(tags)
+    Some(())
 }
 
 // The first three numbers of a bucket.
@@ -148,12 +199,12 @@ fn read_head(part: &[u8]) -> Option<Head>
     })
 }
 
-// The index bucket that part is, behind its head.
-#[inline(always)]
+// The index bucket that part is, behind its head; its control pairs and entries are put into `items`.
 #[tactic(auto, unfolding(crate::specs::Inner::Columns::read_index, crate::specs::Bucket::columns))]
-fn read_index(part: &[u8], head: Head) -> Option<Reading>
-    requires { length part.now ≡ bucket_length }
-    ensures { result ≡ option_map reading_of (read_index head part.now) }
+fn read_index(part: &[u8], head: Head, items: &mut Items) -> Option<Kind>
+    requires long { length part.now ≡ bucket_length }
+    requires empty { items.old ≡ no_items }
+    ensures { option_map (λ kind. reading_with items.new (frame head kind)) result ≡ option_map reading_of (read_index head part.now) }
 {
     number_within(&part[Bucket::FOLLOW_ON..Bucket::LETTER], 0, 0)?;
     let pair_count = number_within(
@@ -166,28 +217,28 @@ fn read_index(part: &[u8], head: Head) -> Option<Reading>
         0,
         Bucket::ENTRIES_MOST as u64,
     )?;
-    let pairs = read_pairs(
+    read_items(
         &part[Bucket::PAIRS..Bucket::ENTRIES],
         pair_count as usize,
         head.to_cycle,
+        &mut items.pairs,
     )?;
-    let entries = read_entries(
+    read_items(
         &part[Bucket::ENTRIES..Bucket::END],
         entry_count as usize,
         head.to_cycle,
+        &mut items.entries,
     )?;
-    Some(Reading {
-        head,
-        contents: Contents::Index { pairs, entries },
-    })
+    Some(Kind::Index)
 }
 
-// The data bucket that part is, behind its head.
-#[inline(always)]
+// The data bucket that part is, behind its head; the tags of its lines are put into `items`.
 #[tactic(auto, unfolding(crate::specs::Inner::Columns::read_data, crate::specs::Bucket::columns))]
-fn read_data(part: &[u8], head: Head) -> Option<Reading>
-    requires { (length part.now ≡ bucket_length) × (1 ≤ head.to_cycle) }
-    ensures { result ≡ option_map reading_of (read_data head part.now) }
+fn read_data(part: &[u8], head: Head, items: &mut Items) -> Option<Kind>
+    requires long { length part.now ≡ bucket_length }
+    requires ahead { 1 ≤ head.to_cycle }
+    requires empty { items.old ≡ no_items }
+    ensures { option_map (λ kind. reading_with items.new (frame head kind)) result ≡ option_map reading_of (read_data head part.now) }
 {
     let follow_on = number_within(
         &part[Bucket::FOLLOW_ON..Bucket::LETTER],
@@ -200,25 +251,72 @@ fn read_data(part: &[u8], head: Head) -> Option<Reading>
         1,
         Bucket::LINES_MOST as u64,
     )?;
-    let tags = read_tags(&part[Bucket::LINES..Bucket::END], count as usize)?;
-    Some(Reading {
-        head,
-        contents: Contents::Data { follow_on, tags },
-    })
+    read_items(
+        &part[Bucket::LINES..Bucket::END],
+        count as usize,
+        head.to_cycle,
+        &mut items.tags,
+    )?;
+    Some(Kind::Data { follow_on })
 }
 
-// The bucket that part is; of the lines of a data bucket the tags are held.
-#[inline(always)]
-pub fn read_bucket(part: &[u8]) -> Option<Reading>
-    ensures { result ≡ option_map reading_of (read_bucket part.now) }
+// The bucket that part is, behind its head; its items are put into those lent.
+#[tactic(auto, unfolding(crate::specs::Inner::Columns::read_by_letter))]
+fn read_behind(part: &[u8], head: Head, items: &mut Items) -> Option<Kind>
+    requires long { length part.now ≡ bucket_length }
+    requires ahead { 1 ≤ head.to_cycle }
+    requires empty { items.old ≡ no_items }
+    ensures { option_map (λ kind. reading_with items.new (frame head kind)) result ≡
+        option_map reading_of (read_by_letter (get_or part.now letter_column 0) head part.now) }
+{
+    match part[Bucket::LETTER] {
+        Bucket::INDEX => read_index(part, head, items),
+        Bucket::DATA => read_data(part, head, items),
+        _ => None,
+    }
+}
+
+// The bucket that part is, its items put into those lent, of which there is none; of the lines of a data bucket the tags are held.
+// Compiled once, and no item is copied: the header promises how much code there is, and a step has an aim (docs/SPEED.md).
+#[inline(never)]
+pub fn read_into(part: &[u8], items: &mut Items) -> Option<Frame>
+    requires { items.old ≡ no_items }
+    ensures { option_map (reading_with items.new) result ≡ option_map reading_of (read_bucket part.now) }
 {
     if part.len() != Bucket::LENGTH || part[Bucket::END] != NEWLINE {
         return None;
     }
     let head = read_head(part)?;
-    match part[Bucket::LETTER] {
-        Bucket::INDEX => read_index(part, head),
-        Bucket::DATA => read_data(part, head),
-        _ => None,
+    let kind = read_behind(part, head, items)?;
+    Some(Frame { head, kind })
+}
+
+// A frame with its items.
+#[tactic(auto, unfolding(crate::specs::Inner::Held::reading_with))]
+fn with_items(frame: Frame, items: Items) -> Reading
+    ensures { result ≡ reading_with items frame }
+{
+    let contents = match frame.kind {
+        Kind::Index => Contents::Index {
+            pairs: items.pairs,
+            entries: items.entries,
+        },
+        Kind::Data { follow_on } => Contents::Data {
+            follow_on,
+            tags: items.tags,
+        },
+    };
+    Reading {
+        head: frame.head,
+        contents,
     }
+}
+
+// The bucket that part is; of the lines of a data bucket the tags are held.
+pub fn read_bucket(part: &[u8]) -> Option<Reading>
+    ensures { result ≡ option_map reading_of (read_bucket part.now) }
+{
+    let mut items = Items::new();
+    let frame = read_into(part, &mut items)?;
+    Some(with_items(frame, items))
 }

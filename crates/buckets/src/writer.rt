@@ -1,4 +1,5 @@
-// A bucket, written: its bytes are blanked once, and its fields are written over blanks.
+// A bucket, written: its bytes are blanked once, and its fields are written over blanks. `plain` is told of a whole list, and stands
+// beside the part of it that is lent: a struct of both would be made anew for each bucket, line and tag that is cut out of it.
 ghost use Rattle.std.specs.Prelude.{◌≡◌, true, [], ◌∷◌, ◌++◌, ◌+◌, ◌*◌, ◌%◌, ◌≤◌, ◌<◌, length, take, drop};
 ghost use Rattle.std.specs.Prelude.{None};
 ghost use Rattle.columns.specs.Lists.{joined, padded, put};

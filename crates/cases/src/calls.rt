@@ -27,6 +27,7 @@ pub enum Call {
     Mean,
 }
 
+// The one place in which a request's letter becomes a kind.
 impl TryFrom<u8> for Call {
     type Error = StreamError;
 

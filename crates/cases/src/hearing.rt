@@ -57,6 +57,7 @@ enum Mark {
     Lost,
 }
 
+// The one place in which a bucket's letter becomes a kind.
 impl TryFrom<u8> for Mark {
     type Error = StreamError;
 

@@ -3,6 +3,8 @@ ghost use Rattle.std.specs.Prelude.{◌≡◌, ◌≤◌, None, length};
 ghost use Rattle.columns.specs.Lists.{pick, every};
 ghost use Rattle.columns.specs.PrintedNumbers.{digit, value, read_lenient};
 
+use columns::ten_to;
+
 // The columns of a number.
 pub const COLUMNS: usize = 12;
 
@@ -16,7 +18,7 @@ fn spelled(part: &[u8]) -> Option<u64>
         if !c.is_ascii_digit() {
             return None;
         }
-        x = x * 10 + u64::from(*c - b'0');
+        x = x * ten_to(1) + u64::from(*c - b'0');
     }
     Some(x)
 }

@@ -7,4 +7,5 @@ pub mod Deciding
 pub mod RangeTests
 pub mod Conditions
 pub mod Numbers
+pub mod LayoutKinds
 pub mod Telling

@@ -1,5 +1,6 @@
 -- Judging and building: what is accepted, what is answered, what is written.
 pub mod Refusals
+pub mod LineByIndex
 pub mod Accepted
 pub mod PlanFigures
 pub mod Answering

@@ -1,4 +1,5 @@
 -- The lines of a list and of data buckets, and their tags.
+pub mod LineByLine
 pub mod DataTags
 pub mod Rising
 pub mod Tags

@@ -4,3 +4,4 @@ pub mod Comparing
 pub mod Settings
 pub mod ListLines
 pub mod Changing
+pub mod HeldOnce

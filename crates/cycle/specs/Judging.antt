@@ -6,7 +6,7 @@ use Rattle.std.specs.Prelude.{Result}
 use Rattle.columns.specs.Lists.{pick, up}
 use Rattle.buckets.specs.ListLine.{list_lines}
 use Rattle.cycle.specs.Refusals.{Condition, first_refusal, outcome, numbers_of}
-use Rattle.cycle.specs.Tree.{Plan, plan}
+use Rattle.cycle.specs.Tree.{Plan, layout_number, layout_of, plan}
 use Rattle.cycle.specs.Layouts.{Slot, subtree}
 use Rattle.cycle.specs.Cycle.{cycle_size, image_length}
 use Rattle.cycle.specs.Building.{copies_out, cycle_too_long, buffer_too_short, conditions}
@@ -45,7 +45,7 @@ figures_of t =
     record {
       n = t.n;
       p = t.p;
-      layout = t.layout;
+      layout = layout_of t.layout;
       copies = t.copies;
       lines = length t.lines;
       d = t.d;
@@ -60,7 +60,7 @@ figures_of t =
 abbrev pub numbers : Result Figures Refusal → List ℕ
 numbers =
     numbers_of
-    (λ f. f.n ∷ f.p ∷ f.layout ∷ f.copies ∷ f.lines ∷ f.d ∷ f.k ∷ f.size ∷ f.span ∷ f.full ∷ f.last ∷ [])
+    (λ f. f.n ∷ f.p ∷ layout_number f.layout ∷ f.copies ∷ f.lines ∷ f.d ∷ f.k ∷ f.size ∷ f.span ∷ f.full ∷ f.last ∷ [])
 
 -- a list and settings judged, for a buffer with room for `room` bytes
 unfoldable pub judge : Settings → List ℕ → ℕ → Result Figures Refusal

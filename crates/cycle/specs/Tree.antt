@@ -1,13 +1,25 @@
 -- Document 01, "The tree", first paragraph: settings, data buckets, levels.
 -- Assumes nothing.
-use Rattle.std.specs.Prelude.{ℕ, zero, suc, ◌+◌, ◌-◌, ◌*◌, ◌/◌, ◌^◌, min, List, [], ◌∷◌, map, leb, length, take, drop, get_or}
-use Rattle.columns.specs.Lists.{joined, last_or, range, least, up}
+use Rattle.std.specs.Prelude.{ℕ, zero, suc, ◌+◌, ◌-◌, ◌*◌, ◌/◌, ◌^◌, min, List, [], ◌∷◌, map, leb, eqb, length, take, drop, get_or}
+use Rattle.columns.specs.Lists.{pick, joined, last_or, range, least, up}
 use Rattle.buckets.specs.declared.Line.{Line}
 use Rattle.cycle.specs.declared.Settings.{Settings}
+use Rattle.cycle.specs.declared.Layout.{Layout}
+use Rattle.cycle.specs.declared.Layout.TheVariants.{Distributed, OneM}
 
 -- "Settings: n entries for an index bucket (2 to 8), p lines for a data bucket (1 to 8), layout 1 or 2, and copies."
+-- Made of four numbers, as the calls for C and a request of `cases` have them.
 abbrev pub settings : ℕ → ℕ → ℕ → ℕ → Settings
 settings n p layout copies = record { n = n; p = p; layout = layout; copies = copies }
+
+-- the number of a layout: "layout 1, distributed", "layout 2, (1,m)"
+abbrev pub layout_number : Layout → ℕ
+layout_number Distributed = 1
+layout_number OneM = 2
+
+-- the layout that a number from 1 to 2 names
+abbrev pub layout_of : ℕ → Layout
+layout_of m = pick (eqb m 1) Distributed OneM
 
 -- settings and a list's lines, with its data buckets D and its levels k
 pub record Plan : Type 0 where

@@ -9,92 +9,15 @@ ghost use Rattle.cycle.specs.Building;
 ghost use Rattle.cycle.specs.Layouts.{slot};
 ghost use Rattle.cycle.specs.Inner.Comparing.{Decides, SameDigits};
 ghost use Rattle.cycle.specs.Judging.{tree_at};
-ghost use Rattle.cycle.specs.Inner.Held.{plan_of, StandsAt, AcceptedList, plan_in, cycle_bucket, written, Writing, TreePlace, DataPlace};
+ghost use Rattle.cycle.specs.Inner.Held.{plan_of, segment_count, StandsAt, AcceptedList, plan_in, cycle_bucket, written, TreePlace, DataPlace};
 ghost use Rattle.cycle.specs.declared.Source.TheVariants as Source;
 
 use super::conditions::judge_list;
-use super::index::{child_count, head_at, print_path_bucket, print_tree_bucket};
+use super::index::Printer;
 use super::measures::lesser;
-use super::places::data_place;
-use super::segments::{segment_count, segment_of};
-use super::{BUCKET, Figures, LINE, Refusal, Segment, Settings, Source};
+use super::{Accepted, BUCKET, LINE, Part, Refusal, Settings, Source};
 use buckets::writer::write_data;
 use buckets::{Bucket, Line};
-
-// Bucket j of height e of a segment's tree, at x. It hands back its number of entries.
-fn write_tree_bucket(
-    image: &mut [u8],
-    list: &[u8],
-    plain: bool,
-    f: Figures,
-    s: Segment,
-    e: usize,
-    j: u64,
-    x: u64,
-) -> usize
-    requires { Writing f list.now plain s (length image.old) × TreePlace f s e j x }
-    ensures { (result ≡ length (children (plan_of f []) (f.k + 1 - e) j)) ×
-        (image.new ≡ written (plan_in f Source.List list.now) image.old x (x + 1)) }
-{
-    let count = child_count(f, e, j);
-    let at = (BUCKET * x) as usize;
-    let to = at + Bucket::LENGTH;
-    print_tree_bucket(
-        &mut image[at..to],
-        list,
-        plain,
-        f,
-        Source::List,
-        s,
-        e,
-        j,
-        x,
-        count,
-    );
-    count
-}
-
-// A subtree from x on: its bucket, then each child's whole subtree. It hands back the position behind it.
-fn write_subtree(
-    image: &mut [u8],
-    list: &[u8],
-    plain: bool,
-    f: Figures,
-    s: Segment,
-    e: usize,
-    j: u64,
-    x: u64,
-) -> u64
-    requires { Writing f list.now plain s (length image.old) × TreePlace f s e j x }
-    ensures { (result ≡ x + length (tree_at (plan_of f []) e j)) ×
-        (image.new ≡
-        written (plan_in f Source.List list.now) image.old x (x + length (tree_at (plan_of f []) e j))) }
-{
-    let count = write_tree_bucket(image, list, plain, f, s, e, j, x);
-    let mut next = x + 1;
-    if e == 1 {
-        return next;
-    }
-    let first = j * f.n;
-    for i in 0..count as u64 {
-        next = write_subtree(image, list, plain, f, s, e - 1, first + i, next);
-    }
-    next
-}
-
-// The path of a segment.
-fn write_path(image: &mut [u8], list: &[u8], plain: bool, f: Figures, s: Segment)
-    requires { Writing f list.now plain s (length image.old) }
-    ensures { image.new ≡
-        written (plan_in f Source.List list.now) image.old s.start s.tree_at }
-{
-    for x in s.start..s.tree_at {
-        let i = s.top + (x - s.start);
-        let at = (BUCKET * x) as usize;
-        let to = at + Bucket::LENGTH;
-        print_path_bucket(&mut image[at..to], list, plain, f, Source::List, s, i, x);
-    }
-}
 
 // A column of a tag by the digit that it adds: a blank as a 0. One call of the library's, which does not say this by itself.
 fn as_digit(c: u8) -> u8
@@ -117,69 +40,173 @@ fn same_tags(list: &[u8], a: usize, b: usize) -> bool
     true
 }
 
-// The follow-on of data bucket q at x.
-fn list_follow_on(list: &[u8], f: Figures, q: u64, x: u64) -> u64
-    requires { AcceptedList f list.now × (q < f.d) × StandsAt (plan_of f []) x (slot (f.k + 1) q ∷ []) }
-    ensures { result ≡ follow_on (cycle_bucket (plan_in f Source.List list.now) x).body }
-{
-    let next = q + 1;
-    // the 0 that the format prints in the last data bucket
-    if next == f.d {
-        return 0;
+// A segment of the cycle of a list that can be sent.
+#[derive(Clone, Copy)]
+struct Sender<'a> {
+    part: Part,
+    list: &'a [u8],
+    plain: bool,
+    ghost sending: { AcceptedList part.cycle.f list.now },
+    ghost no_zeros: { plain ≡ true → PlainList list.now },
+}
+
+impl Sender<'_> {
+    // What its index buckets are printed from.
+    #[inline]
+    #[tactic(auto, using(crate::proofs::Building::Writings::printing))]
+    fn printer(&self) -> Printer<'_>
+        ensures { (result.part.now ≡ self.now.part) × (result.source ≡ Source.List) × (result.text.now ≡ self.now.list.now) }
+    {
+        Printer {
+            part: &self.part,
+            source: Source::List,
+            text: self.list,
+            plain: self.plain,
+        }
     }
-    let at = (LINE * (next * f.p)) as usize;
-    if same_tags(list, at - Line::LENGTH, at) {
-        return data_place(f, next) - x;
+
+    // Bucket j of height e of the segment's tree, at x. It hands back its number of entries.
+    fn write_tree_bucket(&self, image: &mut [u8], e: usize, j: u64, x: u64) -> usize
+        requires { (bucket_length * self.now.part.cycle.f.size ≤ length image.old)
+            × TreePlace self.now.part.cycle.f self.now.part.s e j x }
+        ensures { (result ≡ length (children (plan_of self.now.part.cycle.f []) (self.now.part.cycle.f.k + 1 - e) j)) ×
+            (image.new ≡ written (plan_in self.now.part.cycle.f Source.List self.now.list.now) image.old x (x + 1)) }
+    {
+        let count = self.part.cycle.child_count(e, j);
+        let at = (BUCKET * x) as usize;
+        let to = at + Bucket::LENGTH;
+        self.printer()
+            .print_tree_bucket(&mut image[at..to], e, j, x, count);
+        count
     }
-    0
-}
 
-// Data bucket q at x.
-fn write_data_at(image: &mut [u8], list: &[u8], plain: bool, f: Figures, s: Segment, q: u64, x: u64)
-    requires { Writing f list.now plain s (length image.old) × DataPlace s q x }
-    ensures { image.new ≡ written (plan_in f Source.List list.now) image.old x (x + 1) }
-{
-    let follow_on = list_follow_on(list, f, q, x);
-    let from = (LINE * (q * f.p)) as usize;
-    let end = (LINE * lesser(f.lines, (q + 1) * f.p)) as usize;
-    let at = (BUCKET * x) as usize;
-    let to = at + Bucket::LENGTH;
-    write_data(
-        &mut image[at..to],
-        head_at(f, s, x),
-        follow_on,
-        &list[from..end],
-        plain,
-    );
-}
+    // A subtree from x on: its bucket, then each child's whole subtree. It hands back the position behind it.
+    fn write_subtree(&self, image: &mut [u8], e: usize, j: u64, x: u64) -> u64
+        requires { (bucket_length * self.now.part.cycle.f.size ≤ length image.old)
+            × TreePlace self.now.part.cycle.f self.now.part.s e j x }
+        ensures { (result ≡ x + length (tree_at (plan_of self.now.part.cycle.f []) e j)) ×
+            (image.new ≡
+            written (plan_in self.now.part.cycle.f Source.List self.now.list.now) image.old x
+            (x + length (tree_at (plan_of self.now.part.cycle.f []) e j))) }
+    {
+        let count = self.write_tree_bucket(image, e, j, x);
+        let mut next = x + 1;
+        if e == 1 {
+            return next;
+        }
+        let first = j * self.part.cycle.f.n;
+        for i in 0..count as u64 {
+            next = self.write_subtree(image, e - 1, first + i, next);
+        }
+        next
+    }
 
-// The data buckets of a segment.
-fn write_datas(image: &mut [u8], list: &[u8], plain: bool, f: Figures, s: Segment)
-    requires { Writing f list.now plain s (length image.old) }
-    ensures { image.new ≡ written (plan_in f Source.List list.now) image.old s.data_at s.end }
-{
-    for q in s.first..s.last {
-        write_data_at(image, list, plain, f, s, q, s.place_of(q));
+    // The path of the segment.
+    fn write_path(&self, image: &mut [u8])
+        requires { bucket_length * self.now.part.cycle.f.size ≤ length image.old }
+        ensures { image.new ≡
+            written (plan_in self.now.part.cycle.f Source.List self.now.list.now) image.old
+            self.now.part.s.start self.now.part.s.tree_at }
+    {
+        let s = &self.part.s;
+        for x in s.start..s.tree_at {
+            let i = s.top + (x - s.start);
+            let at = (BUCKET * x) as usize;
+            let to = at + Bucket::LENGTH;
+            self.printer().print_path_bucket(&mut image[at..to], i, x);
+        }
+    }
+
+    // The follow-on of data bucket q at x.
+    fn list_follow_on(&self, q: u64, x: u64) -> u64
+        requires { (q < self.now.part.cycle.f.d)
+            × StandsAt (plan_of self.now.part.cycle.f []) x (slot (self.now.part.cycle.f.k + 1) q ∷ []) }
+        ensures { result ≡
+            follow_on (cycle_bucket (plan_in self.now.part.cycle.f Source.List self.now.list.now) x).body }
+    {
+        let cycle = &self.part.cycle;
+        let next = q + 1;
+        // the 0 that the format prints in the last data bucket
+        if next == cycle.f.d {
+            return 0;
+        }
+        let at = (LINE * (next * cycle.f.p)) as usize;
+        if same_tags(self.list, at - Line::LENGTH, at) {
+            return cycle.data_place(next) - x;
+        }
+        0
+    }
+
+    // Data bucket q at x.
+    #[tactic(auto, using(crate::proofs::Building::Writings::data_below, crate::proofs::Building::Writings::data_small))]
+    fn write_data_at(&self, image: &mut [u8], q: u64, x: u64)
+        requires { (bucket_length * self.now.part.cycle.f.size ≤ length image.old) × DataPlace self.now.part.s q x }
+        ensures { image.new ≡
+            written (plan_in self.now.part.cycle.f Source.List self.now.list.now) image.old x (x + 1) }
+    {
+        let f = &self.part.cycle.f;
+        let follow_on = self.list_follow_on(q, x);
+        let from = (LINE * (q * f.p)) as usize;
+        let end = (LINE * lesser(f.lines, (q + 1) * f.p)) as usize;
+        let at = (BUCKET * x) as usize;
+        let to = at + Bucket::LENGTH;
+        write_data(
+            &mut image[at..to],
+            self.part.head_at(x),
+            follow_on,
+            &self.list[from..end],
+            self.plain,
+        );
+    }
+
+    // The data buckets of the segment.
+    fn write_datas(&self, image: &mut [u8])
+        requires { bucket_length * self.now.part.cycle.f.size ≤ length image.old }
+        ensures { image.new ≡
+            written (plan_in self.now.part.cycle.f Source.List self.now.list.now) image.old
+            self.now.part.s.data_at self.now.part.s.end }
+    {
+        let s = &self.part.s;
+        for q in s.first..s.last {
+            self.write_data_at(image, q, s.place_of(q));
+        }
+    }
+
+    // The segment: its path, its tree, its data buckets.
+    fn write_segment(&self, image: &mut [u8])
+        requires { bucket_length * self.now.part.cycle.f.size ≤ length image.old }
+        ensures { image.new ≡
+            written (plan_in self.now.part.cycle.f Source.List self.now.list.now) image.old
+            self.now.part.s.start self.now.part.s.end }
+    {
+        let s = &self.part.s;
+        self.write_path(image);
+        self.write_subtree(image, s.height, s.root, s.tree_at);
+        self.write_datas(image);
     }
 }
 
-// A segment: its path, its tree, its data buckets.
-fn write_segment(image: &mut [u8], list: &[u8], plain: bool, f: Figures, s: Segment)
-    requires { Writing f list.now plain s (length image.old) }
-    ensures { image.new ≡ written (plan_in f Source.List list.now) image.old s.start s.end }
-{
-    write_path(image, list, plain, f, s);
-    write_subtree(image, list, plain, f, s, s.height, s.root, s.tree_at);
-    write_datas(image, list, plain, f, s);
-}
+impl<'a> Accepted<'a> {
+    // Segment i of its cycle.
+    fn sender(&self, i: u64) -> Sender<'a>
+        requires { i < segment_count (plan_of self.now.cycle.f []) }
+        ensures { (result.part.cycle.f ≡ self.now.cycle.f) × (result.list.now ≡ self.now.list.now) × (result.part.s.number ≡ i) }
+    {
+        Sender {
+            part: self.cycle.part(i),
+            list: self.list,
+            plain: self.plain,
+        }
+    }
 
-// The whole cycle, segment after segment. Where `plain` says so, no number of the list has a leading zero.
-pub(crate) fn write_cycle(image: &mut [u8], list: &[u8], plain: bool, f: Figures)
-    requires { AcceptedList f list.now × (bucket_length * f.size ≤ length image.old) × (plain ≡ true → PlainList list.now) }
-    ensures { image.new ≡ written (plan_in f Source.List list.now) image.old 0 f.size }
-{
-    for i in 0..segment_count(f) {
-        write_segment(image, list, plain, f, segment_of(f, i));
+    // Writes the whole cycle, segment after segment, by their numbers (`Cycle::part`).
+    pub fn write_cycle(&self, image: &mut [u8])
+        requires { bucket_length * self.now.cycle.f.size ≤ length image.old }
+        ensures { image.new ≡ written (plan_in self.now.cycle.f Source.List self.now.list.now) image.old 0 self.now.cycle.f.size }
+    {
+        for i in 0..self.cycle.segment_count() {
+            self.sender(i).write_segment(image);
+        }
     }
 }
 
@@ -188,8 +215,7 @@ pub fn build(list: &[u8], settings: Settings, out: &mut [u8]) -> Result<u64, Ref
     ensures { (result ≡ (Building.build settings list.now (length out.old)).answer) ×
         (out.new ≡ onto (Building.build settings list.now (length out.old)).output out.old) }
 {
-    let told = judge_list(list, settings, out.len() as u64)?;
-    let f = told.figures;
-    write_cycle(out, list, told.plain, f);
-    Ok(f.size)
+    let accepted = judge_list(list, settings, out.len() as u64)?;
+    accepted.write_cycle(out);
+    Ok(accepted.cycle.f.size)
 }

@@ -1,27 +1,27 @@
 // Changes of a list that lies in a lent buffer: a line arrives, or one is taken out; and the changed list's cycle.
-ghost use Rattle.std.specs.Prelude.{◌≡◌, true, ◌+◌, ◌-◌, ◌*◌, ◌≤◌, length, take, drop};
+ghost use Rattle.std.specs.Prelude.{◌≡◌, true, ◌+◌, ◌-◌, ◌*◌, ◌/◌, ◌%◌, ◌≤◌, length, take, drop};
 ghost use Rattle.std.specs.Prelude.{None};
 ghost use Rattle.columns.specs.Lists.{put};
-ghost use Rattle.buckets.specs.Lengths.{line_columns_width, line_length, lines_most, bucket_length};
+ghost use Rattle.buckets.specs.Lengths.{line_length, lines_most, bucket_length};
 ghost use Rattle.buckets.specs.ListLine.{spelled, taken, list_lines};
 ghost use Rattle.buckets.specs.Inner.Columns.{read_plain, PlainList};
 ghost use Rattle.cycle.specs.Refusals.{first_refusal};
 ghost use Rattle.cycle.specs.Changes;
 ghost use Rattle.cycle.specs.Changes.{same_numbers, list_in, places_for, line_conditions, given_conditions};
-ghost use Rattle.cycle.specs.Inner.Held.{AcceptedList, plan_in, written};
+ghost use Rattle.cycle.specs.Inner.Held.{plan_in, written};
 ghost use Rattle.cycle.specs.Inner.ListLines.{Told};
 ghost use Rattle.cycle.specs.Inner.Changing.{first_from, tag_over, with_line, without_line, counts_held};
 ghost use Rattle.cycle.specs.declared.Source.TheVariants as Source;
 
-use super::build::write_cycle;
 use super::conditions::{first_misprint, judge_lines, judge_room};
 use super::measures::{figures_of, settings_fit};
-use super::{Counts, Figures, LINE, Reason, Refusal, Settings};
+use super::{Accepted, Counts, Cycle, Figures, LINE, Reason, Refusal, Settings};
 use buckets::Line;
 use buckets::lines::{line_tag, plain_tag, spelled_line, spelled_tag};
 use columns::{copy_columns, print_blanks};
 
-// Whether a buffer has place for so many lines.
+// Whether a buffer has place for so many lines. As in the call for C, the list lies at the front of a longer buffer, so that here and
+// in the changes its number of lines stands beside it.
 #[tactic(auto, unfolding(crate::specs::Changes::places_for))]
 fn places_for(buffer: &[u8], lines: u64) -> bool
     requires { lines ≤ lines_most + 1 }
@@ -31,18 +31,19 @@ fn places_for(buffer: &[u8], lines: u64) -> bool
 }
 
 // A list and a given line held against 3 and 4: the first that holds, or whether the list is known to have no leading zeros.
-fn judge_lines_given(list: &[u8], lines: u64, given: &[u8]) -> Result<bool, Refusal>
-    requires { (length list.now ≡ line_length * lines) × (lines ≤ lines_most) }
-    ensures { Told (line_conditions list.now lines given.now) list.now result }
+fn judge_lines_given(list: &[u8], given: &[u8]) -> Result<bool, Refusal>
+    requires { length list.now % line_length ≡ 0 }
+    ensures { Told (line_conditions list.now (length list.now / line_length) given.now) list.now result }
 {
     if line_tag(given).is_none() {
-        let place = first_misprint(list, lines).unwrap_or(lines);
+        let lines = (list.len() / Line::LENGTH) as u64;
+        let place = first_misprint(list).unwrap_or(lines);
         return Err(Refusal {
             reason: Reason::LineMisprinted,
             place,
         });
     }
-    judge_lines(list, lines)
+    judge_lines(list)
 }
 
 // Settings, the list at a buffer's front and a given line held against 1 to 4: the first that holds, or whether the list is known
@@ -65,46 +66,39 @@ fn judge_given(buffer: &[u8], lines: u64, given: &[u8], settings: Settings) -> R
         return Err(Refusal::from(Reason::LengthOut));
     }
     let end = (LINE * lines) as usize;
-    judge_lines_given(&buffer[..end], lines, given)
+    judge_lines_given(&buffer[..end], given)
 }
 
 // The first line whose tag is greater.
-fn first_over(list: &[u8], lines: u64, tag: u64) -> Option<u64>
-    requires { (length list.now ≡ line_length * lines) × (lines ≤ lines_most) }
+fn first_over(list: &[u8], tag: u64) -> Option<u64>
     ensures { result ≡ first_from (tag_over tag) 0 (list_lines list.now) }
 {
-    for i in 0..lines {
-        if tag < spelled_tag(list, (LINE * i) as usize) {
-            return Some(i);
-        }
-    }
-    None
+    list.chunks_exact(Line::LENGTH)
+        .position(|line| tag < spelled_tag(line, 0))
+        .map(|i| i as u64)
 }
 
-// Whether the line that stands at a place of a list has these four numbers. No equality of a type: one side stands in columns.
-fn equals_at(list: &[u8], at: usize, line: Line) -> bool
-    requires { at + line_columns_width ≤ length list.now }
-    ensures { result ≡ same_numbers line (spelled (drop at list.now)) }
+// Whether a list line has these four numbers. No equality of a type: one side stands in columns.
+fn has_numbers_of(part: &[u8], line: Line) -> bool
+    requires { length part.now ≡ line_length }
+    ensures { result ≡ same_numbers line (spelled part.now) }
 {
-    let end = at + Line::COLUMNS;
-    spelled_tag(list, at) == line.tag && line == spelled_line(&list[at..end])
+    spelled_tag(part, Line::TAG) == line.tag
+        && line == spelled_line(&part[Line::TAG..Line::COLUMNS])
 }
 
 // The first line with these four numbers.
-fn first_equal(list: &[u8], lines: u64, line: Line) -> Option<u64>
-    requires { (length list.now ≡ line_length * lines) × (lines ≤ lines_most) }
+fn first_equal(list: &[u8], line: Line) -> Option<u64>
     ensures { result ≡ first_from (same_numbers line) 0 (list_lines list.now) }
 {
-    for i in 0..lines {
-        if equals_at(list, (LINE * i) as usize, line) {
-            return Some(i);
-        }
-    }
-    None
+    list.chunks_exact(Line::LENGTH)
+        .position(|part| has_numbers_of(part, line))
+        .map(|i| i as u64)
 }
 
-// Moves the bytes from at up to end one line on. Byte by byte and compiled apart: `copy_within`, and the loop where it is compiled into
-// its caller, take `memmove` of the C library, which the library must not need.
+// Moves the bytes from at up to end one line on. Byte by byte and compiled apart: towards the end, `copy_within`, and the loop where it
+// is compiled into its caller, take `memmove` of the C library, which the library must not need. `close_place` moves towards the front
+// and needs none.
 #[inline(never)]
 fn open_place(list: &mut [u8], at: usize, end: usize)
     requires { (at ≤ end) × (end + line_length ≤ length list.old) }
@@ -147,7 +141,7 @@ fn remove_line(list: &mut [u8], at: usize, end: usize)
     print_blanks(&mut list[last..end]);
 }
 
-// Whether a list is known to have no leading zeros with one more line.
+// Whether a list is known to have no leading zeros with one more line. The flag goes from the judged list to the changed one.
 fn plain_with(plain: bool, line: &[u8]) -> bool
     ensures { result ≡ true → (plain ≡ true) × (taken (read_plain line.now) ≡ true) }
 {
@@ -168,13 +162,13 @@ fn counts_of(f: Figures) -> Counts
 
 // Writes the cycle of a changed list. Compiled once, as all that a call does once is: the header promises how much code there is.
 #[inline(never)]
-fn send(list: &[u8], plain: bool, f: Figures, out: &mut [u8]) -> Counts
-    requires { AcceptedList f list.now × (bucket_length * f.size ≤ length out.old) × (plain ≡ true → PlainList list.now) }
-    ensures { (result ≡ counts_held f) ×
-        (out.new ≡ written (plan_in f Source.List list.now) out.old 0 f.size) }
+fn send(accepted: &Accepted<'_>, out: &mut [u8]) -> Counts
+    requires { bucket_length * accepted.now.cycle.f.size ≤ length out.old }
+    ensures { (result ≡ counts_held accepted.now.cycle.f) ×
+        (out.new ≡ written (plan_in accepted.now.cycle.f Source.List accepted.now.list.now) out.old 0 accepted.now.cycle.f.size) }
 {
-    write_cycle(out, list, plain, f);
-    counts_of(f)
+    accepted.write_cycle(out);
+    counts_of(accepted.cycle.f)
 }
 
 // What the two changes share is judge_given, judge_room and send; each has its own condition, search and move, so that one function
@@ -202,10 +196,14 @@ fn arrive_judged(
     }
     let f = judge_room(figures_of(settings, lines + 1), out.len() as u64)?;
     let end = (LINE * lines) as usize;
-    let place = first_over(&buffer[..end], lines, spelled_tag(given, 0)).unwrap_or(lines);
+    let place = first_over(&buffer[..end], spelled_tag(given, 0)).unwrap_or(lines);
     put_line(buffer, (LINE * place) as usize, end, given);
-    let behind = end + Line::LENGTH;
-    Ok(send(&buffer[..behind], plain_with(plain, given), f, out))
+    let changed = Accepted {
+        list: &buffer[..end + Line::LENGTH],
+        plain: plain_with(plain, given),
+        cycle: Cycle { f },
+    };
+    Ok(send(&changed, out))
 }
 
 // A line is taken out of a list, and both pass 1 to 4: 15, then 5 to 7 of the changed list, or the change.
@@ -224,13 +222,17 @@ fn take_out_judged(
 {
     let end = (LINE * lines) as usize;
     let line = spelled_line(&given[Line::TAG..Line::COLUMNS]);
-    let Some(place) = first_equal(&buffer[..end], lines, line) else {
+    let Some(place) = first_equal(&buffer[..end], line) else {
         return Err(Refusal::from(Reason::NotInList));
     };
     let f = judge_room(figures_of(settings, lines - 1), out.len() as u64)?;
     remove_line(buffer, (LINE * place) as usize, end);
-    let behind = end - Line::LENGTH;
-    Ok(send(&buffer[..behind], plain, f, out))
+    let changed = Accepted {
+        list: &buffer[..end - Line::LENGTH],
+        plain,
+        cycle: Cycle { f },
+    };
+    Ok(send(&changed, out))
 }
 
 // A line arrives in the list at the front of a lent buffer, `lines` lines long, and the changed list's cycle is built into the

@@ -9,5 +9,5 @@ use super::{Figures, Refusal, Settings};
 pub fn judge(list: &[u8], settings: Settings, room: u64) -> Result<Figures, Refusal>
     ensures { result ≡ Judging.judge settings list.now room }
 {
-    Ok(judge_list(list, settings, room)?.figures)
+    Ok(judge_list(list, settings, room)?.cycle.f)
 }

@@ -22,11 +22,18 @@
 //
 //   read_back  an image held against the cycle of its own lines, and their list: ReadingBack.read_back. Laws: ReadingBack
 //
-// Figures, Segment and Source are what these files hand on; specs/Inner says what each stands for.
+// Figures, Cycle, Accepted, Segment, Part and Source are what these files hand on; specs/Inner says what each stands for, and what is
+// known of one are its ghost fields. Bounds of a function's own numbers are its clauses, since a struct of them would be made anew at
+// each call; so is the room of a buffer, since a struct that held it would have to say at each write that the rest of it stays.
 #![tactic(auto)]
 
-ghost use Rattle.std.specs.Prelude.{◌≡◌};
+ghost use Rattle.std.specs.Prelude.{◌≡◌, ◌≤◌, true, List};
+ghost use Rattle.buckets.specs.declared.Line.{Line};
+ghost use Rattle.buckets.specs.Inner.Columns.{PlainList};
 ghost use Rattle.cycle.specs.Refusals.{number, refusal};
+ghost use Rattle.cycle.specs.Tree.{layout_number};
+ghost use Rattle.cycle.specs.Inner.HeldOnce.{held};
+ghost use Rattle.cycle.specs.Inner.Held.{plan_of, Ready, AcceptedList, HoldsSegment};
 
 pub mod build;
 pub mod changes;
@@ -140,12 +147,33 @@ pub struct WaitSum {
     pub sum: u64,
 }
 
+// The layouts: 1 sends each segment's tree with the path to it, 2 the whole tree before each part of the data buckets.
+#[derive(Clone, Copy, Debug, PartialEq, Eq)]
+pub enum Layout {
+    Distributed = 1,
+    OneM = 2,
+}
+
+impl Layout {
+    // The layout with a number that is within its range: the one place in which the number becomes a layout.
+    fn of(number: u64) -> Layout
+        requires { (1 ≤ number) × (number ≤ 2) }
+        ensures { layout_number result ≡ number }
+    {
+        if number == 1 {
+            Layout::Distributed
+        } else {
+            Layout::OneM
+        }
+    }
+}
+
 // Settings, a list's number of lines, and what follows from them. A height counts levels above the data buckets.
 #[derive(Clone, Copy)]
 pub struct Figures {
     pub n: u64,
     pub p: u64,
-    pub layout: u64,
+    pub layout: Layout,
     pub copies: u64,
     pub lines: u64,
     // data buckets
@@ -160,6 +188,24 @@ pub struct Figures {
     pub full: u64,
     // the index buckets of the last segment's tree
     pub last: u64,
+}
+
+// The figures of a cycle that can be sent.
+#[derive(Clone, Copy)]
+struct Cycle {
+    f: Figures,
+    ghost ready: { Ready f },
+}
+
+// A list that can be sent, with the figures of its cycle; and whether it is known to have no leading zeros: no Option, since the list is
+// there either way, and so in `Sender` and `Printer`, which have it from here.
+#[derive(Clone, Copy)]
+struct Accepted<'a> {
+    list: &'a [u8],
+    plain: bool,
+    cycle: Cycle,
+    ghost sending: { AcceptedList cycle.f list.now },
+    ghost no_zeros: { plain ≡ true → PlainList list.now },
 }
 
 // A segment of the cycle: its path, its tree and its data buckets, and where they stand.
@@ -181,6 +227,14 @@ pub struct Segment {
     pub last: u64,
     // the position behind it
     pub end: u64,
+}
+
+// A segment with the cycle that it is one of.
+#[derive(Clone, Copy)]
+struct Part {
+    cycle: Cycle,
+    s: Segment,
+    ghost placed: { (ls : List Line) → HoldsSegment (plan_of cycle.f ls) s } by { Prim.hlevel held },
 }
 
 // Where lines stand: in a list, or in the data buckets of an image.

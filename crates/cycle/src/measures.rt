@@ -1,9 +1,9 @@
 // The figures of a tree and of its cycle: data buckets, levels, subtrees, paths and N.
-ghost use Rattle.std.specs.Prelude.{◌≡◌, true, [], ◌+◌, ◌*◌, ◌^◌, ◌≤◌, ◌<◌, min, length};
+ghost use Rattle.std.specs.Prelude.{◌≡◌, true, false, [], ◌+◌, ◌*◌, ◌^◌, ◌≤◌, ◌<◌, min, length, MatchOption};
 ghost use Rattle.columns.specs.Lists;
 ghost use Rattle.columns.specs.Lists.{joined, range};
 ghost use Rattle.buckets.specs.Lengths.{lines_most, entries_most};
-ghost use Rattle.cycle.specs.Tree.{levels_most, levels};
+ghost use Rattle.cycle.specs.Tree.{layout_number, levels_most, levels};
 ghost use Rattle.cycle.specs.Layouts.{path};
 ghost use Rattle.cycle.specs.Cycle.{cycle_size};
 ghost use Rattle.cycle.specs.Refusals.{first_refusal, outcome};
@@ -12,11 +12,11 @@ ghost use Rattle.cycle.specs.Judging.{size_conditions, full_size, tree_at, tree_
 ghost use Rattle.cycle.specs.Inner.Held.{plan_of, span_most, Shaped, InTree, Trees, sized};
 ghost use Rattle.cycle.specs.Inner.Settings.{SettingsFit, Figured};
 
-use super::{Figures, Reason, Refusal, Settings};
+use super::{Cycle, Figures, Layout, Reason, Refusal, Settings};
 use buckets::Bucket;
 use columns;
 
-// a divided by b, rounded up. The library's method under a name that contracts cite; so is `lesser`.
+// a divided by b, rounded up: the library's method, in the definitions' word `up`.
 pub fn up(a: u64, b: u64) -> u64
     requires { (1 ≤ b) × (a + b ≤ 2 ^ 60) }
     ensures { result ≡ Lists.up a b }
@@ -37,7 +37,7 @@ fn levels_of(n: u64, d: u64) -> u64
     ensures { result ≡ levels n d }
 {
     let mut k = 1;
-    // Stays a `while`: it ends by the power, and a search over a range would work each power out anew.
+    // a `while`: it ends by the power
     let mut power = n;
     while power < d {
         power *= n;
@@ -94,7 +94,7 @@ pub fn figures_of(settings: Settings, lines: u64) -> Figures
     Figures {
         n,
         p,
-        layout,
+        layout: Layout::of(layout),
         copies,
         lines,
         d,
@@ -109,145 +109,173 @@ pub fn figures_of(settings: Settings, lines: u64) -> Figures
 // Whether copies is within its range.
 // Compiled once, since the header promises how much code there is.
 #[inline(never)]
-pub fn copies_fit(f: Figures) -> bool
-    requires { Shaped f }
-    ensures { result ≡ copies_fit (plan_of f []) }
+fn copies_fit(f: &Figures) -> bool
+    requires { Shaped f.now }
+    ensures { result ≡ copies_fit (plan_of f.now []) }
 {
-    if f.layout == 1 {
-        if (Bucket::PAIRS_MOST as u64) < f.copies {
-            return false;
+    match f.layout {
+        Layout::Distributed => f.copies <= Bucket::PAIRS_MOST as u64 && f.copies < f.k,
+        Layout::OneM => 1 <= f.copies && f.copies <= f.d.max(1),
+    }
+}
+
+// Figures of settings within their ranges, with copies within its own.
+#[derive(Clone, Copy)]
+pub struct Fitted<'a> {
+    f: &'a Figures,
+    ghost shaped: { Shaped f.now },
+    ghost copies_in: { copies_fit (plan_of f.now []) ≡ true },
+}
+
+impl<'a> Fitted<'a> {
+    // Figures held against condition 5: none where copies is out of its range.
+    pub fn new(f: &'a Figures) -> Option<Fitted<'a>>
+        requires { Shaped f.now }
+        ensures { MatchOption result (copies_fit (plan_of f.now []) ≡ false) (λ fitted. fitted.f.now ≡ f.now) }
+    {
+        if !copies_fit(f) {
+            return None;
         }
-        return f.copies < f.k;
+        Some(Fitted { f })
     }
-    if f.copies < 1 {
-        return false;
+
+    // The index buckets of the subtree of bucket j of height e, which is the last of its height and not full.
+    fn last_tree_size(&self, e: usize, j: u64) -> u64
+        requires { (1 ≤ e) × InTree self.now.f.now e j × (self.now.f.now.d ≤ (j + 1) * self.now.f.now.n ^ e) }
+        ensures { result ≡ length (tree_at (plan_of self.now.f.now []) e j) }
+    {
+        let f = self.f;
+        if f.d == 0 {
+            return 1;
+        }
+        let mut sum = 0;
+        for h in 1..e + 1 {
+            sum += up(f.d, power(f.n, h)) - j * power(f.n, e - h);
+        }
+        sum
     }
-    if f.d == 0 {
-        return f.copies == 1;
+
+    // The index buckets of the subtree of bucket j of height e.
+    #[tactic(auto, using(crate::proofs::Trees::Readiness::reached))]
+    fn tree_size(&self, e: usize, j: u64) -> u64
+        requires { (1 ≤ e) × InTree self.now.f.now e j }
+        ensures { result ≡ length (tree_at (plan_of self.now.f.now []) e j) }
+    {
+        let f = self.f;
+        if (j + 1) * power(f.n, e) <= f.d {
+            return full_size(f.n, e);
+        }
+        self.last_tree_size(e, j)
     }
-    f.copies <= f.d
+
+    // The path buckets that layout 1 sends before segment b.
+    pub fn paths_before(&self, b: u64) -> u64
+        requires { (layout_number self.now.f.now.layout ≡ 1) × (b ≤ lines_most) }
+        ensures { result ≡ length (joined (path (plan_of self.now.f.now [])) (range 0 b)) }
+    {
+        // copied: behind the reference the loop takes more instructions, seven more a line of the mean wait with 2 1 1 4
+        let f = *self.f;
+        // a number, and not none: no path buckets are sent
+        if f.copies == 0 {
+            return 0;
+        }
+        let mut count = b;
+        let mut sum = b;
+        for _ in 1..f.copies {
+            count = up(count, f.n);
+            sum += count;
+        }
+        sum
+    }
+
+    // The height of a segment's tree.
+    #[tactic(auto, unfolding(crate::specs::Inner::Held::plan_of))]
+    fn tree_height(&self) -> usize
+        ensures { result ≡ tree_height (plan_of self.now.f.now []) }
+    {
+        let f = self.f;
+        match f.layout {
+            Layout::Distributed => (f.k - f.copies) as usize,
+            Layout::OneM => f.k as usize,
+        }
+    }
+
+    // The place of the last segment's tree, `span` data buckets under each full one.
+    #[tactic(auto, using(crate::proofs::Sequences::PathSizes::up_none, crate::proofs::Sequences::PathSizes::last_part, crate::proofs::Trees::Readiness::data_high), unfolding(crate::specs::Judging::last_place))]
+    fn last_root(&self, span: u64) -> u64
+        requires { (1 ≤ span) × (span ≤ span_most) }
+        ensures { result ≡ last_place self.now.f.now.d span }
+    {
+        let f = self.f;
+        // a place, and not none: the only tree
+        if f.d == 0 {
+            return 0;
+        }
+        up(f.d, span) - 1
+    }
+
+    // The figures with those of a segment's tree.
+    fn with_trees(&self) -> Figures
+        ensures { result ≡ sized self.now.f.now self.now.f.now.size }
+    {
+        let f = self.f;
+        let e = self.tree_height();
+        let span = power(f.n, e);
+        let full = full_size(f.n, e);
+        let last = self.tree_size(e, self.last_root(span));
+        Figures {
+            span,
+            full,
+            last,
+            ..*f
+        }
+    }
+
+    // N in layout 1, of figures with those of a segment's tree.
+    fn distributed_size(&self) -> u64
+        requires { (layout_number self.now.f.now.layout ≡ 1) × Trees self.now.f.now }
+        ensures { result ≡ cycle_size (plan_of self.now.f.now []) }
+    {
+        let f = self.f;
+        if f.d == 0 {
+            return 1;
+        }
+        let count = up(f.d, f.span);
+        f.d + self.paths_before(count) + (count - 1) * f.full + f.last
+    }
+
+    // N in layout 2, of figures with those of a segment's tree.
+    fn one_m_size(&self) -> u64
+        requires { (layout_number self.now.f.now.layout ≡ 2) × Trees self.now.f.now }
+        ensures { result ≡ cycle_size (plan_of self.now.f.now []) }
+    {
+        let f = self.f;
+        f.d + f.copies * f.last
+    }
+
+    // The figures with those of a segment's tree and with N.
+    #[tactic(auto, unfolding(crate::specs::Inner::Held::plan_of, crate::specs::Inner::Held::sized))]
+    pub fn with_size(&self) -> Figures
+        ensures { result ≡ sized self.now.f.now (cycle_size (plan_of self.now.f.now [])) }
+    {
+        let next = self.with_trees();
+        let fitted = Fitted { f: &next };
+        let size = match next.layout {
+            Layout::Distributed => fitted.distributed_size(),
+            Layout::OneM => fitted.one_m_size(),
+        };
+        Figures { size, ..next }
+    }
 }
 
-// The index buckets of the subtree of bucket j of height e, which is the last of its height and not full.
-fn last_tree_size(f: Figures, e: usize, j: u64) -> u64
-    requires { Shaped f × (1 ≤ e) × InTree f e j × (f.d ≤ (j + 1) * f.n ^ e) }
-    ensures { result ≡ length (tree_at (plan_of f []) e j) }
-{
-    if f.d == 0 {
-        return 1;
+impl Cycle {
+    // Its figures, whose copies is within its range.
+    #[inline]
+    pub fn fitted(&self) -> Fitted<'_>
+        ensures { result.f.now ≡ self.now.f }
+    {
+        Fitted { f: &self.f }
     }
-    let mut sum = 0;
-    for h in 1..e + 1 {
-        sum += up(f.d, power(f.n, h)) - j * power(f.n, e - h);
-    }
-    sum
-}
-
-// The index buckets of the subtree of bucket j of height e.
-#[tactic(auto, using(crate::proofs::Trees::Readiness::reached))]
-fn tree_size(f: Figures, e: usize, j: u64) -> u64
-    requires { Shaped f × (1 ≤ e) × InTree f e j }
-    ensures { result ≡ length (tree_at (plan_of f []) e j) }
-{
-    if (j + 1) * power(f.n, e) <= f.d {
-        return full_size(f.n, e);
-    }
-    last_tree_size(f, e, j)
-}
-
-// The path buckets that layout 1 sends before segment b.
-pub fn paths_before(f: Figures, b: u64) -> u64
-    requires { Shaped f × (f.layout ≡ 1) × (copies_fit (plan_of f []) ≡ true) × (b ≤ lines_most) }
-    ensures { result ≡ length (joined (path (plan_of f [])) (range 0 b)) }
-{
-    // a number, and not none: no path buckets are sent
-    if f.copies == 0 {
-        return 0;
-    }
-    let mut count = b;
-    let mut sum = b;
-    for _ in 1..f.copies {
-        count = up(count, f.n);
-        sum += count;
-    }
-    sum
-}
-
-// The height of a segment's tree.
-#[tactic(auto, unfolding(crate::specs::Inner::Held::plan_of))]
-fn tree_height(f: Figures) -> usize
-    requires { Shaped f × (copies_fit (plan_of f []) ≡ true) }
-    ensures { result ≡ tree_height (plan_of f []) }
-{
-    if f.layout == 1 {
-        return (f.k - f.copies) as usize;
-    }
-    f.k as usize
-}
-
-// The place of the last segment's tree, `span` data buckets under each full one.
-#[tactic(auto, using(crate::proofs::Sequences::PathSizes::up_none, crate::proofs::Sequences::PathSizes::last_part, crate::proofs::Trees::Readiness::data_high), unfolding(crate::specs::Judging::last_place))]
-fn last_root(f: Figures, span: u64) -> u64
-    requires { Shaped f × (1 ≤ span) × (span ≤ span_most) }
-    ensures { result ≡ last_place f.d span }
-{
-    // a place, and not none: the only tree
-    if f.d == 0 {
-        return 0;
-    }
-    up(f.d, span) - 1
-}
-
-// The figures with those of a segment's tree.
-fn with_trees(f: Figures) -> Figures
-    requires { Shaped f × (copies_fit (plan_of f []) ≡ true) }
-    ensures { result ≡ sized f f.size }
-{
-    let e = tree_height(f);
-    let span = power(f.n, e);
-    let full = full_size(f.n, e);
-    let last = tree_size(f, e, last_root(f, span));
-    Figures {
-        span,
-        full,
-        last,
-        ..f
-    }
-}
-
-// N in layout 1.
-fn distributed_size(f: Figures) -> u64
-    requires { Shaped f × (f.layout ≡ 1) × (copies_fit (plan_of f []) ≡ true) × Trees f }
-    ensures { result ≡ cycle_size (plan_of f []) }
-{
-    if f.d == 0 {
-        return 1;
-    }
-    let count = up(f.d, f.span);
-    f.d + paths_before(f, count) + (count - 1) * f.full + f.last
-}
-
-// N in layout 2.
-fn one_m_size(f: Figures) -> u64
-    requires { Shaped f × (f.layout ≡ 2) × (copies_fit (plan_of f []) ≡ true) × Trees f }
-    ensures { result ≡ cycle_size (plan_of f []) }
-{
-    f.d + f.copies * f.last
-}
-
-// The figures with those of a segment's tree and with N.
-#[tactic(auto, unfolding(crate::specs::Inner::Held::plan_of, crate::specs::Inner::Held::sized))]
-pub fn with_size(f: Figures) -> Figures
-    requires { Shaped f × (copies_fit (plan_of f []) ≡ true) }
-    ensures { result ≡ sized f (cycle_size (plan_of f [])) }
-{
-    let next = with_trees(f);
-    if f.layout == 1 {
-        let size = distributed_size(next);
-        return Figures { size, ..next };
-    }
-    let size = one_m_size(next);
-    Figures { size, ..next }
 }
 
 // Conditions 5 and 6 of figures, which look at no list; and the figures with N.
@@ -255,10 +283,10 @@ pub fn judge_figures(f: Figures) -> Result<Figures, Refusal>
     requires { Shaped f }
     ensures { result ≡ outcome (first_refusal (size_conditions (plan_of f []))) (sized f (cycle_size (plan_of f []))) }
 {
-    if !copies_fit(f) {
+    let Some(fitted) = Fitted::new(&f) else {
         return Err(Refusal::from(Reason::CopiesOut));
-    }
-    let sized = with_size(f);
+    };
+    let sized = fitted.with_size();
     if Bucket::BUCKETS_MOST < sized.size {
         return Err(Refusal::from(Reason::CycleTooLong));
     }

@@ -2,13 +2,14 @@
 ghost use Rattle.std.specs.Prelude.{◌≡◌, List, [], ◌+◌, ◌-◌, ◌*◌, ◌≤◌, ◌<◌, length};
 ghost use Rattle.columns.specs.Lists.{joined, range};
 ghost use Rattle.buckets.specs.declared.Line.{Line};
+ghost use Rattle.cycle.specs.Tree.{layout_number};
 ghost use Rattle.cycle.specs.Layouts.{path_top, distributed_segment, whole_segment};
 ghost use Rattle.cycle.specs.Waits.{segment_start};
 ghost use Rattle.cycle.specs.Judging.{tree_at};
-ghost use Rattle.cycle.specs.Inner.Held.{plan_of, Ready, HoldsSegment, segment_count, DataPlace};
+ghost use Rattle.cycle.specs.Inner.Held.{plan_of, HoldsSegment, segment_count, DataPlace};
 
-use super::measures::{lesser, paths_before, up};
-use super::{Figures, Segment};
+use super::measures::{lesser, up};
+use super::{Cycle, Layout, Part, Segment};
 
 impl Segment {
     // The position of its data bucket q.
@@ -21,136 +22,136 @@ impl Segment {
     }
 }
 
-// How many segments there are.
-#[tactic(auto, using(crate::proofs::Segmenting::SegmentSizes::count_wholes, crate::proofs::Trees::Readiness::block, crate::proofs::Trees::Readiness::block_trees), unfolding(crate::specs::Inner::Held::plan_of))]
-pub fn segment_count(f: Figures) -> u64
-    requires { Ready f }
-    ensures { result ≡ segment_count (plan_of f []) }
-{
-    if f.layout == 1 {
-        if f.d == 0 {
+impl Cycle {
+    // How many segments there are.
+    #[tactic(auto, using(crate::proofs::Segmenting::SegmentSizes::count_wholes), unfolding(crate::specs::Inner::Held::plan_of))]
+    pub fn segment_count(&self) -> u64
+        ensures { result ≡ segment_count (plan_of self.now.f []) }
+    {
+        match self.f.layout {
+            Layout::Distributed => up(self.f.d, self.f.span).max(1),
+            Layout::OneM => self.f.copies,
+        }
+    }
+
+    // The level on which the path before bucket b of level r + 1 begins.
+    pub fn path_top(&self, b: u64) -> u64
+        requires { layout_number self.now.f.layout ≡ 1 }
+        ensures { result ≡ path_top self.now.f.n self.now.f.copies b }
+    {
+        if b == 0 {
             return 1;
         }
-        return up(f.d, f.span);
-    }
-    f.copies
-}
-
-// The level on which the path before bucket b of level r + 1 begins.
-pub fn path_top(f: Figures, b: u64) -> u64
-    requires { Ready f × (f.layout ≡ 1) }
-    ensures { result ≡ path_top f.n f.copies b }
-{
-    if b == 0 {
-        return 1;
-    }
-    let mut place = b;
-    for level in (2..f.copies + 1).rev() {
-        if place % f.n != 0 {
-            return level;
+        let mut place = b;
+        for level in (2..self.f.copies + 1).rev() {
+            if place % self.f.n != 0 {
+                return level;
+            }
+            place /= self.f.n;
         }
-        place /= f.n;
+        1
     }
-    1
-}
 
-// The position of segment b of layout 1.
-pub fn distributed_start(f: Figures, b: u64) -> u64
-    requires { Ready f × (f.layout ≡ 1) × (b < segment_count (plan_of f [])) }
-    ensures { result ≡ length (joined (distributed_segment (plan_of f [])) (range 0 b)) }
-{
-    b * (f.span + f.full) + paths_before(f, b)
-}
-
-// The position of part i of layout 2.
-fn whole_start(f: Figures, i: u64) -> u64
-    requires { Ready f × (f.layout ≡ 2) × (i < f.copies) }
-    ensures { result ≡ length (joined (whole_segment (plan_of f [])) (range 0 i)) }
-{
-    i * f.last + i * f.d / f.copies
-}
-
-// The position where the segment of data bucket q starts.
-#[tactic(auto, using(crate::proofs::Reach::DataHeld::part_product, crate::proofs::Reach::DataHeld::data_in_part, crate::proofs::Waiting::SegmentStarts::start_in_part))]
-pub fn segment_start(f: Figures, q: u64) -> u64
-    requires { Ready f × (q < f.d) }
-    ensures { result ≡ segment_start (plan_of f []) q }
-{
-    if f.layout == 1 {
-        return distributed_start(f, q / f.span);
+    // The position of segment b of layout 1.
+    pub fn distributed_start(&self, b: u64) -> u64
+        requires { (layout_number self.now.f.layout ≡ 1) × (b < segment_count (plan_of self.now.f [])) }
+        ensures { result ≡ length (joined (distributed_segment (plan_of self.now.f [])) (range 0 b)) }
+    {
+        b * (self.f.span + self.f.full) + self.fitted().paths_before(b)
     }
-    whole_start(f, ((q + 1) * f.copies - 1) / f.d)
-}
 
-// The index buckets of the tree of segment b of layout 1.
-pub fn segment_tree(f: Figures, b: u64) -> u64
-    requires { Ready f × (f.layout ≡ 1) × (b < segment_count (plan_of f [])) }
-    ensures { result ≡ length (tree_at (plan_of f []) (f.k - f.copies) b) }
-{
-    if (b + 1) * f.span <= f.d {
-        return f.full;
+    // The position of part i of layout 2.
+    fn whole_start(&self, i: u64) -> u64
+        requires { (layout_number self.now.f.layout ≡ 2) × (i < self.now.f.copies) }
+        ensures { result ≡ length (joined (whole_segment (plan_of self.now.f [])) (range 0 i)) }
+    {
+        i * self.f.last + i * self.f.d / self.f.copies
     }
-    f.last
-}
 
-// Segment b of layout 1.
-fn distributed_segment(f: Figures, b: u64) -> Segment
-    requires { Ready f × (f.layout ≡ 1) × (b < segment_count (plan_of f [])) }
-    ensures { ((ls : List Line) → HoldsSegment (plan_of f ls) result) × (result.number ≡ b) }
-{
-    let start = distributed_start(f, b);
-    let e = (f.k - f.copies) as usize;
-    let top = path_top(f, b);
-    let tree_at = start + (f.copies + 1 - top);
-    let data_at = tree_at + segment_tree(f, b);
-    let first = b * f.span;
-    let last = lesser(f.d, first + f.span);
-    Segment {
-        number: b,
-        start,
-        top,
-        tree_at,
-        height: e,
-        root: b,
-        data_at,
-        first,
-        last,
-        end: data_at + (last - first),
+    // The position where the segment of data bucket q starts.
+    #[tactic(auto, using(crate::proofs::Reach::DataHeld::part_product, crate::proofs::Waiting::SegmentStarts::start_in_part))]
+    pub fn segment_start(&self, q: u64) -> u64
+        requires { q < self.now.f.d }
+        ensures { result ≡ segment_start (plan_of self.now.f []) q }
+    {
+        match self.f.layout {
+            Layout::Distributed => self.distributed_start(q / self.f.span),
+            Layout::OneM => self.whole_start(((q + 1) * self.f.copies - 1) / self.f.d),
+        }
     }
-}
 
-// Part i of layout 2.
-fn whole_segment(f: Figures, i: u64) -> Segment
-    requires { Ready f × (f.layout ≡ 2) × (i < f.copies) }
-    ensures { ((ls : List Line) → HoldsSegment (plan_of f ls) result) × (result.number ≡ i) }
-{
-    let tree = f.last;
-    let first = i * f.d / f.copies;
-    let last = (i + 1) * f.d / f.copies;
-    let start = i * tree + first;
-    let data_at = start + tree;
-    Segment {
-        number: i,
-        start,
-        top: f.copies + 1,
-        tree_at: start,
-        height: f.k as usize,
-        root: 0,
-        data_at,
-        first,
-        last,
-        end: data_at + (last - first),
+    // The index buckets of the tree of segment b of layout 1.
+    pub fn segment_tree(&self, b: u64) -> u64
+        requires { (layout_number self.now.f.layout ≡ 1) × (b < segment_count (plan_of self.now.f [])) }
+        ensures { result ≡ length (tree_at (plan_of self.now.f []) (self.now.f.k - self.now.f.copies) b) }
+    {
+        if (b + 1) * self.f.span <= self.f.d {
+            return self.f.full;
+        }
+        self.f.last
     }
-}
 
-// A segment by its number.
-#[tactic(auto, using(crate::proofs::Segmenting::SegmentSizes::count_wholes), unfolding(crate::specs::Inner::Held::plan_of))]
-pub fn segment_of(f: Figures, number: u64) -> Segment
-    requires { Ready f × (number < segment_count (plan_of f [])) }
-    ensures { ((ls : List Line) → HoldsSegment (plan_of f ls) result) × (result.number ≡ number) }
-{
-    if f.layout == 1 {
-        return distributed_segment(f, number);
+    // Segment b of layout 1.
+    fn distributed_segment(&self, b: u64) -> Segment
+        requires { (layout_number self.now.f.layout ≡ 1) × (b < segment_count (plan_of self.now.f [])) }
+        ensures { ((ls : List Line) → HoldsSegment (plan_of self.now.f ls) result) × (result.number ≡ b) }
+    {
+        let start = self.distributed_start(b);
+        let e = (self.f.k - self.f.copies) as usize;
+        let top = self.path_top(b);
+        let tree_at = start + (self.f.copies + 1 - top);
+        let data_at = tree_at + self.segment_tree(b);
+        let first = b * self.f.span;
+        let last = lesser(self.f.d, first + self.f.span);
+        Segment {
+            number: b,
+            start,
+            top,
+            tree_at,
+            height: e,
+            root: b,
+            data_at,
+            first,
+            last,
+            end: data_at + (last - first),
+        }
     }
-    whole_segment(f, number)
+
+    // Part i of layout 2.
+    fn whole_segment(&self, i: u64) -> Segment
+        requires { (layout_number self.now.f.layout ≡ 2) × (i < self.now.f.copies) }
+        ensures { ((ls : List Line) → HoldsSegment (plan_of self.now.f ls) result) × (result.number ≡ i) }
+    {
+        let tree = self.f.last;
+        let first = i * self.f.d / self.f.copies;
+        let last = (i + 1) * self.f.d / self.f.copies;
+        let start = i * tree + first;
+        let data_at = start + tree;
+        Segment {
+            number: i,
+            start,
+            top: self.f.copies + 1,
+            tree_at: start,
+            height: self.f.k as usize,
+            root: 0,
+            data_at,
+            first,
+            last,
+            end: data_at + (last - first),
+        }
+    }
+
+    // A segment by its number. The two `for` and two `all` that go over all of them count: a struct with an `impl Iterator` would be
+    // longer than these lines.
+    #[tactic(auto, using(crate::proofs::Segmenting::SegmentSizes::count_wholes), unfolding(crate::specs::Inner::Held::plan_of))]
+    pub fn part(&self, number: u64) -> Part
+        requires { number < segment_count (plan_of self.now.f []) }
+        ensures { (result.cycle.f ≡ self.now.f) × (result.s.number ≡ number) }
+    {
+        let s = match self.f.layout {
+            Layout::Distributed => self.distributed_segment(number),
+            Layout::OneM => self.whole_segment(number),
+        };
+        Part { cycle: *self, s }
+    }
 }

@@ -41,7 +41,8 @@ impl Image<'_> {
         self.hear((h.x + d) % self.count, h.step.listener)
     }
 
-    // The run from bucket t on to its end, of a listener started with the tag. No steps are counted: 10 ends it.
+    // The run from bucket t on to its end, of a listener started with the tag. A loop: it ends by what is heard, and counts no index
+    // and no steps, since 10 ends it.
     pub fn hear_to_end(&self, tag: u64, t: u64) -> Result<Ran, Refusal>
         requires { t < self.now.count }
         ensures { RanFrom self.now.bytes.now self.now.count tag t result }

@@ -44,7 +44,8 @@ pub struct Listener {
     elapsed: u64,
 }
 
-// A listener's answer to one bucket: doze by a distance, found, absent, refused for a reason, which has its number.
+// A listener's answer to one bucket: doze by a distance, found, absent, refused for a reason, which has its number. No Option or
+// Result: these four are the form that the yard's contract names.
 #[derive(Clone, Copy)]
 pub enum Answer {
     Doze(u64),

@@ -28,7 +28,7 @@ impl Image<'_> {
         );
     }
 
-    // The run again from a bucket heard on, which finds, and writes the lines.
+    // The run again from a bucket heard on, which finds, and writes the lines. A loop: it ends by what is heard, and counts no index.
     fn write_found(&self, from: Heard, out: &mut [u8])
         requires was_heard { WasHeard self.now.bytes.now self.now.count from }
         requires found_within { FoundWithin (run_on self.now.bytes.now self.now.count from []) (length out.old) }

@@ -3,7 +3,7 @@ ghost use Rattle.std.specs.Prelude.{◌≡◌, List, ℕ, ◌+◌, ◌≤◌, le
 ghost use Rattle.std.specs.Option.{option_map};
 ghost use Rattle.buckets.specs.Lengths.{buckets_most, bucket_lines_most};
 ghost use Rattle.buckets.specs.Bucket.{Body, index_body, data_body, read_bucket};
-ghost use Rattle.buckets.specs.Inner.Held.{bucket_with, reading_of};
+ghost use Rattle.buckets.specs.Inner.Held.{bucket_with, reading_of, reading_with};
 ghost use Rattle.listener.specs.Listener.{start, is_ended, is_index, stopped, ended, stepped, refused, refused_ended};
 ghost use Rattle.listener.specs.Listener.{heard_with, elapsed_with, due_at, awaited, due_with, passed_with, dozing, dozes, decided, index_choice, data_choice};
 ghost use Rattle.listener.specs.Listener.{heed, heed_read, step, starts_over, lost, step_numbers};
@@ -11,7 +11,7 @@ ghost use Rattle.listener.specs.declared.Answer.TheVariants.{Doze};
 ghost use Rattle.listener.specs.Inner.OnReading.{is_tune_in, SoundHead, Near, WasRead, tagged_lines};
 
 use super::{Answer, Listener, Phase, Stepped, choose};
-use buckets::{Bucket, Contents, Entry, Head, Line, Pair, Reading, reader};
+use buckets::{Bucket, Entry, Frame, Head, Items, Kind, Line, Pair, reader};
 use cycle::Reason;
 
 // Where a listener's counts stop.
@@ -25,14 +25,14 @@ fn count_on(count: u64, more: u64) -> u64
     count.saturating_add(more).min(COUNT_MOST)
 }
 
-// Whether the tune-in bucket is awaited.
+// Whether the tune-in bucket is awaited. One test, by `matches!`: a `==` for phases would be no plainer.
 fn is_tune_in(phase: Phase) -> bool
     ensures { result ≡ is_tune_in phase }
 {
     matches!(phase, Phase::TuneIn)
 }
 
-// Whether nothing is awaited any more.
+// Whether nothing is awaited any more. One test, as above.
 fn is_ended(phase: Phase) -> bool
     ensures { result ≡ is_ended phase }
 {
@@ -133,32 +133,33 @@ impl Listener {
             count,
         }
     }
+}
 
+// A listener at a well printed bucket, which has this head.
+#[derive(Clone, Copy)]
+struct At {
+    listener: Listener,
+    head: Head,
+    ghost sound: { SoundHead head },
+}
+
+impl At {
     // Doze by d to the bucket at position `due`, awaiting one of the kind named, with the cycle starts passed by then.
     #[tactic(auto, unfolding(buckets::specs::Inner::Held::bucket_with, buckets::specs::Bucket::cycle_length, crate::specs::Listener::stepped, crate::specs::Listener::dozing))]
-    fn dozing(
-        self,
-        h: Head,
-        due: u64,
-        passed: u64,
-        d: u64,
-        awaits: Phase,
-        first: u64,
-        count: u64,
-    ) -> Stepped
-        requires { SoundHead h }
-        ensures { (body : Body) → due_with (bucket_with h body) d ≡ due → passed_with self (bucket_with h body) d ≡ passed →
-            result ≡ stepped (dozing self (bucket_with h body) d awaits) (Doze d) first count }
+    fn dozing(self, due: u64, passed: u64, d: u64, awaits: Phase, first: u64, count: u64) -> Stepped
+        ensures { (body : Body) → due_with (bucket_with self.head body) d ≡ due →
+            passed_with self.listener (bucket_with self.head body) d ≡ passed →
+            result ≡ stepped (dozing self.listener (bucket_with self.head body) d awaits) (Doze d) first count }
     {
         let listener = Listener {
-            tag: self.tag,
+            tag: self.listener.tag,
             phase: awaits,
             due,
-            cycle: h.position + h.to_cycle,
+            cycle: self.head.position + self.head.to_cycle,
             passed,
             doze: d,
-            heard: self.heard_with(),
-            elapsed: self.elapsed_with(),
+            heard: self.listener.heard_with(),
+            elapsed: self.listener.elapsed_with(),
         };
         Stepped {
             listener,
@@ -169,126 +170,134 @@ impl Listener {
     }
 
     // Doze by d, awaiting a bucket of the kind named: in this cycle, or the next cycle's first unless a start was passed before.
-    fn doze_by(self, h: Head, d: u64, awaits: Phase, first: u64, count: u64) -> Stepped
-        requires sound_head { SoundHead h }
-        requires d_le_buckets_most { d ≤ buckets_most }
-        ensures { (body : Body) → result ≡ decided self (bucket_with h body) (dozes d awaits first count) }
+    fn doze_by(self, d: u64, awaits: Phase, first: u64, count: u64) -> Stepped
+        requires { d ≤ buckets_most }
+        ensures { (body : Body) → result ≡ decided self.listener (bucket_with self.head body) (dozes d awaits first count) }
     {
-        if d < h.to_cycle {
-            return self.dozing(h, h.position + d, self.passed, d, awaits, first, count);
+        if d < self.head.to_cycle {
+            return self.dozing(
+                self.head.position + d,
+                self.listener.passed,
+                d,
+                awaits,
+                first,
+                count,
+            );
         }
-        if 1 <= self.passed {
-            return self.refused(Reason::PastNextCycle);
+        if 1 <= self.listener.passed {
+            return self.listener.refused(Reason::PastNextCycle);
         }
-        self.dozing(h, 0, self.passed + 1, d, awaits, first, count)
+        self.dozing(0, self.listener.passed + 1, d, awaits, first, count)
     }
 
     // Whether the position is the one awaited, and N too where no cycle starts there.
     #[tactic(auto, unfolding(buckets::specs::Inner::Held::bucket_with, buckets::specs::Bucket::cycle_length))]
-    fn due_at(self, h: Head) -> bool
-        requires { SoundHead h }
-        ensures { (body : Body) → result ≡ due_at self (bucket_with h body) }
+    fn due_at(self) -> bool
+        ensures { (body : Body) → result ≡ due_at self.listener (bucket_with self.head body) }
     {
-        h.position == self.due && (self.due == 0 || h.position + h.to_cycle == self.cycle)
+        self.head.position == self.listener.due
+            && (self.listener.due == 0
+                || self.head.position + self.head.to_cycle == self.listener.cycle)
     }
 
     // Whether a bucket with this head, of index or data, is as awaited.
     #[tactic(auto, unfolding(buckets::specs::Inner::Held::bucket_with, crate::specs::Listener::awaited))]
-    fn awaits(self, index: bool, h: Head) -> bool
-        requires { SoundHead h }
-        ensures { (body : Body) → is_index body ≡ index → result ≡ awaited self (bucket_with h body) }
+    fn awaits(self, index: bool) -> bool
+        ensures { (body : Body) → is_index body ≡ index → result ≡ awaited self.listener (bucket_with self.head body) }
     {
-        match self.phase {
+        match self.listener.phase {
             Phase::TuneIn => true,
-            Phase::Index => index && self.due_at(h),
-            Phase::Either => self.due_at(h),
-            Phase::Data => !index && self.due_at(h),
+            Phase::Index => index && self.due_at(),
+            Phase::Either => self.due_at(),
+            Phase::Data => !index && self.due_at(),
             Phase::Ended => false,
         }
     }
 
     // An index bucket: the first pair, else a later pair, else an entry, else absent.
-    fn index_step(self, h: Head, pairs: &[Pair], entries: &[Entry]) -> Stepped
-        requires sound_head { SoundHead h }
-        requires near { Near pairs.now entries.now }
+    fn index_step(self, pairs: &[Pair], entries: &[Entry]) -> Stepped
+        requires { Near pairs.now entries.now }
         ensures { result ≡
-            decided self (bucket_with h (index_body pairs.now entries.now)) (index_choice self.tag pairs.now entries.now) }
+            decided self.listener (bucket_with self.head (index_body pairs.now entries.now))
+            (index_choice self.listener.tag pairs.now entries.now) }
     {
-        if let Some(first) = choose::first_pair(self.tag, pairs) {
-            return self.doze_by(h, first, Phase::Index, 0, 0);
+        if let Some(first) = choose::first_pair(self.listener.tag, pairs) {
+            return self.doze_by(first, Phase::Index, 0, 0);
         }
-        if let Some(later) = choose::pair_below(self.tag, pairs) {
-            return self.doze_by(h, later, Phase::Index, 0, 0);
+        if let Some(later) = choose::pair_below(self.listener.tag, pairs) {
+            return self.doze_by(later, Phase::Index, 0, 0);
         }
-        match choose::entry_from(self.tag, entries) {
-            Some(distance) => self.doze_by(h, distance, Phase::Either, 0, 0),
-            None => self.end_by(Answer::Absent, 0, 0),
+        match choose::entry_from(self.listener.tag, entries) {
+            Some(distance) => self.doze_by(distance, Phase::Either, 0, 0),
+            None => self.listener.end_by(Answer::Absent, 0, 0),
         }
     }
 
     // A data bucket: the lines of our tag, and whether the next data bucket may have more.
-    fn data_step(self, h: Head, follow_on: u64, tags: &[u64]) -> Stepped
-        requires sound_head { SoundHead h }
-        requires follow_on_le_buckets_most { (follow_on ≤ buckets_most) × (length tags.now ≤ bucket_lines_most) }
+    fn data_step(self, follow_on: u64, tags: &[u64]) -> Stepped
+        requires { (follow_on ≤ buckets_most) × (length tags.now ≤ bucket_lines_most) }
         ensures { result ≡
-            decided self (bucket_with h (data_body follow_on (tagged_lines tags.now)))
-            (data_choice self.tag follow_on (tagged_lines tags.now)) }
+            decided self.listener (bucket_with self.head (data_body follow_on (tagged_lines tags.now)))
+            (data_choice self.listener.tag follow_on (tagged_lines tags.now)) }
     {
-        let matching = choose::lines_matching(self.tag, tags);
+        let matching = choose::lines_matching(self.listener.tag, tags);
         if matching == 0 {
-            return self.end_by(Answer::Absent, 0, 0);
+            return self.listener.end_by(Answer::Absent, 0, 0);
         }
-        let first = choose::lines_before(self.tag, tags);
-        if follow_on == 0 || tags[tags.len() - 1] != self.tag {
-            return self.end_by(Answer::Found, first, matching);
+        let first = choose::lines_before(self.listener.tag, tags);
+        if follow_on == 0 || tags[tags.len() - 1] != self.listener.tag {
+            return self.listener.end_by(Answer::Found, first, matching);
         }
-        self.doze_by(h, follow_on, Phase::Data, first, matching)
+        self.doze_by(follow_on, Phase::Data, first, matching)
     }
 
     // An index bucket that was read: 9, the tune-in, or its choice.
-    fn take_index(self, h: Head, pairs: &[Pair], entries: &[Entry]) -> Stepped
-        requires sound_head { SoundHead h }
-        requires near { Near pairs.now entries.now }
-        ensures { result ≡ heed self (bucket_with h (index_body pairs.now entries.now)) }
+    fn take_index(self, pairs: &[Pair], entries: &[Entry]) -> Stepped
+        requires { Near pairs.now entries.now }
+        ensures { result ≡ heed self.listener (bucket_with self.head (index_body pairs.now entries.now)) }
     {
-        if !self.awaits(true, h) {
-            return self.refused(Reason::NotAwaited);
+        if !self.awaits(true) {
+            return self.listener.refused(Reason::NotAwaited);
         }
-        if is_tune_in(self.phase) {
-            return self.doze_by(h, h.to_segment, Phase::Index, 0, 0);
+        if is_tune_in(self.listener.phase) {
+            return self.doze_by(self.head.to_segment, Phase::Index, 0, 0);
         }
-        self.index_step(h, pairs, entries)
+        self.index_step(pairs, entries)
     }
 
     // A data bucket that was read: 9, the tune-in, or its choice.
-    fn take_data(self, h: Head, follow_on: u64, tags: &[u64]) -> Stepped
-        requires sound_head { SoundHead h }
-        requires follow_on_le_buckets_most { (follow_on ≤ buckets_most) × (length tags.now ≤ bucket_lines_most) }
-        ensures { result ≡ heed self (bucket_with h (data_body follow_on (tagged_lines tags.now))) }
+    fn take_data(self, follow_on: u64, tags: &[u64]) -> Stepped
+        requires { (follow_on ≤ buckets_most) × (length tags.now ≤ bucket_lines_most) }
+        ensures { result ≡ heed self.listener (bucket_with self.head (data_body follow_on (tagged_lines tags.now))) }
     {
-        if !self.awaits(false, h) {
-            return self.refused(Reason::NotAwaited);
+        if !self.awaits(false) {
+            return self.listener.refused(Reason::NotAwaited);
         }
-        if is_tune_in(self.phase) {
-            return self.doze_by(h, h.to_segment, Phase::Index, 0, 0);
+        if is_tune_in(self.listener.phase) {
+            return self.doze_by(self.head.to_segment, Phase::Index, 0, 0);
         }
-        self.data_step(h, follow_on, tags)
+        self.data_step(follow_on, tags)
     }
+}
 
-    // What was read: 8, or the bucket of its kind. By value: by reference a step with 2 1 1 4 missed its aim (docs/SPEED.md).
-    fn take_reading(self, r: Option<Reading>) -> Stepped
-        requires { WasRead r }
-        ensures { (bytes : List ℕ) → r ≡ option_map reading_of (read_bucket bytes) → result ≡ heed_read self (read_bucket bytes) }
+impl Listener {
+    // What was read, with its items: 8, or the bucket of its kind.
+    fn take_reading(self, frame: Option<Frame>, items: &Items) -> Stepped
+        requires { WasRead (option_map (reading_with items.now) frame) }
+        ensures { (bytes : List ℕ) →
+            option_map (reading_with items.now) frame ≡ option_map reading_of (read_bucket bytes) →
+            result ≡ heed_read self (read_bucket bytes) }
     {
-        let Some(reading) = r else {
+        let Some(frame) = frame else {
             return self.refused(Reason::BucketMisprinted);
         };
-        let head = reading.head;
-        match reading.contents {
-            Contents::Index { pairs, entries } => {
-                self.take_index(head, pairs.as_slice(), entries.as_slice())
-            }
-            Contents::Data { follow_on, tags } => self.take_data(head, follow_on, tags.as_slice()),
+        let at = At {
+            listener: self,
+            head: frame.head,
+        };
+        match frame.kind {
+            Kind::Index => at.take_index(items.pairs.as_slice(), items.entries.as_slice()),
+            Kind::Data { follow_on } => at.take_data(follow_on, items.tags.as_slice()),
         }
     }
 
@@ -313,8 +322,9 @@ impl Listener {
         if is_ended(self.phase) {
             return self.refused_ended();
         }
-        let reading = reader::read_bucket(bucket);
-        self.take_reading(reading)
+        let mut items = Items::new();
+        let frame = reader::read_into(bucket, &mut items);
+        self.take_reading(frame, &items)
     }
 
     // The listener that starts over with the next bucket as its tune-in, its counts running on.

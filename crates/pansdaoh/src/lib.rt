@@ -2,6 +2,7 @@
 // a lookup, a listener whose state is eight numbers that the caller keeps, given a bucket or told of a lost one, and the lines
 // of a bucket.
 // Each takes any input. A lent buffer keeps every byte that the output does not cover, and all of them on a refusal.
+// The settings come as four numbers, as the C interface has them, and become `Settings` in the call.
 #![tactic(auto)]
 
 ghost use Rattle.std.specs.Prelude.{◌≡◌, ℕ, [], ◌∷◌, length};
@@ -189,7 +190,7 @@ impl From<Stepped> for StepAnswer {
     }
 }
 
-// Whether a step's answer is the refusal by 14, which changes nothing.
+// Whether a step's answer is the refusal by 14, which changes nothing. One test, by `matches!`: a `==` for answers would be no plainer.
 fn was_ended(answer: listener::Answer) -> bool
     ensures { result ≡ was_ended answer }
 {

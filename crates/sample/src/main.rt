@@ -17,7 +17,7 @@ const LIST: usize = 4096;
 
 const IMAGE: usize = 65536;
 
-// How many bytes of image an image of count buckets takes.
+// How many bytes an image of count buckets takes at the front of the buffer that it was built in.
 fn image_length(image: &[u8], count: u64) -> usize
     ensures { (result ≤ length image.now) × (result ≡ length (take result image.now)) }
 {
@@ -33,7 +33,7 @@ const SETTINGS: Settings = Settings {
     copies: 1,
 };
 
-// A row of the table.
+// A row of the table. Its four numbers are no settings.
 fn say_row(rt: &impl Print, tune_in: u64, heard: u64, elapsed: u64, lines: u64) -> io::Result<()> {
     println!(rt; "{tune_in:>6}{heard:>6}{elapsed:>6}{lines:>6}")
 }

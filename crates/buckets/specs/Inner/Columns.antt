@@ -3,6 +3,7 @@
 -- Assumes nothing.
 use Rattle.std.specs.Prelude.{ℕ, zero, suc, ◌-◌, ◌*◌, ◌≡◌, ◌&&◌, List, [], ◌∷◌, ◌++◌, leb, eqb, length, take, drop, get_or}
 use Rattle.std.specs.Prelude.{Option, None, Some}
+use Rattle.std.specs.Option.{option_map}
 use Rattle.columns.specs.Lists.{pick, joined, strict}
 use Rattle.columns.specs.PrintedNumbers.{all_blank, read_number, blank_zeros}
 use Rattle.columns.specs.declared.Place.{Place}
@@ -41,6 +42,10 @@ read_line_columns m s =
     (λ c.
     and_then (number_within 0 weighing_most (columns weighing_start weighing_width s))
     (λ w. Some (record { tag = t; tare = k; code = c; weighing = w })))))
+
+-- its tag alone
+abbrev pub read_line_tag : ℕ → List ℕ → Option ℕ
+read_line_tag m s = option_map (λ l. l.tag) (read_line_columns m s)
 
 -- a list line without leading zeros, read as a bucket's are
 unfoldable pub read_plain : List ℕ → Option Line

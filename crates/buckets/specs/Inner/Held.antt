@@ -1,6 +1,6 @@
 -- How the code holds what "A bucket" describes: its structs and enums against those definitions.
 -- Assumes nothing.
-use Rattle.std.specs.Prelude.{◌≡◌, ℕ, ◌+◌, ◌*◌, ◌<◌, List, ◌++◌, map, length, take, drop}
+use Rattle.std.specs.Prelude.{◌≡◌, ℕ, ◌+◌, ◌*◌, ◌<◌, List, [], ◌++◌, map, length, take, drop}
 use Rattle.std.specs.Prelude.{Some}
 use Rattle.arrayvec.specs.ArrayVec.{ArrayVec}
 use Rattle.columns.specs.Lists.{joined, padded}
@@ -10,8 +10,12 @@ use Rattle.buckets.specs.declared.Head.{Head}
 use Rattle.buckets.specs.declared.Contents.{Contents}
 use Rattle.buckets.specs.declared.Contents.TheVariants.{Index, Data}
 use Rattle.buckets.specs.declared.Reading.{Reading}
+use Rattle.buckets.specs.declared.Kind.{Kind}
+use Rattle.buckets.specs.declared.Kind.TheVariants as KindVariants
+use Rattle.buckets.specs.declared.Frame.{Frame}
 use Rattle.buckets.specs.declared.Pair.{Pair}
 use Rattle.buckets.specs.declared.Entry.{Entry}
+use Rattle.buckets.specs.declared.Items.{Items}
 use Rattle.buckets.specs.Bucket.{Body, index_body, data_body, Bucket, head_columns, print_pair}
 use Rattle.buckets.specs.Lengths.{letter_index, place_width, distance_start, entry_width, pairs_width, entries_start, entries_most}
 
@@ -39,6 +43,21 @@ contents_of (data_body f ls) = Data f (tags_held ls)
 
 unfoldable pub reading_of : Bucket → Reading
 reading_of b = record { head = head_of b; contents = contents_of b.body }
+
+abbrev pub frame : Head → Kind → Frame
+frame h k = record { head = h; kind = k }
+
+-- none of any kind
+abbrev pub no_items : Items
+no_items = record { pairs = vector []; entries = vector []; tags = vector [] }
+
+-- the reading whose items stand in those that were lent
+abbrev pub contents_with : Items → Kind → Contents
+contents_with items KindVariants.Index = Index items.pairs items.entries
+contents_with items (KindVariants.Data f) = Data f items.tags
+
+unfoldable pub reading_with : Items → Frame → Reading
+reading_with items f = record { head = f.head; contents = contents_with items f.kind }
 
 -- ---- an index bucket while it is written
 

@@ -16,6 +16,8 @@ use Rattle.cycle.specs.declared.Dimensions.{Dimensions}
 use Rattle.cycle.specs.declared.Counts.{Counts}
 use Rattle.cycle.specs.declared.WaitSum.{WaitSum}
 use Rattle.cycle.proofs.Basics.Numbers.{answer_told}
+use Rattle.cycle.specs.Tree.{layout_number}
+use Rattle.cycle.proofs.Basics.LayoutKinds.{number_told}
 
 pub built_told : (a b : Result ℕ Refusal) → building.numbers a ≡ building.numbers b → a ≡ b
 built_told = answer_told _ (λ n m h. cc)
@@ -31,7 +33,7 @@ judged_told = answer_told _ (λ x y h. figures_told x y (ap (λ (xs : List ℕ).
     figures_told f g h =
         let n : f.n ≡ g.n = cc in
         let p : f.p ≡ g.p = cc in
-        let layout : f.layout ≡ g.layout = cc in
+        let layout : f.layout ≡ g.layout = number_told f.layout g.layout (let number : layout_number f.layout ≡ layout_number g.layout = cc in number) in
         let copies : f.copies ≡ g.copies = cc in
         let lines : f.lines ≡ g.lines = cc in
         let d : f.d ≡ g.d = cc in

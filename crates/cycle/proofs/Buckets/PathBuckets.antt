@@ -18,7 +18,7 @@ use Rattle.columns.specs.Lists.{joined, range}
 use Rattle.buckets.specs.declared.Line.{Line}
 use Rattle.buckets.specs.declared.Pair.{Pair}
 use Rattle.buckets.specs.Lengths.{pairs_most}
-use Rattle.cycle.specs.Tree.{Plan, width, above, largest_tag, levels_most}
+use Rattle.cycle.specs.Tree.{layout_number, Plan, width, above, largest_tag, levels_most}
 use Rattle.cycle.specs.Layouts.{Slot, slot, slots, path_top, distributed_segment}
 use Rattle.cycle.specs.Cycle.{to_next, has_pairs, first_pair, later_pair, pairs}
 use Rattle.cycle.specs.declared.Figures.{Figures}
@@ -94,7 +94,7 @@ module _ {f : Figures} {source : Source} {text : List ℕ} {plain : Bool} {s : S
   abbrev e : ℕ
   e = f.k + 1 - i
 
-  pub path_one : f.layout ≡ 1
+  pub path_one : layout_number f.layout ≡ 1
   path_one = path_layout f s w.ready w.placed i p.from_top p.high
 
   held : Sound t
@@ -154,7 +154,7 @@ module _ {f : Figures} {source : Source} {text : List ℕ} {plain : Bool} {s : S
         inside = subst (InTree f e) (sym over) (over_inside f w.ready path_one i path_low (omega (arith, p.high)) [] b path_block);
         below = omega (arith, sits, before_tree);
         in_tree = λ h.
-            let tall : s.height ≡ f.k - f.copies = place.height_is ∙ rw (eq-eqb f.layout 1 path_one) in
+            let tall : s.height ≡ f.k - f.copies = place.height_is ∙ rw (eq-eqb (layout_number f.layout) 1 path_one) in
             absurd (omega (arith, p.high, path_bounds.1));
         on_path_lem = λ h. path_one;
       }
@@ -198,7 +198,7 @@ module _ {f : Figures} {source : Source} {text : List ℕ} {plain : Bool} {s : S
       ap (λ l. to_next ahead l c) (add-one i)
       ∙ next_path_child t held single b i m from to count c (omega arith)
       ∙ ap₂ (λ n z. ahead_of n y z) (sym size) (first_place_shape f ls [] (suc i) c)
-      ∙ sym (rw (eq-eqb f.layout 1 path_one, lt-ltb (f.k - f.copies) e (omega (arith, p.high, path_bounds.1)), level))
+      ∙ sym (rw (eq-eqb (layout_number f.layout) 1 path_one, lt-ltb (f.k - f.copies) e (omega (arith, p.high, path_bounds.1)), level))
 
   -- pair l, as the code has it
   pair_is : (l : ℕ) → later_held t held single b i m from to count l ≡ path_pair f source text b x l

@@ -17,7 +17,7 @@ use borrow.Author.Tests.{eq-eqb, ne_eqb, lt-leb, le-ltb}
 use Rattle.columns.specs.Lists.{pick, joined, range}
 use Rattle.buckets.specs.declared.Line.{Line}
 use Rattle.buckets.specs.declared.Pair.{Pair}
-use Rattle.cycle.specs.Tree.{Plan, width, children}
+use Rattle.cycle.specs.Tree.{layout_number, Plan, width, children}
 use Rattle.cycle.specs.Layouts.{Slot, slot, slots, subtree}
 use Rattle.cycle.specs.Cycle.{to_next, has_pairs, first_pair, pairs}
 use Rattle.cycle.specs.declared.Figures.{Figures}
@@ -198,7 +198,7 @@ module _ {f : Figures} {source : Source} {text : List ℕ} {plain : Bool} {s : S
       reach
     where
       -- in layout 1, below the copied levels
-      above : f.layout ≡ 1 → f.copies < i
+      above : layout_number f.layout ≡ 1 → f.copies < i
       above one =
-          let tall : s.height ≡ f.k - f.copies = place.height_is ∙ rw (eq-eqb f.layout 1 one) in
+          let tall : s.height ≡ f.k - f.copies = place.height_is ∙ rw (eq-eqb (layout_number f.layout) 1 one) in
           omega (arith, p.high, held.path_fits one)

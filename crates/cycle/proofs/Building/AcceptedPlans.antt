@@ -14,6 +14,7 @@ use Rattle.cycle.specs.Building.{copies_fit}
 use Rattle.cycle.specs.declared.Figures.{Figures}
 use Rattle.cycle.specs.Inner.Held.{plan_of, InRange, Shaped, AcceptedList}
 use Rattle.cycle.proofs.Building.Accepted.{Ranged, Accepted, ranged_accepted}
+use Rattle.cycle.specs.Tree.{layout_number}
 
 -- copies are held against D and k, whatever the lines
 pub copies_shape : (f : Figures) (ls ms : List Line) → copies_fit (plan_of f ls) ≡ copies_fit (plan_of f ms)
@@ -22,7 +23,7 @@ copies_shape f ls ms = refl
 
 pub shaped_ranged : (f : Figures) (ls : List Line) → Shaped f → length ls ≡ f.lines → Ranged (plan_of f ls)
 unfolding plan_of
-shaped_ranged f ls h e = subst (λ c. InRange f.n f.p f.layout c f.d f.k) (sym e) h
+shaped_ranged f ls h e = subst (λ c. InRange f.n f.p (layout_number f.layout) c f.d f.k) (sym e) h
 
 module _ (f : Figures) (list : List ℕ) (s : AcceptedList f list) where
   pub sending_lines : length (list_lines list) ≡ f.lines

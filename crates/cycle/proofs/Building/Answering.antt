@@ -1,7 +1,7 @@
 -- What judging and building answer under each condition, as an equation; and the figures that judging hands out.
 -- Assumes nothing.
-use mathlib.Core.Path.{◌≡◌, refl, sym, ap, ap₂, ◌∙◌, subst}
-use Prim.Native.Nat.{ℕ, ◌+◌, ◌*◌, ◌/◌, ◌%◌, ◌≤◌, ◌<◌}
+use mathlib.Core.Path.{◌≡◌, sym, ap, ap₂, ◌∙◌, subst}
+use Prim.Native.Nat.{ℕ, ◌+◌, ◌*◌, ◌/◌, ◌%◌, ◌^◌, ◌≤◌, ◌<◌}
 use native.Mathlib.Omega.{arith}
 use native.Mathlib.Nat.{div-add-mod'}
 use mathlib.Core.Bool.{true, false, not}
@@ -20,15 +20,17 @@ use Rattle.cycle.specs.Cycle.{cycle_size, image_length, image}
 use Rattle.cycle.specs.Refusals.{refusal, row, first_refusal, outcome}
 use Rattle.cycle.specs.Building as building
 use Rattle.cycle.specs.Building.{settings_fit, copies_fit, line_misprinted, tag_falls, copies_out, cycle_too_long, buffer_too_short, conditions, build}
-use Rattle.cycle.specs.Judging.{figures_of, judge, size_conditions, plan_conditions}
+use Rattle.cycle.specs.Judging.{full_size, tree_height, last_tree, figures_of, judge, size_conditions, plan_conditions}
 use Rattle.cycle.specs.declared.Refusal.{Refusal}
 use Rattle.cycle.specs.declared.Figures.{Figures}
 use Rattle.cycle.specs.declared.Source.TheVariants.{List as InList}
-use Rattle.cycle.specs.Inner.Held.{plan_of, sized, Ready, AcceptedList, plan_in, written}
+use Rattle.cycle.specs.Inner.Held.{plan_of, InRange, sized, Ready, AcceptedList, plan_in, written}
 use Rattle.cycle.specs.declared.Reason.TheVariants.{SettingsOut, LengthOut, CopiesOut, CycleTooLong, BufferTooShort}
 use Rattle.cycle.proofs.Building.Accepted.{Ranged, plan_ranged, whole_lines_lem}
 use Rattle.cycle.proofs.Building.AcceptedPlans.{copies_shape}
 use Rattle.cycle.proofs.Building.AcceptedLists.{size_shape, plan_in_lem, long_in}
+use Rattle.cycle.proofs.Basics.LayoutKinds.{number_named}
+use Rattle.cycle.proofs.Trees.Shapes.{over}
 use Rattle.cycle.proofs.Building.Written.{written_all}
 use Rattle.cycle.proofs.Basics.Conditions.{none_holds, test_fails, none_before, first_stands, refused_by, passed_by}
 use Rattle.cycle.proofs.Building.Outcomes.{none_refused}
@@ -170,15 +172,27 @@ lines_judged s list room f one two h g e =
 
 -- ---- the figures of a list that is built
 
+-- the plan of a plan's figures
+pub same_plan : (t : Plan) → Ranged t → (ls : List Line) → plan_of (figures_of t) ls ≡ over t ls
+unfolding figures_of plan_of
+same_plan t r ls =
+    λ i.
+    record { n = t.n; p = t.p; layout = number_named t.layout r.layout_low r.layout_high i; copies = t.copies; lines = ls; d = t.d; k = t.k }
+
 pub figures_ready : (t : Plan) → Ranged t → copies_fit t ≡ true → cycle_size t ≤ 99999 → Ready (figures_of t)
 unfolding figures_of plan_of
 figures_ready t r fit short =
     let f : Figures = figures_of t in
     record {
-      shaped = r;
-      trees = record { span_is = refl; full_is = refl; last_is_lem = last_shape f t.lines [] };
-      copies_fit_lem = copies_shape f [] t.lines ∙ fit;
-      size_is = size_shape f t.lines [];
+      shaped = subst (λ m. InRange t.n t.p m (length t.lines) t.d t.k) (sym (number_named t.layout r.layout_low r.layout_high)) r;
+      trees =
+          record {
+            span_is = ap (λ u. t.n ^ tree_height u) (sym (same_plan t r []));
+            full_is = ap (λ u. full_size t.n (tree_height u)) (sym (same_plan t r []));
+            last_is_lem = ap last_tree (sym (same_plan t r t.lines)) ∙ last_shape f t.lines [];
+          };
+      copies_fit_lem = copies_shape f [] t.lines ∙ ap copies_fit (same_plan t r t.lines) ∙ fit;
+      size_is = ap cycle_size (sym (same_plan t r t.lines)) ∙ size_shape f t.lines [];
       size_high = short;
     }
 
@@ -197,6 +211,13 @@ module _ (s : Settings) (list : List ℕ) (room : ℕ) (none_of : first_refusal 
         rising = a.order;
       }
 
+  -- the plan of these figures
+  pub figures_plan : plan_of (figures_of (plan s (list_lines list))) (list_lines list) ≡ plan s (list_lines list)
+  unfolding plan
+  figures_plan =
+      let a = none_refused s list room none_of in
+      same_plan (plan s (list_lines list)) (plan_ranged s list a.settings a.whole) (list_lines list)
+
   pub figures_fit : 240 * (figures_of (plan s (list_lines list))).size ≤ room
   unfolding figures_of
   figures_fit = (none_refused s list room none_of).roomy
@@ -214,7 +235,7 @@ module _ (s : Settings) (list : List ℕ) (room : ℕ) (none_of : first_refusal 
       let built = ap (λ o. building.outcome o t) none_of in (
         sym (ap (λ o. o.answer) built),
         written_all (plan_in f InList list) f.size (long_in f list figures_sending) d (omega (arith, figures_fit, e))
-            ∙ ap (λ u. onto (image u) d) (plan_in_lem f list figures_sending)
+            ∙ ap (λ u. onto (image u) d) (plan_in_lem f list figures_sending ∙ figures_plan)
             ∙ sym (ap (λ o. onto o.output d) built),
       )
 

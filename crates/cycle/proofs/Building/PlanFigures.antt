@@ -1,6 +1,7 @@
 -- Figures and plans: the plan of settings and lines is that of their figures, and figures with their size are those of the plan.
 -- Assumes nothing.
-use mathlib.Core.Path.{◌≡◌, refl, sym, ap, ap₂, ◌∙◌}
+use mathlib.Core.Path.{◌≡◌, refl, sym, ap, ap₂, subst, ◌∙◌}
+use mathlib.Core.Bool.{true}
 use Prim.Native.Nat.{ℕ, ◌^◌}
 use mathlib.Core.List.{List, []}
 use lib.ListN.{length}
@@ -11,9 +12,12 @@ use Rattle.cycle.specs.declared.Settings.{Settings}
 use Rattle.cycle.specs.Cycle.{cycle_size}
 use Rattle.cycle.specs.Judging.{figures_of}
 use Rattle.cycle.specs.declared.Figures.{Figures}
+use Rattle.cycle.specs.declared.measures.Fitted.{Fitted}
+use Rattle.cycle.specs.Building.{copies_fit}
 use Rattle.cycle.specs.Judging.{full_size, tree_height, last_place, last_tree}
 use Rattle.cycle.specs.Inner.Held.{plan_of, sized}
 use Rattle.cycle.specs.Inner.Settings.{Figured}
+use Rattle.cycle.proofs.Basics.LayoutKinds.{kind_named}
 use Rattle.cycle.proofs.Trees.Shapes.{tree_at_shape}
 use Rattle.cycle.proofs.Building.AcceptedLists.{size_shape}
 
@@ -35,6 +39,15 @@ pub size_held : (f : Figures) (m : ℕ) → (sized f m).size ≡ m
 unfolding sized
 size_held f m = refl
 
+-- figures that were held against condition 5, and passed
+module _ (fitted : Fitted) {f : Figures} (same : fitted.f.now ≡ f) where
+  pub copies_passed : copies_fit (plan_of f []) ≡ true
+  copies_passed = subst (λ g. copies_fit (plan_of g []) ≡ true) same fitted.copies_in
+
+  -- and those with their size
+  pub sized_of : {g : Figures} → g ≡ sized fitted.f.now (cycle_size (plan_of fitted.f.now [])) → g ≡ sized f (cycle_size (plan_of f []))
+  sized_of e = e ∙ ap (λ h. sized h (cycle_size (plan_of h []))) same
+
 -- the last segment's tree does not look at the lines
 pub last_shape : (f : Figures) (ls ms : List Line) → last_tree (plan_of f ls) ≡ last_tree (plan_of f ms)
 unfolding last_tree plan_of
@@ -51,7 +64,7 @@ sized_figures f ls e =
     record {
       n = f.n;
       p = f.p;
-      layout = f.layout;
+      layout = sym (kind_named f.layout) i;
       copies = f.copies;
       lines = e i;
       d = f.d;

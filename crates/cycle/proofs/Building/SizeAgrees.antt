@@ -19,15 +19,12 @@ use Rattle.cycle.specs.declared.Settings.{Settings}
 use Rattle.cycle.specs.Cycle.{cycle_size, image_length}
 use Rattle.cycle.specs.Building as building
 use Rattle.cycle.specs.Building.{settings_fit, copies_fit, build}
-use Rattle.cycle.specs.Judging.{figures_of}
 use Rattle.cycle.specs.Size.{conditions, heard_most, dimensions, numbers, size, Listed, built, EverySize}
 use Rattle.cycle.specs.declared.Dimensions.{Dimensions}
 use Rattle.cycle.specs.declared.Refusal.{Refusal}
-use Rattle.cycle.specs.Inner.Held.{plan_of}
 use Rattle.cycle.specs.declared.Reason.TheVariants.{SettingsOut, LengthOut, LineMisprinted, TagFalls, CopiesOut, CycleTooLong, BufferTooShort}
 use Rattle.cycle.proofs.Basics.Conditions.{passed_by}
-use Rattle.cycle.proofs.Building.AcceptedPlans.{copies_shape}
-use Rattle.cycle.proofs.Building.AcceptedLists.{size_shape}
+use Rattle.cycle.proofs.Trees.Shapes.{slots_over}
 use Rattle.cycle.proofs.Building.BuiltImage.{length_image}
 use Rattle.cycle.proofs.Building.Outcomes.{accepted, answered}
 
@@ -79,12 +76,12 @@ module _ (s : Settings) (lines : ℕ) (list : List ℕ) (l : Listed lines list) 
       rw (eq-eqb (length list % line_length) 0 rest, count)
 
   copies_alike : copies_fit u ≡ copies_fit t
-  unfolding figures_of plan_of
-  copies_alike = ap copies_fit planned ∙ copies_shape (figures_of t) (list_lines list) []
+  unfolding copies_fit
+  copies_alike = ap copies_fit planned
 
   size_alike : cycle_size u ≡ cycle_size t
-  unfolding figures_of plan_of
-  size_alike = ap cycle_size planned ∙ size_shape (figures_of t) (list_lines list) []
+  unfolding cycle_size
+  size_alike = ap cycle_size planned ∙ ap length (slots_over t (list_lines list) [])
 
   module _ (room : ℕ) where
     unfoldable sizing : Option Refusal

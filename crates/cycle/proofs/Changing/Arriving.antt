@@ -1,6 +1,7 @@
 -- A line that arrives in a list, both having passed 1 to 4: what each of the steps of a change comes to.
 -- Assumes nothing.
 use Rattle.std.proofs.Common.{◌≡◌, ℕ, suc, ◌+◌, ◌*◌, ◌≤◌, Bool, true, List, [], None, Some, Ok, Err, length, take, sym, ap, ◌∙◌, subst, arith, add-one}
+use Rattle.std.specs.Prelude.{Result}
 use Rattle.buckets.specs.Lengths.{line_length, lines_most, bucket_length}
 use Rattle.buckets.specs.ListLine.{spelled, taken, list_lines}
 use Rattle.buckets.specs.Inner.Columns.{read_plain, PlainList}
@@ -62,11 +63,13 @@ module _ (s : Settings) (buffer : List ℕ) (lines : ℕ) (given : List ℕ) (ro
 
     -- the figures are judged as the changed list is
     pub judged :
-        (f : Figures) → Figured s f → f.lines ≡ lines + 1 →
-        answer_by (first_refusal (plan_conditions (plan_of f []) room)) (sized f (cycle_size (plan_of f [])))
-        ≡ judge s (arrival buffer lines given).list room
-    judged f g e =
-        figures_judged s (arrival buffer lines given).list room (suc lines) known.settings few_suc listed f g (e ∙ add-one lines)
+        (f : Figures) → Figured s f × (f.lines ≡ lines + 1) → (r : Result Figures Refusal) →
+        r ≡ answer_by (first_refusal (plan_conditions (plan_of f []) room)) (sized f (cycle_size (plan_of f []))) →
+        judge s (arrival buffer lines given).list room ≡ r
+    judged f g r e =
+        sym
+        (e
+        ∙ figures_judged s (arrival buffer lines given).list room (suc lines) known.settings few_suc listed f g.0 (g.1 ∙ add-one lines))
 
     pub refused :
         (r : Refusal) (out : List ℕ) → judge s (arrival buffer lines given).list room ≡ Err r →

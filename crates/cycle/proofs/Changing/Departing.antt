@@ -1,6 +1,7 @@
 -- A line that is taken out of a list, both having passed 1 to 4: what each of the steps of a change comes to.
 -- Assumes nothing.
 use Rattle.std.proofs.Common.{◌≡◌, ℕ, ◌+◌, ◌-◌, ◌*◌, ◌≤◌, ◌<◌, Bool, true, List, [], None, Some, Ok, Err, length, take, refl, sym, ap, ◌∙◌, subst, arith}
+use Rattle.std.specs.Prelude.{Result}
 use Rattle.buckets.specs.Lengths.{line_length, lines_most, bucket_length}
 use Rattle.buckets.specs.ListLine.{spelled, cut_lines, list_lines}
 use Rattle.buckets.specs.Inner.Columns.{PlainList}
@@ -71,10 +72,11 @@ module _ (s : Settings) (buffer : List ℕ) (lines : ℕ) (given : List ℕ) (ro
 
     -- the figures are judged as the changed list is
     pub judged :
-        (f : Figures) → Figured s f → f.lines ≡ lines - 1 →
-        answer_by (first_refusal (plan_conditions (plan_of f []) room)) (sized f (cycle_size (plan_of f [])))
-        ≡ judge s (departure buffer lines given).list room
-    judged f g e = figures_judged s (departure buffer lines given).list room (lines - 1) known.settings few listed f g e
+        (f : Figures) → Figured s f × (f.lines ≡ lines - 1) → (r : Result Figures Refusal) →
+        r ≡ answer_by (first_refusal (plan_conditions (plan_of f []) room)) (sized f (cycle_size (plan_of f []))) →
+        judge s (departure buffer lines given).list room ≡ r
+    judged f g r e =
+        sym (e ∙ figures_judged s (departure buffer lines given).list room (lines - 1) known.settings few listed f g.0 g.1)
 
     pub refused :
         (r : Refusal) (out : List ℕ) → judge s (departure buffer lines given).list room ≡ Err r →

@@ -9,7 +9,7 @@ use native.Mathlib.Omega.{arith}
 use mathlib.Core.List.{[]}
 use lib.ListN.{length}
 use Rattle.buckets.specs.Lengths.{lines_most}
-use Rattle.cycle.specs.Tree.{Plan}
+use Rattle.cycle.specs.Tree.{layout_number, Plan}
 use Rattle.cycle.specs.Layouts.{path, path_top}
 use Rattle.cycle.specs.declared.Figures.{Figures}
 use Rattle.cycle.specs.Judging.{full_size, tree_at}
@@ -39,7 +39,7 @@ module _ (f : Figures) (q : ℕ) (ready : Ready f) (inside : q < f.d) where
         + climbs f.n f.copies (b + 1)
     pub ends : first_place (plan_of f []) (f.k + 1) q < f.size
 
-  pub data_in_block : f.layout ≡ 1 → InBlock (q / f.n ^ (f.k - f.copies))
+  pub data_in_block : layout_number f.layout ≡ 1 → InBlock (q / f.n ^ (f.k - f.copies))
   unfolding plan_of
   data_in_block one =
       let t : Plan = plan_of f [] in
@@ -78,13 +78,13 @@ module _ (f : Figures) (q : ℕ) (ready : Ready f) (inside : q < f.d) where
 
   -- the product that is divided for i
   pub part_product :
-      (f.layout ≡ 1 → ⊥) → (1 ≤ (q + 1) * f.copies) × ((q + 1) * f.copies ≤ lines_most * lines_most)
+      (layout_number f.layout ≡ 1 → ⊥) → (1 ≤ (q + 1) * f.copies) × ((q + 1) * f.copies ≤ lines_most * lines_most)
   part_product other =
       let p : Parts f = parts f ready.shaped other ready.copies_fit_lem in
       let low : 1 * 1 ≤ (q + 1) * f.copies = mul-le-mul {n₁ = 1} {m₁ = 1} (omega arith) p.parted in
       (omega arith, mul-le-mul {n₂ = lines_most} {m₂ = lines_most} (omega (arith, p.some)) p.few)
 
-  pub data_in_part : (f.layout ≡ 1 → ⊥) → InPart (((q + 1) * f.copies - 1) / f.d)
+  pub data_in_part : (layout_number f.layout ≡ 1 → ⊥) → InPart (((q + 1) * f.copies - 1) / f.d)
   unfolding plan_of
   data_in_part other =
       let t : Plan = plan_of f [] in
@@ -114,4 +114,4 @@ module _ (f : Figures) (q : ℕ) (ready : Ready f) (inside : q < f.d) where
 
   -- within the cycle, in either layout
   pub data_ends : first_place (plan_of f []) (f.k + 1) q < f.size
-  data_ends = elim (ℕ_discrete f.layout 1) [ yes one ↦ (data_in_block one).ends | no other ↦ (data_in_part other).ends ]
+  data_ends = elim (ℕ_discrete (layout_number f.layout) 1) [ yes one ↦ (data_in_block one).ends | no other ↦ (data_in_part other).ends ]

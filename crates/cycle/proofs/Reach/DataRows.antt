@@ -17,6 +17,7 @@ use Rattle.cycle.proofs.Trees.Readiness.{block}
 use Rattle.cycle.proofs.Reach.DataHeld.{InBlock, data_in_block}
 use Rattle.cycle.proofs.Segmenting.SegmentParts.{seated, data_there}
 use Rattle.cycle.proofs.ReadingBack.BucketsCompared.{data_here}
+use Rattle.cycle.specs.Tree.{layout_number}
 
 -- the bucket of height h + 1 above child i of bucket j
 over : (n h j i : ℕ) → i < n → (j * n + i) / n ^ suc h ≡ j / n ^ h
@@ -25,7 +26,7 @@ over n h j i l =
     ∙ sym (div-div-eq-div-mul (j * n + i) n (n ^ h))
     ∙ ap (λ c. c / n ^ h) (digits_div j {m = n} {r = i} l)
 
-module _ (f : Figures) (ready : Ready f) (one : f.layout ≡ 1) (j i : ℕ) (among : i < f.n) (inside : j * f.n + i < f.d) where
+module _ (f : Figures) (ready : Ready f) (one : layout_number f.layout ≡ 1) (j i : ℕ) (among : i < f.n) (inside : j * f.n + i < f.d) where
   same_block : (j * f.n + i) / f.n ^ (f.k - f.copies) ≡ j * f.n / f.n ^ (f.k - f.copies)
   same_block =
       let tall : f.k - f.copies ≡ suc (f.k - f.copies - 1) = omega (arith, (block f ready.shaped one ready.copies_fit_lem).fits) in
@@ -49,7 +50,7 @@ pub record Row (f : Figures) (s : Segment) (j : ℕ) : Type 0 where
   pub inside : s.data_at + (j * f.n - s.first) ≤ buckets_most
 
 pub row_room :
-    (f : Figures) (s : Segment) → Ready f → ((ls : List Line) → HoldsSegment (plan_of f ls) s) → f.layout ≡ 1 → 1 ≤ f.d → (j : ℕ) → InTree f 1 j → Under f s 1 j →
+    (f : Figures) (s : Segment) → Ready f → ((ls : List Line) → HoldsSegment (plan_of f ls) s) → layout_number f.layout ≡ 1 → 1 ≤ f.d → (j : ℕ) → InTree f 1 j → Under f s 1 j →
     Row f s j
 unfolding plan_of InTree
 row_room f s ready placed one some j inside under =

@@ -9,7 +9,7 @@ use mathlib.Core.List.{[]}
 use lib.ListN.{length}
 use Rattle.columns.specs.Lists.{joined, span}
 use Rattle.buckets.specs.Lengths.{lines_most, pairs_most, buckets_most}
-use Rattle.cycle.specs.Tree.{Plan, width}
+use Rattle.cycle.specs.Tree.{layout_number, Plan, width}
 use Rattle.cycle.specs.Layouts.{path_top, distributed_segment}
 use Rattle.cycle.specs.declared.Figures.{Figures}
 use Rattle.cycle.specs.Cycle.{first_place}
@@ -31,7 +31,7 @@ pub record First (f : Figures) (level j b : ℕ) : Type 0 where
   pub is : first_place (plan_of f []) level j ≡ block_at f b + (level - path_top f.n f.copies b)
 
 pub first_held :
-    (f : Figures) (level j : ℕ) → Ready f → f.layout ≡ 1 → 1 ≤ level → level ≤ f.copies + 1 → InTree f (f.k + 1 - level) j →
+    (f : Figures) (level j : ℕ) → Ready f → layout_number f.layout ≡ 1 → 1 ≤ level → level ≤ f.copies + 1 → InTree f (f.k + 1 - level) j →
     First f level j (j * f.n ^ (f.copies + 1 - level))
 unfolding plan_of InTree
 first_held f level j ready one low high inside =

@@ -10,7 +10,7 @@ use lib.Pow.{pow-add}
 use Rattle.columns.specs.Lists.{up, joined, span}
 use Rattle.buckets.specs.declared.Line.{Line}
 use Rattle.buckets.specs.Lengths.{pairs_most}
-use Rattle.cycle.specs.Tree.{Plan, width, above, levels_most}
+use Rattle.cycle.specs.Tree.{layout_number, Plan, width, above, levels_most}
 use Rattle.cycle.specs.Layouts.{path_top, distributed_segment}
 use Rattle.cycle.specs.declared.Figures.{Figures}
 use Rattle.cycle.specs.Inner.Held.{plan_of, Ready, InTree, place_over, OnPath}
@@ -33,7 +33,7 @@ path_inside {t} {b} p = subst (λ c. b < c) (count_of t p.distributed) p.inside
 
 -- ---- under figures
 
-module _ (f : Figures) (ready : Ready f) (one : f.layout ≡ 1) where
+module _ (f : Figures) (ready : Ready f) (one : layout_number f.layout ≡ 1) where
   pub pos : 0 < f.n
   pos = omega (arith, ready.shaped.n_low)
 

@@ -16,7 +16,7 @@ use Rattle.buckets.specs.Bucket.{print_bucket, read_bucket, good, follow_on}
 use Rattle.std.specs.Option.{option_map}
 use Rattle.buckets.specs.Inner.Held.{head_of, reading_of}
 use Rattle.buckets.specs.Lengths.{tag_width, bucket_length, lines_start, buckets_most}
-use Rattle.cycle.specs.Tree.{Plan, above, children, last_tag, first_tag}
+use Rattle.cycle.specs.Tree.{layout_number, Plan, above, children, last_tag, first_tag}
 use Rattle.cycle.specs.Layouts.{slot}
 use Rattle.cycle.specs.Cycle.{cycle_size, bucket_at}
 use Rattle.cycle.specs.declared.Figures.{Figures}
@@ -39,6 +39,11 @@ use Rattle.cycle.proofs.Trees.Readiness.{sound}
 use Rattle.cycle.proofs.Segmenting.SegmentData.{sent_by, sent_behind, first_sent, sent_all}
 use Rattle.cycle.proofs.ReadingBack.MatchingBuilt.{held_accepted}
 use Rattle.cycle.proofs.Building.AcceptedLists.{size_shape}
+
+-- what holds of some figures and bytes holds of their equals
+pub moved :
+    {f g : Figures} {a b : List ℕ} → g ≡ f → a ≡ b → (P : Figures → List ℕ → Type 0) → P g a → P f b
+moved {f} {g} {a} {b} figures bytes P p = subst (P f) bytes (subst (λ h. P h a) figures p)
 
 module _ (f : Figures) (bytes : List ℕ) (s : Segment) (w : Comparing f bytes s) where
   pub ready_in : Ready f
@@ -195,7 +200,7 @@ module _ (f : Figures) (bytes : List ℕ) (s : Segment) (k : Checking f bytes s)
     path_below_size : x < f.size
     path_below_size = omega (arith, seats f bytes s k.comparing, path_below f bytes s k.comparing i low high)
 
-    one : f.layout ≡ 1
+    one : layout_number f.layout ≡ 1
     one = path_layout f s k.comparing.holding.ready k.comparing.placed i low high
 
     path_here :

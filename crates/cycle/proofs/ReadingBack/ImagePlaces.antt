@@ -21,6 +21,7 @@ use Rattle.cycle.proofs.Lines.FollowOns.{full_lines}
 use Rattle.cycle.proofs.Segmenting.SegmentParts.{seated, data_there}
 use Rattle.cycle.proofs.Segmenting.TreePlaces.{data_in}
 use Rattle.cycle.proofs.ReadingBack.BucketsCompared.{data_here}
+use Rattle.cycle.specs.Tree.{layout_number}
 
 one_less : (r : ℕ) → r ≡ r + 1 - 1
 one_less r = omega arith
@@ -82,7 +83,7 @@ pub record Room (f : Figures) (s : Segment) (q : ℕ) : Type 0 where
   pub inside : s.data_at + (q - s.first) ≤ buckets_most
   pub all_lines : f.lines ≤ lines_most
 
-module _ (f : Figures) (s : Segment) (ready : Ready f) (placed : (ls : List Line) → HoldsSegment (plan_of f ls) s) (one : f.layout ≡ 1)
+module _ (f : Figures) (s : Segment) (ready : Ready f) (placed : (ls : List Line) → HoldsSegment (plan_of f ls) s) (one : layout_number f.layout ≡ 1)
     (some : 1 ≤ f.d) (e j : ℕ) (inside : InTree f e j) (under : Under f s e j) where
   abbrev behind : ℕ
   behind = (j + 1) * f.n ^ e

@@ -2,7 +2,7 @@
 -- Assumes nothing.
 use mathlib.Core.Path.{◌≡◌, sym, ap, ap₂, ◌∙◌}
 use mathlib.Core.Logic.{⊎_elim}
-use Prim.Native.Nat.{ℕ, ◌+◌, ◌-◌, ◌*◌, ◌≤◌, ◌<◌, min}
+use Prim.Native.Nat.{ℕ, zero, suc, ◌+◌, ◌-◌, ◌*◌, ◌≤◌, ◌<◌, min, max}
 use native.Mathlib.Nat.{zero-mul, suc-mul, mul-le-mul_right, eq-or-lt_of_le}
 use native.Mathlib.Numerals.{add-one}
 use native.Mathlib.Omega.{arith}
@@ -30,6 +30,11 @@ unfoldable pub text_to : Figures → List ℕ → ℕ → List ℕ
 text_to f bytes x = list_text f bytes 0 (min f.lines (sent_by (plan_of f []) x * f.p))
 
 module _ (f : Figures) (bytes : List ℕ) (w : Holding f bytes) where
+  -- the lines before a data bucket
+  pub lines_before_lem : (q : ℕ) → q < max 1 f.d → q * f.p ≤ f.lines
+  lines_before_lem zero h = rw (zero-mul f.p) (omega arith)
+  lines_before_lem (suc q) h = let l = full_lines f w.ready.shaped (suc q) (omega arith) in omega arith
+
   -- ---- the data buckets of a segment, whose first line is a
 
   pub bucket_more :
@@ -92,7 +97,7 @@ module _ (f : Figures) (bytes : List ℕ) (w : Holding f bytes) where
       (λ (h : s.first < s.last).
       let first : sent_by t s.start ≡ s.first = sym (first_sent t fine s p h) in
       let last : s.last ≡ sent_by t s.end = omega (arith, sent, first) in
-      let within : a < f.lines = full_lines f w.ready.shaped s.first (omega (arith, p.last_in)) in
+      let within : a ≤ f.lines = lines_before_lem s.first p.first_in in
       let grows : a ≤ s.last * f.p = mul-le-mul_right f.p (omega arith) in
       let own : min f.lines a ≡ a = omega arith in
       let long : length (list_text f bytes 0 a) ≡ line_length * (a - 0) = length_text f bytes w 0 a (omega arith) (omega arith) in

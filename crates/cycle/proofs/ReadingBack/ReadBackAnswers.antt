@@ -13,7 +13,7 @@ use Rattle.columns.specs.Lists.{joined, put, onto}
 use Rattle.columns.proofs.Strict.{and_false}
 use Rattle.buckets.specs.ListLine.{print_line, list_lines, blanked_list}
 use Rattle.buckets.proofs.Lists.{length_printed, printed_stays}
-use Rattle.cycle.specs.Tree.{settings}
+use Rattle.cycle.specs.Tree.{layout_number, settings}
 use Rattle.cycle.specs.declared.Settings.{Settings}
 use Rattle.cycle.specs.Cycle.{cycle_size}
 use Rattle.cycle.specs.Building.{copies_fit, settings_fit}
@@ -38,7 +38,7 @@ use Rattle.cycle.proofs.ReadingBack.Demand2.{every_read_back}
 
 -- ---- conditions 1 and 11
 
-pub shaped_fits : (f : Figures) → Shaped f → settings_fit (settings f.n f.p f.layout f.copies) ≡ true
+pub shaped_fits : (f : Figures) → Shaped f → settings_fit (settings f.n f.p (layout_number f.layout) f.copies) ≡ true
 unfolding settings_fit
 shaped_fits f h =
     rw (
@@ -46,8 +46,8 @@ shaped_fits f h =
       le-leb f.n 8 h.n_high,
       le-leb 1 f.p h.p_low,
       le-leb f.p 8 h.p_high,
-      le-leb 1 f.layout h.layout_low,
-      le-leb f.layout 2 h.layout_high,
+      le-leb 1 (layout_number f.layout) h.layout_low,
+      le-leb (layout_number f.layout) 2 h.layout_high,
     )
 
 module _ (c : ℕ) where
@@ -135,7 +135,7 @@ module _ (s : Settings) (f : Figures) (bytes : List ℕ) (fit : settings_fit s �
 
 -- what is known of figures with their size
 pub record Sized (f g : Figures) : Type 0 where
-  pub figured : Figured (settings f.n f.p f.layout f.copies) g
+  pub figured : Figured (settings f.n f.p (layout_number f.layout) f.copies) g
   pub trees : Trees g
   pub size_is : g.size ≡ cycle_size (plan_of g [])
   pub same_size : g.size ≡ cycle_size (plan_of f [])

@@ -13,7 +13,7 @@ use borrow.Author.Tests.{eq-eqb}
 use Rattle.columns.specs.Lists.{pick, joined, range}
 use Rattle.buckets.specs.declared.Line.{Line}
 use Rattle.buckets.specs.Lengths.{buckets_most}
-use Rattle.cycle.specs.Tree.{Plan}
+use Rattle.cycle.specs.Tree.{layout_number, Plan}
 use Rattle.cycle.specs.Layouts.{Slot, path, path_top, distributed_segment, whole_segment}
 use Rattle.cycle.specs.declared.Figures.{Figures}
 use Rattle.cycle.specs.declared.Segment.{Segment}
@@ -47,7 +47,7 @@ block_slots t one = λ x b. pick_first (eqb t.layout 1) (distributed_segment t b
 abbrev pub block_at : Figures → ℕ → ℕ
 block_at f b = length (joined (distributed_segment (plan_of f [])) (range 0 b))
 
-module _ (f : Figures) (b : ℕ) (ready : Ready f) (one : f.layout ≡ 1) (inside : b < segment_count (plan_of f [])) where
+module _ (f : Figures) (b : ℕ) (ready : Ready f) (one : layout_number f.layout ≡ 1) (inside : b < segment_count (plan_of f [])) where
   pub block_laid :
       (ls : List Line) →
       SegmentAt (plan_of f ls) (block_at f b) (path (plan_of f ls) b) (tree_at (plan_of f ls) (f.k - f.copies) b) (b * f.n ^ (f.k - f.copies))
@@ -136,7 +136,7 @@ module _ (f : Figures) (b : ℕ) (ready : Ready f) (one : f.layout ≡ 1) (insid
       let grows = block_grows in
       let begins = block_first in
       placed t s l (ap (λ x. start + x) way) (ap (λ x. start + (f.copies + 1 - top) + x) tree') refl (omega arith) (λ z. top_is)
-      (λ other. absurd (other one)) (λ z. refl) (omega (arith, k.fits)) (omega arith) (rw (eq-eqb f.layout 1 one))
+      (λ other. absurd (other one)) (λ z. refl) (omega (arith, k.fits)) (omega arith) (rw (eq-eqb (layout_number f.layout) 1 one))
       (at ∙ ap (λ (g : ℕ → List Slot). length (joined g (range 0 b))) (sym (block_slots t one)))
       ((let all : start + (f.copies + 1 - top) + tree + (last - first) ≡ length (joined (distributed_segment t) (range 0 (suc b))) = omega arith in
       all)

@@ -13,7 +13,7 @@ use borrow.Author.Tests.{ne_eqb}
 use Rattle.columns.specs.Lists.{pick, joined, range}
 use Rattle.buckets.specs.declared.Line.{Line}
 use Rattle.buckets.specs.Lengths.{buckets_most}
-use Rattle.cycle.specs.Tree.{Plan}
+use Rattle.cycle.specs.Tree.{layout_number, Plan}
 use Rattle.cycle.specs.Layouts.{Slot, distributed_segment, whole_segment}
 use Rattle.cycle.specs.declared.Figures.{Figures}
 use Rattle.cycle.specs.declared.Segment.{Segment}
@@ -45,7 +45,7 @@ whole_tree f = length (tree_at (plan_of f []) f.k 0)
 abbrev pub part_from : Figures → ℕ → ℕ
 part_from f i = i * f.d / f.copies
 
-module _ (f : Figures) (i : ℕ) (ready : Ready f) (other : f.layout ≡ 1 → ⊥) (inside : i < f.copies) where
+module _ (f : Figures) (i : ℕ) (ready : Ready f) (other : layout_number f.layout ≡ 1 → ⊥) (inside : i < f.copies) where
   pub part_first : part_from f i < max 1 f.d
   part_first =
       (div-lt_iff_lt-mul {k = f.copies} {x = i * f.d} {y = max 1 f.d} (omega arith)).1
@@ -131,7 +131,7 @@ module _ (f : Figures) (i : ℕ) (ready : Ready f) (other : f.layout ≡ 1 → �
       let own = length_whole t some i in
       placed t s l (sym (ap (λ xs. start + length xs) (no_path_of t i other) ∙ add-zero start)) (ap (λ x. start + x) tree') refl
       (omega arith) (λ one. absurd (other one)) (λ z. refl) (λ one. absurd (other one)) (levels_are f ready.shaped).low (omega arith)
-      (rw (ne_eqb f.layout 1 other))
+      (rw (ne_eqb (layout_number f.layout) 1 other))
       (at ∙ ap (λ (g : ℕ → List Slot). length (joined g (range 0 i))) (sym (whole_slots t other)))
       ((let all : start + tree + (last - part_from f i) ≡ length (joined (whole_segment t) (range 0 (suc i))) = omega arith in all)
       ∙ ap (λ (g : ℕ → List Slot). length (joined g (range 0 (suc i)))) (sym (whole_slots t other)))

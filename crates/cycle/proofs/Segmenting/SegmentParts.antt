@@ -13,7 +13,7 @@ use Rattle.columns.specs.Lists.{joined, range}
 use Rattle.columns.proofs.Joined.{joined_append}
 use Rattle.buckets.specs.declared.Line.{Line}
 use Rattle.buckets.specs.Lengths.{pairs_most, buckets_most}
-use Rattle.cycle.specs.Tree.{Plan, above}
+use Rattle.cycle.specs.Tree.{layout_number, Plan, above}
 use Rattle.cycle.specs.Layouts.{Slot, slot, sent, path, path_top, slots}
 use Rattle.cycle.specs.Cycle.{cycle_size}
 use Rattle.cycle.specs.declared.Figures.{Figures}
@@ -117,7 +117,7 @@ module _ (f : Figures) (s : Segment) (ready : Ready f) (placed : (ls : List Line
 
   -- ---- the path
 
-  distributed_path : f.layout ≡ 1 → s.tree_at ≡ s.start + (f.copies + 1 - s.top)
+  distributed_path : layout_number f.layout ≡ 1 → s.tree_at ≡ s.start + (f.copies + 1 - s.top)
   unfolding plan_of
   distributed_path one =
       let p = placed [] in
@@ -125,7 +125,7 @@ module _ (f : Figures) (s : Segment) (ready : Ready f) (placed : (ls : List Line
       ap length (path_of_lem (plan_of f []) s.number one) ∙ length_path (plan_of f []) s.number in
       omega (arith, p.path_length, long, p.top_is one)
 
-  no_path : (f.layout ≡ 1 → ⊥) → (s.tree_at ≡ s.start) × (s.top ≡ f.copies + 1)
+  no_path : (layout_number f.layout ≡ 1 → ⊥) → (s.tree_at ≡ s.start) × (s.top ≡ f.copies + 1)
   unfolding plan_of
   no_path other =
       let p = placed [] in
@@ -133,23 +133,23 @@ module _ (f : Figures) (s : Segment) (ready : Ready f) (placed : (ls : List Line
       (omega (arith, p.path_length, long), p.no_path other)
 
   pub path_size : s.tree_at ≡ s.start + (f.copies + 1 - s.top)
-  path_size = go (eqb f.layout 1) refl
+  path_size = go (eqb (layout_number f.layout) 1) refl
     where
-      go : (b : Bool) → eqb f.layout 1 ≡ b → s.tree_at ≡ s.start + (f.copies + 1 - s.top)
-      go true e = distributed_path (eqb-true f.layout 1 e)
-      go false e = let none = no_path (eqb-false f.layout 1 e) in omega (arith, none)
+      go : (b : Bool) → eqb (layout_number f.layout) 1 ≡ b → s.tree_at ≡ s.start + (f.copies + 1 - s.top)
+      go true e = distributed_path (eqb-true (layout_number f.layout) 1 e)
+      go false e = let none = no_path (eqb-false (layout_number f.layout) 1 e) in omega (arith, none)
 
   -- only layout 1 has path buckets
-  pub path_layout : (i : ℕ) → s.top ≤ i → i ≤ f.copies → f.layout ≡ 1
-  path_layout i low high = go (eqb f.layout 1) refl
+  pub path_layout : (i : ℕ) → s.top ≤ i → i ≤ f.copies → layout_number f.layout ≡ 1
+  path_layout i low high = go (eqb (layout_number f.layout) 1) refl
     where
-      go : (b : Bool) → eqb f.layout 1 ≡ b → f.layout ≡ 1
-      go true e = eqb-true f.layout 1 e
-      go false e = let none = no_path (eqb-false f.layout 1 e) in absurd (omega (arith, none))
+      go : (b : Bool) → eqb (layout_number f.layout) 1 ≡ b → layout_number f.layout ≡ 1
+      go true e = eqb-true (layout_number f.layout) 1 e
+      go false e = let none = no_path (eqb-false (layout_number f.layout) 1 e) in absurd (omega (arith, none))
 
   -- the path bucket of level i
   pub path_there :
-      (ls : List Line) (i : ℕ) → f.layout ≡ 1 → s.top ≤ i → i ≤ f.copies →
+      (ls : List Line) (i : ℕ) → layout_number f.layout ≡ 1 → s.top ≤ i → i ≤ f.copies →
       StandsAt (plan_of f ls) (s.start + (i - s.top))
       (slot i (above f.n (f.copies + 1 - i) s.number) ∷ map (λ l. slot l (above f.n (f.copies + 1 - l) s.number)) (range (suc i) (f.copies + 1)))
   unfolding path_of path plan_of
@@ -158,13 +158,13 @@ module _ (f : Figures) (s : Segment) (ready : Ready f) (placed : (ls : List Line
       let g : ℕ → Slot = λ l. slot l (above f.n (f.copies + 1 - l) s.number) in
       let top : path_top f.n f.copies s.number ≡ s.top = sym (p.top_is one) in
       let all : StandsAt (plan_of f ls) s.start (map g (range s.top (f.copies + 1))) =
-      rw (eq-eqb f.layout 1 one, top) at p.path_stands in
+      rw (eq-eqb (layout_number f.layout) 1 one, top) at p.path_stands in
       stand_row g s.top (f.copies + 1) i low (omega arith) all
 
-  pub path_high : f.layout ≡ 1 → f.copies ≤ f.k
+  pub path_high : layout_number f.layout ≡ 1 → f.copies ≤ f.k
   unfolding plan_of
   path_high one = omega (arith, (copies_fit_lem (plan_of f []) ready.copies_fit_lem).paths_fit one)
 
-  pub path_few : f.layout ≡ 1 → f.copies ≤ pairs_most
+  pub path_few : layout_number f.layout ≡ 1 → f.copies ≤ pairs_most
   unfolding plan_of
   path_few one = (copies_fit_lem (plan_of f []) ready.copies_fit_lem).few_paths one

@@ -16,7 +16,7 @@ use Rattle.columns.specs.Lists.{up}
 use Rattle.columns.proofs.Strict.{both}
 use Rattle.buckets.specs.declared.Line.{Line}
 use Rattle.buckets.specs.Lengths.{lines_most, pairs_most}
-use Rattle.cycle.specs.Tree.{Plan, levels_most}
+use Rattle.cycle.specs.Tree.{layout_number, Plan, levels_most}
 use Rattle.cycle.specs.Building.{copies_fit}
 use Rattle.cycle.specs.declared.Figures.{Figures}
 use Rattle.cycle.specs.Judging.{full_size, tree_at, tree_height, last_place, last_tree}
@@ -101,9 +101,9 @@ pub tree_height_lem : (f : Figures) → Shaped f → copies_fit (plan_of f []) �
 unfolding plan_of
 tree_height_lem f s fit =
     let l = levels_are f s in
-    elim (ℕ_discrete f.layout 1) [
-      | yes one ↦ rw (eq-eqb f.layout 1 one) (let c = path_facts (plan_of f []) fit one in (omega (arith, l.low, c.1), omega arith))
-      | no other ↦ rw (ne_eqb f.layout 1 other) (l.low, omega arith)
+    elim (ℕ_discrete (layout_number f.layout) 1) [
+      | yes one ↦ rw (eq-eqb (layout_number f.layout) 1 one) (let c = path_facts (plan_of f []) fit one in (omega (arith, l.low, c.1), omega arith))
+      | no other ↦ rw (ne_eqb (layout_number f.layout) 1 other) (l.low, omega arith)
     ]
 
 -- ---- the last tree
@@ -181,7 +181,7 @@ pub record Block (f : Figures) : Type 0 where
   pub power_high : f.n ^ (f.k - f.copies) ≤ span_most
   pub full_high : full_size f.n (f.k - f.copies) ≤ span_most
 
-pub block : (f : Figures) → Shaped f → f.layout ≡ 1 → copies_fit (plan_of f []) ≡ true → Block f
+pub block : (f : Figures) → Shaped f → layout_number f.layout ≡ 1 → copies_fit (plan_of f []) ≡ true → Block f
 unfolding plan_of
 block f s one fit =
     let e : ℕ = f.k - f.copies in
@@ -206,10 +206,10 @@ pub record BlockTrees (f : Figures) : Type 0 where
   pub full : f.full ≡ full_size f.n (f.k - f.copies)
   pub last : (b : ℕ) → b * f.n ^ (f.k - f.copies) < max 1 f.d → f.d ≤ suc b * f.n ^ (f.k - f.copies) → f.last ≡ length (tree_at (plan_of f []) (f.k - f.copies) b)
 
-pub block_trees : (f : Figures) → Shaped f → Trees f → f.layout ≡ 1 → BlockTrees f
+pub block_trees : (f : Figures) → Shaped f → Trees f → layout_number f.layout ≡ 1 → BlockTrees f
 unfolding plan_of last_tree
 block_trees f s t one =
-    let height : tree_height (plan_of f []) ≡ f.k - f.copies = rw (eq-eqb f.layout 1 one) in
+    let height : tree_height (plan_of f []) ≡ f.k - f.copies = rw (eq-eqb (layout_number f.layout) 1 one) in
     let m : ℕ = f.n ^ (f.k - f.copies) in
     record {
       span = t.span_is ∙ ap (λ h. f.n ^ h) height;
@@ -232,7 +232,7 @@ pub record Parts (f : Figures) : Type 0 where
   pub some : f.d ≤ lines_most
   pub tree : length (tree_at (plan_of f []) f.k 0) ≤ span_most
 
-pub parts : (f : Figures) → Shaped f → (f.layout ≡ 1 → ⊥) → copies_fit (plan_of f []) ≡ true → Parts f
+pub parts : (f : Figures) → Shaped f → (layout_number f.layout ≡ 1 → ⊥) → copies_fit (plan_of f []) ≡ true → Parts f
 unfolding plan_of
 parts f s other fit =
     let l = levels_are f s in
@@ -251,10 +251,10 @@ parts f s other fit =
     }
 
 -- the whole tree is the last
-pub whole_last : (f : Figures) → Shaped f → Trees f → (f.layout ≡ 1 → ⊥) → f.last ≡ length (tree_at (plan_of f []) f.k 0)
+pub whole_last : (f : Figures) → Shaped f → Trees f → (layout_number f.layout ≡ 1 → ⊥) → f.last ≡ length (tree_at (plan_of f []) f.k 0)
 unfolding plan_of last_tree
 whole_last f s t other =
-    let height : tree_height (plan_of f []) ≡ f.k = rw (ne_eqb f.layout 1 other) in
+    let height : tree_height (plan_of f []) ≡ f.k = rw (ne_eqb (layout_number f.layout) 1 other) in
     let l = levels_are f s in
     let m : ℕ = f.n ^ f.k in
     t.last_is_lem

@@ -14,7 +14,7 @@ use Rattle.cycle.specs.Tree.{Plan}
 use Rattle.cycle.specs.Waits.{waits_between, wait_sum}
 use Rattle.cycle.specs.declared.Figures.{Figures}
 use Rattle.cycle.specs.declared.Source.TheVariants.{List as InList}
-use Rattle.cycle.specs.Inner.Held.{plan_of, Ready, AcceptedList, tag_at}
+use Rattle.cycle.specs.Inner.Held.{plan_of, AcceptedList, tag_at}
 use Rattle.cycle.proofs.ReadingBack.ImageLines.{spelled_front}
 use Rattle.cycle.proofs.Lines.DataTags.{AcceptedPlan}
 use Rattle.cycle.proofs.Building.Accepted.{laid}
@@ -33,7 +33,7 @@ pub record ListPass (f : Figures) (list : List ℕ) (tag first tags sum i : ℕ)
   pub sum_high : sum ≤ tags * waits_most
   pub passed : PassedTo (plan_of f (list_lines list)) (i - 1) tag first tags sum
 
-module _ (f : Figures) (list : List ℕ) (s : AcceptedList f list) where
+module _ {f : Figures} {list : List ℕ} (s : AcceptedList f list) where
   abbrev lines : List Line
   lines = list_lines list
 
@@ -78,14 +78,14 @@ module _ (f : Figures) (list : List ℕ) (s : AcceptedList f list) where
       subst (λ x. ListPass f list x 0 1 0 1) (sym (e ∙ tag_read 0 (omega arith)))
       (at_line 0 (pass_starts list_plan listed (omega (arith, count))))
 
-  module _ (tag first tags sum i : ℕ) (so : ListPass f list tag first tags sum i) where
+  module _ {tag first tags sum i : ℕ} (so : ListPass f list tag first tags sum i) where
     -- what the waits of a tag are asked for
-    pub waits_asked : Ready f × (first ≤ (i - 1) / f.p) × ((i - 1) / f.p < f.d)
+    pub waits_asked : (first ≤ (i - 1) / f.p) × ((i - 1) / f.p < f.d)
     unfolding plan_of
-    waits_asked = (s.ready, so.first_low, bucket_inside list_plan listed (i - 1) so.passed.inside)
+    waits_asked = (so.first_low, bucket_inside list_plan listed (i - 1) so.passed.inside)
 
     pub waits_small : (w : ℕ) → w ≡ waits_between (plan_of f []) first ((i - 1) / f.p) → w ≤ waits_most
-    waits_small w e = subst (λ x. x ≤ waits_most) (sym e) (waits_high f first ((i - 1) / f.p) s.ready waits_asked.2)
+    waits_small w e = subst (λ x. x ≤ waits_most) (sym e) (waits_high f first ((i - 1) / f.p) s.ready waits_asked.1)
 
     here : (w : ℕ) → w ≡ waits_between (plan_of f []) first ((i - 1) / f.p) → w ≡ waits_between list_plan first ((i - 1) / list_plan.p)
     unfolding plan_of

@@ -8,7 +8,7 @@ use mathlib.Core.List.{List, []}
 use lib.ListN.{length, drop}
 use lib.Seq.{drop-cons}
 use Rattle.columns.specs.Lists.{pick, joined, range}
-use Rattle.cycle.specs.Tree.{Plan}
+use Rattle.cycle.specs.Tree.{layout_number, Plan}
 use Rattle.cycle.specs.Layouts.{Slot, slot, path, whole_segment, slots}
 use Rattle.cycle.specs.declared.Figures.{Figures}
 use Rattle.cycle.specs.Judging.{tree_at}
@@ -82,7 +82,7 @@ module _ (f : Figures) (q : ℕ) (ready : Ready f) (inside : q < f.d) where
   sounds : Sound (plan_of f [])
   sounds = sound f [] ready.shaped ready.copies_fit_lem
 
-  pub start_in_block : f.layout ≡ 1 → segment_start (plan_of f []) q ≡ block_at f (q / f.n ^ (f.k - f.copies))
+  pub start_in_block : layout_number f.layout ≡ 1 → segment_start (plan_of f []) q ≡ block_at f (q / f.n ^ (f.k - f.copies))
   unfolding plan_of
   start_in_block one =
       let t : Plan = plan_of f [] in
@@ -97,7 +97,7 @@ module _ (f : Figures) (q : ℕ) (ready : Ready f) (inside : q < f.d) where
       q i.from i.to
 
   pub start_in_part :
-      (f.layout ≡ 1 → ⊥) →
+      (layout_number f.layout ≡ 1 → ⊥) →
       segment_start (plan_of f []) q ≡ length (joined (whole_segment (plan_of f [])) (range 0 (((q + 1) * f.copies - 1) / f.d)))
   unfolding plan_of
   start_in_part other =

@@ -26,6 +26,7 @@ use Rattle.cycle.specs.declared.Refusal.{Refusal}
 use Rattle.cycle.specs.Inner.Held.{plan_of}
 use Rattle.cycle.specs.declared.Reason.TheVariants.{NoLine}
 use Rattle.cycle.proofs.Basics.Conditions.{none_not_some, none_holds, test_fails, none_before, first_stands, none_both, refused_by, passed_by}
+use Rattle.cycle.proofs.Building.Answering.{figures_plan}
 
 -- room for the longest cycle
 abbrev pub room_most : ℕ
@@ -36,11 +37,6 @@ abbrev first_six : Settings → List ℕ → List Condition
 first_six s list =
     let t : Plan = plan s (list_lines list) in
     settings_out s ∷ list_length_out list ∷ line_misprinted list ∷ tag_falls list ∷ copies_out t ∷ cycle_too_long t ∷ []
-
--- the plan of its own figures
-figures_plan : (s : Settings) (list : List ℕ) → plan_of (figures_of (plan s (list_lines list))) (list_lines list) ≡ plan s (list_lines list)
-unfolding plan_of figures_of plan
-figures_plan s list = refl
 
 module _ (s : Settings) (list : List ℕ) where
   abbrev seventh : List Condition
@@ -115,7 +111,7 @@ module _ (s : Settings) (list : List ℕ) where
     lines_are = ap (λ g. g.lines) none_and_figures.1
 
     plan_is : plan_of f (list_lines list) ≡ plan s (list_lines list)
-    plan_is = sym (ap (λ g. plan_of g (list_lines list)) none_and_figures.1) ∙ figures_plan s list
+    plan_is = sym (ap (λ g. plan_of g (list_lines list)) none_and_figures.1) ∙ figures_plan s list room_most none_and_figures.0
 
     -- 17
     pub waits_no_line : f.lines ≡ 0 → Err (refusal NoLine 0) ≡ waits.waits s list

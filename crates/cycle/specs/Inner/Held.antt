@@ -11,10 +11,9 @@ use Rattle.buckets.specs.ListLine.{spelled, cut_lines, list_lines, misprint_from
 use Rattle.buckets.specs.declared.Pair.{Pair}
 use Rattle.buckets.specs.declared.Entry.{Entry}
 use Rattle.buckets.specs.Bucket.{index_body, Bucket}
-use Rattle.buckets.specs.Inner.Columns.{PlainList}
 use Rattle.buckets.specs.Lengths.{tag_width, line_columns_width, line_length, lines_most, entries_most, bucket_lines_most, bucket_length}
 use Rattle.buckets.specs.Lengths.{lines_start, buckets_most}
-use Rattle.cycle.specs.Tree.{Plan, levels, width, above, last_tag, largest_tag}
+use Rattle.cycle.specs.Tree.{Plan, layout_number, levels, width, above, last_tag, largest_tag}
 use Rattle.cycle.specs.Layouts.{Slot, slot, sent, path, path_top, distributed_segment, whole_segment, slots}
 use Rattle.cycle.specs.Cycle.{first_place, to_next_segment, last_sent, first_pair, buckets, cycle_size, image}
 use Rattle.cycle.specs.Building.{copies_fit}
@@ -30,7 +29,7 @@ use Rattle.cycle.specs.declared.Source.TheVariants.{List as InList, Image as InI
 unfoldable pub plan_of : Figures → List Line → Plan
 plan_of f ls =
     record
-    { n = f.n; p = f.p; layout = f.layout; copies = f.copies; lines = ls; d = f.d; k = f.k }
+    { n = f.n; p = f.p; layout = layout_number f.layout; copies = f.copies; lines = ls; d = f.d; k = f.k }
 
 -- no full tree has more data buckets under it: a tree with one level less has fewer than the list
 abbrev pub span_most : ℕ
@@ -50,7 +49,7 @@ pub record InRange (n p layout lines d k : ℕ) : Type 0 where
 
 -- figures that settings within their ranges give
 abbrev pub Shaped : Figures → Type 0
-Shaped f = InRange f.n f.p f.layout f.lines f.d f.k
+Shaped f = InRange f.n f.p (layout_number f.layout) f.lines f.d f.k
 
 -- bucket j of height e is one of the tree's
 unfoldable pub InTree : Figures → ℕ → ℕ → Type 0
@@ -191,10 +190,14 @@ pub record AcceptedList (f : Figures) (list : List ℕ) : Type 0 where
   pub printed : misprint_from 0 (cut_lines list) ≡ None
   pub rising : fall_from 0 0 (list_lines list) ≡ None
 
+-- the bytes of a text that holds them
+abbrev pub text_length : Figures → Source → ℕ
+text_length f InList = line_length * f.lines
+text_length f InImage = bucket_length * f.size
+
 -- the text is long enough to hold them
 abbrev pub TextFits : Figures → Source → ℕ → Type 0
-TextFits f InList c = c ≡ line_length * f.lines
-TextFits f InImage c = c ≡ bucket_length * f.size
+TextFits f source c = c ≡ text_length f source
 
 -- ---- buckets
 
@@ -280,18 +283,10 @@ written t d x y = put d (bucket_length * x) (image_part t x (y - x))
 
 -- ---- what the functions that write a segment are given
 
--- a list that can be sent, without leading zeros where `plain` says so, a buffer of `room` bytes that holds its image, and one of
--- its segments
-pub record Writing (f : Figures) (list : List ℕ) (plain : Bool) (s : Segment) (room : ℕ) : Type 0 where
-  pub sending : AcceptedList f list
-  pub no_zeros : plain ≡ true → PlainList list
-  pub roomy : bucket_length * f.size ≤ room
-  pub placed : (ls : List Line) → HoldsSegment (plan_of f ls) s
-
 -- in layout 1, bucket j of height e has no data buckets under it but the segment's
 pub record Under (f : Figures) (s : Segment) (e j : ℕ) : Type 0 where
-  pub from : f.layout ≡ 1 → s.root * f.n ^ s.height ≤ j * f.n ^ e
-  pub to : f.layout ≡ 1 → (j + 1) * f.n ^ e ≤ (s.root + 1) * f.n ^ s.height
+  pub from : layout_number f.layout ≡ 1 → s.root * f.n ^ s.height ≤ j * f.n ^ e
+  pub to : layout_number f.layout ≡ 1 → (j + 1) * f.n ^ e ≤ (s.root + 1) * f.n ^ s.height
 
 -- the subtree of bucket j of height e stands at x, in the segment's tree
 pub record TreePlace (f : Figures) (s : Segment) (e j x : ℕ) : Type 0 where
@@ -321,7 +316,7 @@ pub record IndexPlace (f : Figures) (s : Segment) (e j x : ℕ) : Type 0 where
   pub inside : InTree f e j
   pub below : x < f.size
   pub in_tree : e ≤ s.height → TreePlace f s e j x
-  pub on_path_lem : s.height < e → f.layout ≡ 1
+  pub on_path_lem : s.height < e → layout_number f.layout ≡ 1
 
 -- bucket j is one of a level whose full buckets have `span` data buckets under them
 pub record Spans (f : Figures) (span j : ℕ) : Type 0 where

@@ -3,6 +3,7 @@
 use Rattle.std.specs.Prelude.{◌≡◌, ◌≤◌}
 use Rattle.cycle.specs.declared.Settings.{Settings}
 use Rattle.cycle.specs.declared.Figures.{Figures}
+use Rattle.cycle.specs.Tree.{layout_number}
 use Rattle.cycle.specs.Inner.Held.{Shaped}
 
 -- 1 does not hold
@@ -19,5 +20,5 @@ pub record Figured (s : Settings) (f : Figures) : Type 0 where
   pub shaped : Shaped f
   pub n_is : f.n ≡ s.n
   pub p_is : f.p ≡ s.p
-  pub layout_is : f.layout ≡ s.layout
+  pub layout_is : layout_number f.layout ≡ s.layout
   pub copies_is : f.copies ≡ s.copies

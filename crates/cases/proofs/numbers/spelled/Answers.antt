@@ -6,9 +6,9 @@ use Rattle.cases.proofs.numbers.spelled.Goals as goal
 pub overflow_mul-x : goal.overflow_mul-x
 overflow_mul-x c =
     let small = few_columns _ _ c.loop-c.invariant.0 (omega arith) in
-    omega arith
+    rw c.ten_to.ensures (omega arith)
 
 pub overflow_add-x : goal.overflow_add-x
 overflow_add-x c =
     let small = few_columns _ _ c.loop-c.invariant.0 (omega arith) in
-    omega arith
+    rw c.ten_to.ensures (omega arith)

@@ -1,6 +1,5 @@
 -- A column that adds another digit tells the tags apart; where none does, they are the same.
 use Rattle.std.proofs.Common.{◌≡◌, ℕ, List, map, length, take, drop, get_or, sym, ap, ◌∙◌, ◌+◌, ◌-◌, ◌≤◌, ◌<◌, arith}
-use native.Mathlib.Decide.{ℕ_discrete}
 use Rattle.std.proofs.lemmas.List.{length-map}
 use Rattle.std.proofs.Math.Seq.{get_or-take, get_or-drop, ext_get_or}
 use Rattle.columns.proofs.Put.{length_part}
@@ -10,16 +9,15 @@ use Rattle.cycle.proofs.Basics.Deciding.{decides_no, decides_yes}
 use Rattle.cycle.proofs.build.same_tags.Goals as goal
 
 -- the digit that column k of a tag adds
-digit_at : (s : List ℕ) (a k : ℕ) → a + tag_width ≤ length s → k < tag_width → get_or (map (λ c. c - 48) (take tag_width (drop a s))) k 0 ≡ get_or s (a + k) 0 - 48
+digit_at :
+    (s : List ℕ) (a k : ℕ) → a + tag_width ≤ length s → k < tag_width →
+    get_or (map (λ c. c - 48) (take tag_width (drop a s))) k 0 ≡ get_or s (a + k) 0 - 48
 digit_at s a k within h =
     map_at (λ c. c - 48) (take tag_width (drop a s)) k 0 0 (omega (arith, length_part s a tag_width within))
     ∙ ap (λ c. c - 48) (get_or-take tag_width (drop a s) k 0 h ∙ get_or-drop a s k 0)
 
 digits_long : (s : List ℕ) (a : ℕ) → a + tag_width ≤ length s → length (map (λ c. c - 48) (take tag_width (drop a s))) ≡ tag_width
 digits_long s a within = length-map (take tag_width (drop a s)) (λ c. c - 48) ∙ length_part s a tag_width within
-
-pub loop-i-init : goal.loop-i-init
-loop-i-init c = λ k low high. absurd (omega arith)
 
 pub returns-then-as_digit : goal.returns-then-as_digit
 returns-then-as_digit c =
@@ -31,18 +29,6 @@ returns-then-as_digit c =
     let told : get_or list (c.args.a + k) 0 - 48 ≡ get_or list (c.args.b + k) 0 - 48 =
     sym (digit_at list c.args.a k c.requires.0 small) ∙ ap (λ (t : List ℕ). get_or t k 0) e ∙ digit_at list c.args.b k c.requires.1 small in
     c.if-as_digit.true (omega (arith, told, c.as_digit-in-loop-i.ensures, c.as_digit.ensures)))
-
-pub loop-i-preserved : goal.loop-i-preserved
-loop-i-preserved c =
-    let list = c.args.list.now in
-    let i = c.loop-i.i in
-    let here : get_or list (c.args.a + (i - 1)) 0 - 48 ≡ get_or list (c.args.b + (i - 1)) 0 - 48 =
-    omega (arith, c.if-as_digit.false, c.as_digit-in-loop-i.ensures, c.as_digit.ensures) in
-    λ k low high.
-    elim (ℕ_discrete k (i - 1)) [
-      | yes e ↦ ap (λ z. get_or list (c.args.a + z) 0 - 48) e ∙ here ∙ ap (λ z. get_or list (c.args.b + z) 0 - 48) (sym e)
-      | no other ↦ c.loop-i.invariant k (omega (arith, other)) high
-    ]
 
 pub returns : goal.returns
 returns c =

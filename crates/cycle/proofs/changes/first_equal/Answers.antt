@@ -1,19 +1,18 @@
--- The line at i has these numbers, or it has not, or no line is left.
-use Rattle.std.proofs.Common.{sym, ◌∙◌}
+-- The first line with these numbers.
+use Rattle.std.proofs.Common.{rules, ◌∙◌}
+use borrow.Author.Tests.{tests}
+use Rattle.std.proofs.lemmas.Iterator.Search.{position_from_yields_List}
+use Rattle.buckets.specs.ListLine.{spelled, cut_lines, list_lines}
 use Rattle.cycle.specs.Changes.{same_numbers}
-use Rattle.cycle.proofs.Changing.Searches.{fails_here, passes_here, none_passes}
+use Rattle.cycle.proofs.Lines.LineByLine.{yields_lines, first_line, first_spelled}
 use Rattle.cycle.proofs.changes.first_equal.Goals as goal
 
-pub returns-then-equals_at : goal.returns-then-equals_at
-returns-then-equals_at c =
-    passes_here (same_numbers c.args.line) c.args.list.now c.args.lines c.requires.0 c.loop-i.i c.loop-i.invariant c.loop-i-test.true
-    (sym c.equals_at.ensures ∙ c.if-equals_at.true)
-
-pub loop-i-preserved : goal.loop-i-preserved
-loop-i-preserved c =
-    fails_here (same_numbers c.args.line) c.args.list.now c.args.lines c.requires.0 c.loop-i.i c.loop-i.invariant c.loop-i-test.true
-    (sym c.equals_at.ensures ∙ c.if-equals_at.false)
-
 pub returns : goal.returns
+unfolding list_lines
 returns c =
-    none_passes (same_numbers c.args.line) c.args.list.now c.args.lines c.requires.0 c.loop-i.i c.loop-i.invariant c.loop-i-test.false
+    first_line (λ s. same_numbers c.args.line (spelled s)) c.args.list.now c.position.result c.map.result
+    (position_from_yields_List (λ s. same_numbers c.args.line (spelled s)) _ _ _ c.position.ensures.ran
+    (yields_lines c.chunks_exact.result c.args.list.now c.chunks_exact.ensures.rest c.chunks_exact.ensures.size)
+    (λ part b q k. search (rules, tests)))
+    (search rules)
+    ∙ first_spelled (same_numbers c.args.line) 0 (cut_lines c.args.list.now)

@@ -1,20 +1,18 @@
--- The line at i has a greater tag, or it has not, or no line is left.
-use Rattle.std.proofs.Common.{◌*◌, drop}
-use Rattle.buckets.specs.Lengths.{line_length}
+-- The first line whose columns spell a greater tag.
+use Rattle.std.proofs.Common.{rules, ◌∙◌}
+use borrow.Author.Tests.{tests}
+use Rattle.std.proofs.lemmas.Iterator.Search.{position_from_yields_List}
+use Rattle.buckets.specs.ListLine.{spelled, cut_lines, list_lines}
 use Rattle.cycle.specs.Inner.Changing.{tag_over}
-use Rattle.cycle.proofs.Changing.Searches.{fails_here, passes_here, none_passes, tag_over_lem, tag_not_over}
+use Rattle.cycle.proofs.Lines.LineByLine.{yields_lines, first_line, first_spelled}
 use Rattle.cycle.proofs.changes.first_over.Goals as goal
 
-pub returns-then-tag-spelled_tag : goal.returns-then-tag-spelled_tag
-returns-then-tag-spelled_tag c =
-    passes_here (tag_over c.args.tag) c.args.list.now c.args.lines c.requires.0 c.loop-i.i c.loop-i.invariant c.loop-i-test.true
-    (tag_over_lem c.args.tag (drop (line_length * c.loop-i.i) c.args.list.now) c.spelled_tag.result c.spelled_tag.ensures c.if-tag-spelled_tag.true)
-
-pub loop-i-preserved : goal.loop-i-preserved
-loop-i-preserved c =
-    fails_here (tag_over c.args.tag) c.args.list.now c.args.lines c.requires.0 c.loop-i.i c.loop-i.invariant c.loop-i-test.true
-    (tag_not_over c.args.tag (drop (line_length * c.loop-i.i) c.args.list.now) c.spelled_tag.result c.spelled_tag.ensures c.if-tag-spelled_tag.false)
-
 pub returns : goal.returns
+unfolding spelled list_lines
 returns c =
-    none_passes (tag_over c.args.tag) c.args.list.now c.args.lines c.requires.0 c.loop-i.i c.loop-i.invariant c.loop-i-test.false
+    first_line (λ s. tag_over c.args.tag (spelled s)) c.args.list.now c.position.result c.map.result
+    (position_from_yields_List (λ s. tag_over c.args.tag (spelled s)) _ _ _ c.position.ensures.ran
+    (yields_lines c.chunks_exact.result c.args.list.now c.chunks_exact.ensures.rest c.chunks_exact.ensures.size)
+    (λ line b q k. search (rules, tests)))
+    (search rules)
+    ∙ first_spelled (tag_over c.args.tag) 0 (cut_lines c.args.list.now)

@@ -1,8 +1,9 @@
 -- The given line is misprinted, or the list's own lines decide.
 use Rattle.std.specs.Prelude.{unwrap_or}
-use Rattle.std.proofs.Common.{[], ◌∷◌, Some, sym, ap, ◌∙◌}
+use Rattle.std.proofs.Common.{◌/◌, [], ◌∷◌, Some, length, sym, ap, ◌∙◌}
 use Rattle.buckets.specs.declared.Line.{Line}
 use Rattle.buckets.specs.ListLine.{read_line}
+use Rattle.buckets.specs.Lengths.{line_length}
 use Rattle.buckets.proofs.Chained.{mapped_none, mapped_some}
 use Rattle.cycle.specs.Refusals.{refusal}
 use Rattle.cycle.specs.Building.{line_misprinted, tag_falls}
@@ -13,14 +14,16 @@ use Rattle.cycle.proofs.changes.judge_lines_given.Goals as goal
 
 pub returns-then-is_none : goal.returns-then-is_none
 returns-then-is_none c =
-    given_misprinted_lem c.args.list.now c.args.lines c.args.given.now
+    let lines = length c.args.list.now / line_length in
+    given_misprinted_lem c.args.list.now lines c.args.given.now
     (mapped_none (λ (l : Line). l.tag) (read_line c.args.given.now) c.line_tag.ensures c.if-is_none.ensures)
-    ∙ sym (ap (λ k. Some (refusal LineMisprinted k)) (c.unwrap_or-place.ensures ∙ ap (λ o. unwrap_or o c.args.lines) c.first_misprint.ensures))
+    ∙ sym (ap (λ k. Some (refusal LineMisprinted k)) (c.unwrap_or-place.ensures ∙ ap (λ o. unwrap_or o lines) c.first_misprint.ensures))
 
 pub returns : goal.returns
 returns c =
-    told_by (line_conditions c.args.list.now c.args.lines c.args.given.now)
+    let lines = length c.args.list.now / line_length in
+    told_by (line_conditions c.args.list.now lines c.args.given.now)
     (line_misprinted c.args.list.now ∷ tag_falls c.args.list.now ∷ []) c.args.list.now c.judge_lines.result
-    (given_printed c.args.list.now c.args.lines c.args.given.now
+    (given_printed c.args.list.now lines c.args.given.now
     (mapped_some (λ (l : Line). l.tag) (read_line c.args.given.now) c.line_tag.ensures c.if-is_none.ensures))
     c.judge_lines.ensures

@@ -1,28 +1,31 @@
--- What the tag of the line at i tells of the line, and what all lines tell.
-use Rattle.std.proofs.Common.{◌≡◌, ℕ, ◌+◌, ◌-◌, ◌*◌, Bool, true, false, Some, List, take, drop, sym, ap, ◌∙◌, arith}
+-- What the tag of a line tells of the line, and what all lines tell.
+use Rattle.std.proofs.Common.{◌≡◌, ℕ, Bool, true, false, Some, List, length, take, sym, ap, ◌∙◌, arith}
 use mathlib.Core.Bool.{true≢false}
 use Rattle.std.specs.Option.{option_map}
+use Rattle.std.proofs.lemmas.List.{length-append}
 use Rattle.columns.specs.Lists.{pick}
 use Rattle.columns.specs.PrintedNumbers.{value}
 use Rattle.buckets.specs.declared.Line.{Line}
-use Rattle.buckets.specs.ListLine.{spelled, read_line, taken}
+use Rattle.buckets.specs.ListLine.{spelled, read_line, taken, cut_lines, list_lines, misprint_from, fall_from}
 use Rattle.buckets.specs.Inner.Columns.{read_plain}
-use Rattle.buckets.specs.Lengths.{tag_width, line_length}
+use Rattle.buckets.specs.Lengths.{tag_width}
 use Rattle.buckets.proofs.Blanked.{plain_reads}
 use Rattle.buckets.proofs.Chained.{map_found}
 use Rattle.buckets.proofs.LenientLines.{line_reads, reads_line}
 use Rattle.buckets.proofs.ListLines.{print_of_read_plain}
-use Rattle.cycle.proofs.ReadingBack.ImageLines.{spelled_front}
-use Rattle.cycle.proofs.Building.Refusals.{plain_read, plains_read, line_read, lines_read_lem, tag_rises, tags_rise}
+use Rattle.buckets.proofs.Lists.{plain_list}
+use Rattle.cycle.proofs.Lines.LineByLine.{cut_none, lines_none}
+use Rattle.cycle.proofs.Building.Refusals.{all_plain, plain_read, line_read, tag_rises}
 use Rattle.cycle.proofs.conditions.all_rise.Goals as goal
 
 -- what the tag of a line tells of the line
 record Told (plain : Bool) (s : List ℕ) (x : ℕ) : Type 0 where
-  tag_is : x ≡ (spelled s).tag
+  tag_is : x ≡ value 0 (take tag_width s)
   reads : taken (read_line s) ≡ true
   reads_plain : plain ≡ true → taken (read_plain s) ≡ true
 
 tag_told : (plain : Bool) (s : List ℕ) (x : ℕ) → Some x ≡ option_map (λ (l : Line). l.tag) (pick plain (read_plain s) (read_line s)) → Told plain s x
+unfolding spelled
 tag_told true s x e =
     let found = map_found (λ (l : Line). l.tag) (read_plain s) x e in
     let plain = ap taken (sym found.1) in
@@ -41,34 +44,47 @@ tag_told false s x e =
       reads_plain = λ t. absurd (true≢false (sym t));
     }
 
--- the line that is lent
-line_told :
-    (plain : Bool) (a : ℕ) (s : List ℕ) (x : ℕ) →
-    Some x ≡ option_map (λ (l : Line). l.tag) (pick plain (read_plain (take (a + line_length - a) s)) (read_line (take (a + line_length - a) s))) →
-    Told plain (take line_length s) x
-line_told plain a s x e = let wide : a + line_length - a ≡ line_length = omega arith in tag_told plain (take line_length s) x (rw wide at e)
+pub loop-line-init : goal.loop-line-init
+loop-line-init c =
+    let it = c.into_iter-line-iterator.ensures.into_iter_gives in
+    let rest = sym (ap (λ (k : _). k.rest.now) it ∙ c.chunks_exact-line-items.ensures.rest) in
+    record {
+      size = ap (λ (k : _). k.size) it ∙ c.chunks_exact-line-items.ensures.size;
+      read = ap (λ t. misprint_from 0 (cut_lines t)) rest;
+      rise = ap (λ t. fall_from 0 0 (list_lines t)) rest;
+      no_zeros = λ e. ap (λ t. all_plain (cut_lines t)) rest;
+    }
 
-tag_spelled : (s : List ℕ) → (spelled (take line_length s)).tag ≡ value 0 (take tag_width s)
-unfolding spelled
-tag_spelled s = ap (λ (k : Line). k.tag) (spelled_front line_length s (omega arith))
-
-pub loop-i-preserved : goal.loop-i-preserved
-loop-i-preserved c =
-    let list = c.args.list.now in
-    let i = c.loop-i.i in
-    let told = line_told c.args.plain (line_length * i) (drop (line_length * i) list) c.in-Some.tag c.in-Some.ensures in (
-      line_read list c.args.lines c.requires.0 i c.loop-i.invariant.0 c.loop-i-test.true told.reads,
-      tag_rises list c.args.lines c.requires.0 i c.loop-i.last c.loop-i.invariant.1 c.loop-i-test.true
-          c.in-Some.tag (told.tag_is ∙ tag_spelled (drop (line_length * i) list)) c.if-tag-last.false,
-      λ e. plain_read list c.args.lines c.requires.0 i (c.loop-i.invariant.2 e) c.loop-i-test.true (told.reads_plain e),
-    )
+pub loop-line-preserved : goal.loop-line-preserved
+loop-line-preserved c =
+    let l = c.loop-line in
+    let steps = c.in-Some.ensures.steps in
+    let line = c.in-Some.line.now in
+    let rest = c.next.new.self.rest.now in
+    let wide = steps.1.1 ∙ l.invariant.size in
+    let i = length l.yielded in
+    let more = sym (length-append l.yielded _) in
+    let told = tag_told c.args.plain line c.in-Some-tag_read.tag c.in-Some-tag_read.ensures in
+    record {
+      size = steps.0 ∙ l.invariant.size;
+      read =
+          l.invariant.read ∙ ap (λ t. misprint_from i (cut_lines t)) steps.1.0 ∙ line_read line rest wide i told.reads
+          ∙ ap (λ k. misprint_from k (cut_lines rest)) more;
+      rise =
+          l.invariant.rise ∙ ap (λ t. fall_from i l.last (list_lines t)) steps.1.0
+          ∙ tag_rises line rest wide i l.last c.in-Some-tag_read.tag told.tag_is c.if-tag-last.false
+          ∙ ap (λ k. fall_from k c.in-Some-tag_read.tag (list_lines rest)) more;
+      no_zeros =
+          λ e. l.invariant.no_zeros e ∙ ap (λ t. all_plain (cut_lines t)) steps.1.0 ∙ plain_read line rest wide (told.reads_plain e);
+    }
 
 pub returns : goal.returns
-returns c told =
-    let list = c.args.list.now in
-    let lines = c.args.lines in
-    let i = c.loop-i.i in (
-      sym (lines_read_lem list lines c.requires.0 i c.loop-i.invariant.0 c.loop-i-test.false),
-      sym (tags_rise list lines c.requires.0 i c.loop-i.last c.loop-i.invariant.1 c.loop-i-test.false),
-      λ e. plains_read list lines c.requires.0 i (c.loop-i.invariant.2 e) c.loop-i-test.false,
+returns c so =
+    let l = c.loop-line in
+    let rest = l.line-iterator.rest.now in
+    let short = c.in-None.ensures.steps.1.0 in
+    let none = cut_none rest (omega (arith, short, l.invariant.size)) in (
+      l.invariant.read ∙ ap (misprint_from (length l.yielded)) none,
+      l.invariant.rise ∙ ap (fall_from (length l.yielded) l.last) (lines_none rest (omega (arith, short, l.invariant.size))),
+      λ e whole. plain_list c.args.list.now whole (l.invariant.no_zeros e ∙ ap all_plain none),
     )

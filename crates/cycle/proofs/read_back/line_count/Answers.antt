@@ -1,8 +1,7 @@
 -- A bucket more, a data bucket or not; at the end the data buckets tell the number of lines.
-use Rattle.std.proofs.Common.{◌≡◌, ℕ, List, sym, ap, ◌∙◌, ◌-◌, ◌*◌, ◌/◌, ◌≤◌, ◌<◌, length, length-append, arith, eq-eqb, ne_eqb}
-use Rattle.std.proofs.Math.Nat.{mul-le-mul}
+use Rattle.std.proofs.Common.{◌≡◌, ℕ, List, sym, ap, ◌∙◌, ◌/◌, ◌<◌, length, length-append, arith, eq-eqb, ne_eqb}
 use Rattle.columns.specs.Lists.{parts}
-use Rattle.buckets.specs.Lengths.{letter_data, bucket_lines_most, bucket_length, buckets_most}
+use Rattle.buckets.specs.Lengths.{letter_data, bucket_length}
 use Rattle.cycle.specs.Inner.Comparing.{lines_by, counted_from, counted}
 use Rattle.cycle.proofs.ReadingBack.LineCount.{counted_bucket, by_none, by_low, by_digit}
 use Rattle.cycle.proofs.read_back.line_count.Goals as goal
@@ -19,10 +18,6 @@ opened image rest p e = ap (left p 0 48) (sym e)
 ended : (p d last : ℕ) (rest : List ℕ) → length rest < bucket_length → left p d last rest ≡ lines_by p d last
 ended p d last rest h = let none : length rest / bucket_length ≡ 0 = omega arith in rw none
 
--- the lines of all data buckets but the last
-most : (d p n : ℕ) → bucket_length * d ≤ n → n ≤ bucket_length * buckets_most → p ≤ 8 → (d - 1) * p ≤ buckets_most * bucket_lines_most
-most d p n few long small = mul-le-mul {n₂ = buckets_most} {m₂ = bucket_lines_most} (omega arith) small
-
 pub loop-bucket-init : goal.loop-bucket-init
 loop-bucket-init c =
     let it = c.into_iter-bucket-iterator.ensures.into_iter_gives in
@@ -32,9 +27,6 @@ loop-bucket-init c =
       few = omega (arith, ap length rest);
       left = opened c.args.image.now _ c.args.p rest;
     }
-
-pub overflow_add-d : goal.overflow_add-d
-overflow_add-d c = omega (arith, c.loop-bucket.invariant.few)
 
 pub loop-bucket-preserved-then-data : goal.loop-bucket-preserved-then-data
 loop-bucket-preserved-then-data c =
@@ -75,16 +67,6 @@ returns-then-last-lt48 c =
     let l = c.loop-bucket in
     let short = c.in-None.ensures.steps.1.0 in
     sym (l.invariant.left ∙ ended c.args.p l.d l.last l.bucket-iterator.rest.now (omega (arith, short, l.invariant.size)) ∙ by_low _ _ _ c.if-d-eq0.false c.if-last-lt48.true)
-
-pub overflow_mul-result : goal.overflow_mul-result
-overflow_mul-result c =
-    let m = most c.loop-bucket.d c.args.p (length c.args.image.now) (omega (arith, c.loop-bucket.invariant.few)) c.requires.0 c.requires.1 in
-    omega arith
-
-pub overflow_add-result : goal.overflow_add-result
-overflow_add-result c =
-    let m = most c.loop-bucket.d c.args.p (length c.args.image.now) (omega (arith, c.loop-bucket.invariant.few)) c.requires.0 c.requires.1 in
-    omega (arith, c.loop-bucket.auto.last-fits)
 
 pub returns : goal.returns
 returns c =

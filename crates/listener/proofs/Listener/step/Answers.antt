@@ -12,5 +12,5 @@ returns-then-is_ended c =
 pub returns : goal.returns
 returns c =
     step_tells
-    (c.take_reading.ensures c.args.bucket.now c.read_bucket-reading.ensures
+    (c.take_reading.ensures c.args.bucket.now c.read_into-frame.ensures
     ∙ sym (step_read c.args.self c.args.bucket.now (sym c.is_ended.ensures ∙ c.if-is_ended.false)))

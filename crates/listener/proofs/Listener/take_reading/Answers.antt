@@ -1,46 +1,63 @@
 -- What was read, by its kind.
-use Rattle.std.proofs.Common.{◌≡◌, ℕ, List, length, sym, ap, ap₂, ◌∙◌, arith}
-use Rattle.buckets.specs.declared.Pair.{Pair}
-use Rattle.buckets.specs.declared.Entry.{Entry}
-use Rattle.buckets.specs.Bucket.{index_body, data_body}
-use Rattle.buckets.specs.Inner.Held.{bucket_with}
-use Rattle.listener.specs.Listener.{heed}
-use Rattle.listener.specs.Inner.OnReading.{tagged_lines}
-use Rattle.listener.proofs.Steps.Readings.{index_read, data_read}
+use Rattle.std.proofs.Common.{◌≡◌, ℕ, List, Option, Some, sym, ap, ◌∙◌}
+use Rattle.std.specs.Option.{option_map}
+use Rattle.buckets.specs.declared.Items.{Items}
+use Rattle.buckets.specs.declared.Kind.TheVariants as Kinds
+use Rattle.buckets.specs.declared.Frame.{Frame}
+use Rattle.buckets.specs.Bucket.{read_bucket}
+use Rattle.buckets.specs.Inner.Held.{contents_with, reading_of, reading_with}
+use Rattle.listener.proofs.Steps.Readings.{IndexRead, DataRead, index_read, data_read}
 use Rattle.listener.proofs.Listener.take_reading.Goals as goal
 
-pub take_index-requires-clause-sound_head : goal.take_index-requires-clause-sound_head
-take_index-requires-clause-sound_head c =
-    (index_read c.requires.bytes c.in-Some.reading (sym c.in-Some.is ∙ c.requires.is) c.in-Index.pairs c.in-Index.entries c.in-Index.is).head
+-- an index bucket, whose tags are none of it
+index_told : (bytes : List ℕ) (items : Items) (o : Option Frame) (f : Frame) → o ≡ Some f → f.kind ≡ Kinds.Index
+    → option_map (reading_with items) o ≡ option_map reading_of (read_bucket bytes)
+    → IndexRead f.head items.pairs.items items.entries.items (read_bucket bytes)
+unfolding reading_with
+index_told bytes items o f some kind e =
+    index_read bytes (reading_with items f) (sym (ap (option_map (reading_with items)) some) ∙ e) items.pairs items.entries
+    (ap (contents_with items) kind)
 
-pub take_index-requires-clause-near : goal.take_index-requires-clause-near
-take_index-requires-clause-near c =
-    let pairs : c.as_slice.result.now ≡ c.in-Index.pairs.items = rw c.in-Index.is at c.as_slice.ensures.value in
-    let entries : c.as_slice-in-Index.result.now ≡ c.in-Index.entries.items = rw c.in-Index.is at c.as_slice-in-Index.ensures.value in
-    rw (pairs, entries)
-    (index_read c.requires.bytes c.in-Some.reading (sym c.in-Some.is ∙ c.requires.is) c.in-Index.pairs c.in-Index.entries c.in-Index.is).near
+-- a data bucket, whose pairs and entries are none of it
+data_told : (bytes : List ℕ) (items : Items) (o : Option Frame) (f : Frame) (d : ℕ) → o ≡ Some f → f.kind ≡ Kinds.Data d
+    → option_map (reading_with items) o ≡ option_map reading_of (read_bucket bytes)
+    → DataRead f.head d items.tags.items (read_bucket bytes)
+unfolding reading_with
+data_told bytes items o f d some kind e =
+    data_read bytes (reading_with items f) (sym (ap (option_map (reading_with items)) some) ∙ e) d items.tags
+    (ap (contents_with items) kind)
 
-pub take_data-requires-clause-sound_head : goal.take_data-requires-clause-sound_head
-take_data-requires-clause-sound_head c =
-    (data_read c.requires.bytes c.in-Some.reading (sym c.in-Some.is ∙ c.requires.is) c.in-Data.follow_on c.in-Data.tags c.in-Data.is).head
+pub invariant_of-at : goal.invariant_of-at
+invariant_of-at c =
+    record {
+      sound = (index_told c.requires.bytes c.args.items.now c.args.frame c.in-Some.frame c.in-Some.is c.in-Index.is c.requires.is).head;
+    }
 
-pub take_data-requires-clause-follow_on_le_buckets_most : goal.take_data-requires-clause-follow_on_le_buckets_most
-take_data-requires-clause-follow_on_le_buckets_most c =
-    let tags : c.as_slice-in-Data.result.now ≡ c.in-Data.tags.items = rw c.in-Data.is at c.as_slice-in-Data.ensures.value in
-    let read = data_read c.requires.bytes c.in-Some.reading (sym c.in-Some.is ∙ c.requires.is) c.in-Data.follow_on c.in-Data.tags c.in-Data.is in
-    (read.near, omega (arith, ap length tags, read.few))
+pub take_index-requires : goal.take_index-requires
+take_index-requires c =
+    rw (c.as_slice-in-Index.ensures.value, c.as_slice.ensures.value)
+    (index_told c.requires.bytes c.args.items.now c.args.frame c.in-Some.frame c.in-Some.is c.in-Index.is c.requires.is).near
+
+pub invariant_of-at-in-Data : goal.invariant_of-at-in-Data
+invariant_of-at-in-Data c =
+    record {
+      sound =
+          (data_told c.requires.bytes c.args.items.now c.args.frame c.in-Some.frame c.in-Data.follow_on c.in-Some.is c.in-Data.is
+          c.requires.is).head;
+    }
+
+pub take_data-requires : goal.take_data-requires
+take_data-requires c =
+    let read = data_told c.requires.bytes c.args.items.now c.args.frame c.in-Some.frame c.in-Data.follow_on c.in-Some.is c.in-Data.is
+    c.requires.is in
+    rw c.as_slice-in-Data.ensures.value (read.near, read.few)
 
 pub returns-in-Index : goal.returns-in-Index
 returns-in-Index c bytes e =
-    let pairs : c.as_slice.result.now ≡ c.in-Index.pairs.items = rw c.in-Index.is at c.as_slice.ensures.value in
-    let entries : c.as_slice-in-Index.result.now ≡ c.in-Index.entries.items = rw c.in-Index.is at c.as_slice-in-Index.ensures.value in
-    c.take_index.ensures
-    ∙ ap₂ (λ (ps : List Pair) (es : List Entry). heed c.args.self (bucket_with c.in-Some.reading.head (index_body ps es))) pairs entries
-    ∙ (index_read bytes c.in-Some.reading (sym c.in-Some.is ∙ e) c.in-Index.pairs c.in-Index.entries c.in-Index.is).is c.args.self
+    rw (c.as_slice-in-Index.ensures.value, c.as_slice.ensures.value) at c.take_index.ensures
+    ∙ (index_told bytes c.args.items.now c.args.frame c.in-Some.frame c.in-Some.is c.in-Index.is e).is c.args.self
 
 pub returns-in-Data : goal.returns-in-Data
 returns-in-Data c bytes e =
-    let tags : c.as_slice-in-Data.result.now ≡ c.in-Data.tags.items = rw c.in-Data.is at c.as_slice-in-Data.ensures.value in
-    c.take_data.ensures
-    ∙ ap (λ (ts : List ℕ). heed c.args.self (bucket_with c.in-Some.reading.head (data_body c.in-Data.follow_on (tagged_lines ts)))) tags
-    ∙ (data_read bytes c.in-Some.reading (sym c.in-Some.is ∙ e) c.in-Data.follow_on c.in-Data.tags c.in-Data.is).is c.args.self
+    rw c.as_slice-in-Data.ensures.value at c.take_data.ensures
+    ∙ (data_told bytes c.args.items.now c.args.frame c.in-Some.frame c.in-Data.follow_on c.in-Some.is c.in-Data.is e).is c.args.self

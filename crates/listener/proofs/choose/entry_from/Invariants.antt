@@ -1,5 +1,5 @@
 -- What is chosen from place i on is what is chosen from the first place on.
-use Rattle.std.proofs.Common.{◌≡◌, ◌+◌, ◌-◌, ◌≤◌, leb, drop, length}
+use Rattle.std.proofs.Common.{◌≡◌, ◌-◌, ◌≤◌, leb, drop, length}
 use Rattle.buckets.specs.declared.Entry.{Entry}
 use Rattle.listener.specs.Inner.OnReading.{chosen}
 use Rattle.listener.proofs.choose.entry_from.Given as goal

@@ -1,9 +1,0 @@
--- The segments before i are written.
-use Rattle.std.proofs.Common.{◌≡◌}
-use Rattle.cycle.specs.Inner.Held.{plan_in, written}
-use Rattle.cycle.specs.declared.Source.TheVariants.{List as InList}
-use Rattle.cycle.proofs.Segmenting.SegmentLoops.{Through}
-use Rattle.cycle.proofs.build.write_cycle.Given as goal
-
-abbrev pub invariant-loop-i : goal.invariant-loop-i
-invariant-loop-i l = Through l.f (λ x. l.image ≡ written (plan_in l.f InList l.list) l.fn.image 0 x) l.i-end l.i
