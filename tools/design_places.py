@@ -38,6 +38,39 @@ def places(pattern, flags=re.M):
     return found
 
 
+def parts(fact):
+    """The facts of a clause: what stands between × outside of brackets."""
+    found, deep, start = [], 0, 0
+    for at, c in enumerate(fact):
+        deep += (c in "([{") - (c in ")]}")
+        if c == "×" and deep == 0:
+            found.append(fact[start:at])
+            start = at + 1
+    found.append(fact[start:])
+    found = [" ".join(it.split()) for it in found]
+    if len(found) > 1 or not re.fullmatch(r"\(.*\)", found[0]):
+        return [it for part in found for it in (parts(part[1:-1]) if re.fullmatch(r"\(.*\)", part) else [part])]
+    return parts(found[0][1:-1])
+
+
+def asked():
+    """Facts that the clauses of three or more functions of a crate ask: one place for each function."""
+    by_fact = {}
+    for file in sources:
+        bare = re.sub(r"//.*", "", file.read_text())
+        heads = list(re.finditer(r"\bfn (\w+)", bare))
+        for head, behind in zip(heads, heads[1:] + [None]):
+            text = bare[head.start() : behind.start() if behind else len(bare)]
+            for clause in re.finditer(r"^\s+requires( \w+)? \{", text, re.M):
+                deep, end = 1, clause.end()
+                while deep:
+                    deep += (text[end] == "{") - (text[end] == "}")
+                    end += 1
+                for fact in parts(text[clause.end() : end - 1].strip()):
+                    by_fact.setdefault((file.relative_to(tree).parts[1], fact), {})[f"{file.relative_to(tree)}: {head[1]}"] = None
+    return [f"{fact}: {place}" for (_, fact), where in sorted(by_fact.items()) if len(where) >= 3 for place in where]
+
+
 def lists(types):
     """Functions whose parameters hold these types in a row."""
     row = r"\s*,\s*".join(rf"\w+: {re.escape(it)}" for it in types)
@@ -63,6 +96,7 @@ POINTS = {
     "5 figures and source": lists(["Figures", "Source"]),
     "5 image and count": places(r"\bfn \w+\(image: &\[u8\], count: u64", re.M),
     "5 letter, numbers, body, lent": places(r"\bfn \w+(<[^>]*>)?\([^)]*numbers: &Numbers", re.M | re.S),
+    "5 facts that three or more functions ask": asked(),
     "6 parallel arrays": places(r"^    (pub )?(\w+_)?(tags|distances): \[u64; [^\]]*\],"),
     "6 a length beside a buffer": places(r"\bfn \w+\((list|buffer): &(mut )?\[u8\],\s*lines: u64|count: usize,\s*tags: (&'a )?\[u64|pairs: usize,\s*tags: &'a \[u64", re.M),
     "7 switches": places(r"\bmatch (source|letter|phase|kind)\b|\bf\.layout == 1"),
