@@ -43,10 +43,10 @@ fn same_tags(list: &[u8], a: usize, b: usize) -> bool
 // A segment of the cycle of a list that can be sent.
 #[derive(Clone, Copy)]
 struct Sender<'a> {
-    part: Part,
+    part: Part<'a>,
     list: &'a [u8],
     plain: bool,
-    ghost sending: { AcceptedList part.cycle.f list.now },
+    ghost sending: { AcceptedList part.cycle.now.f list.now },
     ghost no_zeros: { plain ≡ true → PlainList list.now },
 }
 
@@ -67,10 +67,10 @@ impl Sender<'_> {
 
     // Bucket j of height e of the segment's tree, at x. It hands back its number of entries.
     fn write_tree_bucket(&self, image: &mut [u8], e: usize, j: u64, x: u64) -> usize
-        requires { (bucket_length * self.now.part.cycle.f.size ≤ length image.old)
-            × TreePlace self.now.part.cycle.f self.now.part.s e j x }
-        ensures { (result ≡ length (children (plan_of self.now.part.cycle.f []) (self.now.part.cycle.f.k + 1 - e) j)) ×
-            (image.new ≡ written (plan_in self.now.part.cycle.f Source.List self.now.list.now) image.old x (x + 1)) }
+        requires { (bucket_length * self.now.part.cycle.now.f.size ≤ length image.old)
+            × TreePlace self.now.part.cycle.now.f self.now.part.s e j x }
+        ensures { (result ≡ length (children (plan_of self.now.part.cycle.now.f []) (self.now.part.cycle.now.f.k + 1 - e) j)) ×
+            (image.new ≡ written (plan_in self.now.part.cycle.now.f Source.List self.now.list.now) image.old x (x + 1)) }
     {
         let count = self.part.cycle.child_count(e, j);
         let at = (BUCKET * x) as usize;
@@ -82,12 +82,12 @@ impl Sender<'_> {
 
     // A subtree from x on: its bucket, then each child's whole subtree. It hands back the position behind it.
     fn write_subtree(&self, image: &mut [u8], e: usize, j: u64, x: u64) -> u64
-        requires { (bucket_length * self.now.part.cycle.f.size ≤ length image.old)
-            × TreePlace self.now.part.cycle.f self.now.part.s e j x }
-        ensures { (result ≡ x + length (tree_at (plan_of self.now.part.cycle.f []) e j)) ×
+        requires { (bucket_length * self.now.part.cycle.now.f.size ≤ length image.old)
+            × TreePlace self.now.part.cycle.now.f self.now.part.s e j x }
+        ensures { (result ≡ x + length (tree_at (plan_of self.now.part.cycle.now.f []) e j)) ×
             (image.new ≡
-            written (plan_in self.now.part.cycle.f Source.List self.now.list.now) image.old x
-            (x + length (tree_at (plan_of self.now.part.cycle.f []) e j))) }
+            written (plan_in self.now.part.cycle.now.f Source.List self.now.list.now) image.old x
+            (x + length (tree_at (plan_of self.now.part.cycle.now.f []) e j))) }
     {
         let count = self.write_tree_bucket(image, e, j, x);
         let mut next = x + 1;
@@ -103,9 +103,9 @@ impl Sender<'_> {
 
     // The path of the segment.
     fn write_path(&self, image: &mut [u8])
-        requires { bucket_length * self.now.part.cycle.f.size ≤ length image.old }
+        requires { bucket_length * self.now.part.cycle.now.f.size ≤ length image.old }
         ensures { image.new ≡
-            written (plan_in self.now.part.cycle.f Source.List self.now.list.now) image.old
+            written (plan_in self.now.part.cycle.now.f Source.List self.now.list.now) image.old
             self.now.part.s.start self.now.part.s.tree_at }
     {
         let s = &self.part.s;
@@ -119,12 +119,12 @@ impl Sender<'_> {
 
     // The follow-on of data bucket q at x.
     fn list_follow_on(&self, q: u64, x: u64) -> u64
-        requires { (q < self.now.part.cycle.f.d)
-            × StandsAt (plan_of self.now.part.cycle.f []) x (slot (self.now.part.cycle.f.k + 1) q ∷ []) }
+        requires { (q < self.now.part.cycle.now.f.d)
+            × StandsAt (plan_of self.now.part.cycle.now.f []) x (slot (self.now.part.cycle.now.f.k + 1) q ∷ []) }
         ensures { result ≡
-            follow_on (cycle_bucket (plan_in self.now.part.cycle.f Source.List self.now.list.now) x).body }
+            follow_on (cycle_bucket (plan_in self.now.part.cycle.now.f Source.List self.now.list.now) x).body }
     {
-        let cycle = &self.part.cycle;
+        let cycle = self.part.cycle;
         let next = q + 1;
         // the 0 that the format prints in the last data bucket
         if next == cycle.f.d {
@@ -140,9 +140,9 @@ impl Sender<'_> {
     // Data bucket q at x.
     #[tactic(auto, using(crate::proofs::Building::Writings::data_below, crate::proofs::Building::Writings::data_small))]
     fn write_data_at(&self, image: &mut [u8], q: u64, x: u64)
-        requires { (bucket_length * self.now.part.cycle.f.size ≤ length image.old) × DataPlace self.now.part.s q x }
+        requires { (bucket_length * self.now.part.cycle.now.f.size ≤ length image.old) × DataPlace self.now.part.s q x }
         ensures { image.new ≡
-            written (plan_in self.now.part.cycle.f Source.List self.now.list.now) image.old x (x + 1) }
+            written (plan_in self.now.part.cycle.now.f Source.List self.now.list.now) image.old x (x + 1) }
     {
         let f = &self.part.cycle.f;
         let follow_on = self.list_follow_on(q, x);
@@ -161,9 +161,9 @@ impl Sender<'_> {
 
     // The data buckets of the segment.
     fn write_datas(&self, image: &mut [u8])
-        requires { bucket_length * self.now.part.cycle.f.size ≤ length image.old }
+        requires { bucket_length * self.now.part.cycle.now.f.size ≤ length image.old }
         ensures { image.new ≡
-            written (plan_in self.now.part.cycle.f Source.List self.now.list.now) image.old
+            written (plan_in self.now.part.cycle.now.f Source.List self.now.list.now) image.old
             self.now.part.s.data_at self.now.part.s.end }
     {
         let s = &self.part.s;
@@ -174,9 +174,9 @@ impl Sender<'_> {
 
     // The segment: its path, its tree, its data buckets.
     fn write_segment(&self, image: &mut [u8])
-        requires { bucket_length * self.now.part.cycle.f.size ≤ length image.old }
+        requires { bucket_length * self.now.part.cycle.now.f.size ≤ length image.old }
         ensures { image.new ≡
-            written (plan_in self.now.part.cycle.f Source.List self.now.list.now) image.old
+            written (plan_in self.now.part.cycle.now.f Source.List self.now.list.now) image.old
             self.now.part.s.start self.now.part.s.end }
     {
         let s = &self.part.s;
@@ -186,11 +186,11 @@ impl Sender<'_> {
     }
 }
 
-impl<'a> Accepted<'a> {
+impl Accepted<'_> {
     // Segment i of its cycle.
-    fn sender(&self, i: u64) -> Sender<'a>
+    fn sender(&self, i: u64) -> Sender<'_>
         requires { i < segment_count (plan_of self.now.cycle.f []) }
-        ensures { (result.part.cycle.f ≡ self.now.cycle.f) × (result.list.now ≡ self.now.list.now) × (result.part.s.number ≡ i) }
+        ensures { (result.part.cycle.now.f ≡ self.now.cycle.f) × (result.list.now ≡ self.now.list.now) × (result.part.s.number ≡ i) }
     {
         Sender {
             part: self.cycle.part(i),

@@ -72,12 +72,12 @@ impl Cycle {
     }
 }
 
-impl Part {
+impl Part<'_> {
     // The head of the bucket at x.
     pub fn head_at(&self, x: u64) -> Head
-        requires { (x < self.now.s.end) × (self.now.s.end ≤ self.now.cycle.f.size)
-            × (to_next_segment (drop (suc x) (slots (plan_of self.now.cycle.f []))) ≡ self.now.s.end - x) }
-        ensures { result ≡ head_of (cycle_bucket (plan_of self.now.cycle.f []) x) }
+        requires { (x < self.now.s.end) × (self.now.s.end ≤ self.now.cycle.now.f.size)
+            × (to_next_segment (drop (suc x) (slots (plan_of self.now.cycle.now.f []))) ≡ self.now.s.end - x) }
+        ensures { result ≡ head_of (cycle_bucket (plan_of self.now.cycle.now.f []) x) }
     {
         Head {
             position: x,
@@ -89,11 +89,11 @@ impl Part {
     // The distance from bucket j of height e in the segment's tree, at x, to its child i. A full subtree of the children's height
     // has `full` index buckets, and those of the earlier children are full.
     fn tree_distance(&self, e: usize, j: u64, x: u64, full: u64, i: u64) -> u64
-        requires tree_place { TreePlace self.now.cycle.f self.now.s e j x }
-        requires full_value { full ≡ full_size self.now.cycle.f.n (e - 1) }
-        requires i_in_bounds { i < length (children (plan_of self.now.cycle.f []) (self.now.cycle.f.k + 1 - e) j) }
+        requires tree_place { TreePlace self.now.cycle.now.f self.now.s e j x }
+        requires full_value { full ≡ full_size self.now.cycle.now.f.n (e - 1) }
+        requires i_in_bounds { i < length (children (plan_of self.now.cycle.now.f []) (self.now.cycle.now.f.k + 1 - e) j) }
         ensures { result ≡
-            tree_distance (plan_of self.now.cycle.f []) self.now.cycle.f.size x e j (j * self.now.cycle.f.n + i) }
+            tree_distance (plan_of self.now.cycle.now.f []) self.now.cycle.now.f.size x e j (j * self.now.cycle.now.f.n + i) }
     {
         if e != 1 {
             return 1 + i * full;
@@ -107,11 +107,11 @@ impl Part {
 
     // The distance from bucket j of height e of the segment, at x, to its child i: a child of a path bucket may stand anywhere.
     fn child_distance(&self, e: usize, j: u64, x: u64, full: u64, i: u64) -> u64
-        requires index_place { IndexPlace self.now.cycle.f self.now.s e j x }
-        requires full_value { full ≡ full_size self.now.cycle.f.n (e - 1) }
-        requires i_in_bounds { i < length (children (plan_of self.now.cycle.f []) (self.now.cycle.f.k + 1 - e) j) }
+        requires index_place { IndexPlace self.now.cycle.now.f self.now.s e j x }
+        requires full_value { full ≡ full_size self.now.cycle.now.f.n (e - 1) }
+        requires i_in_bounds { i < length (children (plan_of self.now.cycle.now.f []) (self.now.cycle.now.f.k + 1 - e) j) }
         ensures { result ≡
-            child_distance (plan_of self.now.cycle.f []) self.now.cycle.f.size x e j (j * self.now.cycle.f.n + i) }
+            child_distance (plan_of self.now.cycle.now.f []) self.now.cycle.now.f.size x e j (j * self.now.cycle.now.f.n + i) }
     {
         let f = &self.cycle.f;
         if self.s.height < e {
@@ -126,19 +126,19 @@ impl Part {
 // an image. Where `plain` says so, no tag of it has a leading zero.
 #[derive(Clone, Copy)]
 pub struct Printer<'a> {
-    pub part: &'a Part,
+    pub part: &'a Part<'a>,
     pub source: Source,
     pub text: &'a [u8],
     pub plain: bool,
-    pub ghost printing: { Printing part.now.cycle.f source text.now plain part.now.s } by { Prim.hlevel held },
+    pub ghost printing: { Printing part.now.cycle.now.f source text.now plain part.now.s } by { Prim.hlevel held },
 }
 
 impl Printer<'_> {
     // The tag of line i.
     #[tactic(auto, using(crate::proofs::Lines::LinesHeld::line_fits), unfolding(crate::specs::Inner::Held::tag_at))]
     fn tag_of(&self, i: u64) -> u64
-        requires { i < self.now.part.now.cycle.f.lines }
-        ensures { result ≡ tag_at self.now.part.now.cycle.f self.now.source self.now.text.now i }
+        requires { i < self.now.part.now.cycle.now.f.lines }
+        ensures { result ≡ tag_at self.now.part.now.cycle.now.f self.now.source self.now.text.now i }
     {
         let at = self.part.cycle.line_place(self.source, i);
         spelled_tag(self.text, at)
@@ -147,17 +147,17 @@ impl Printer<'_> {
     // The largest tag under bucket j of height e.
     #[tactic(auto, using(crate::proofs::Trees::Readiness::reached, crate::proofs::Trees::LargestTags::largest_tag_lem))]
     fn largest_tag(&self, e: usize, j: u64) -> u64
-        requires { (1 ≤ self.now.part.now.cycle.f.d) × InTree self.now.part.now.cycle.f e j }
+        requires { (1 ≤ self.now.part.now.cycle.now.f.d) × InTree self.now.part.now.cycle.now.f e j }
         ensures { result ≡
-            largest_tag (plan_in self.now.part.now.cycle.f self.now.source self.now.text.now) (self.now.part.now.cycle.f.k + 1 - e) j }
+            largest_tag (plan_in self.now.part.now.cycle.now.f self.now.source self.now.text.now) (self.now.part.now.cycle.now.f.k + 1 - e) j }
     {
-        let cycle = &self.part.cycle;
+        let cycle = self.part.cycle;
         self.tag_of(cycle.last_line(power(cycle.f.n, e), j))
     }
 
     // The tag of the last line of the data buckets sent before the segment, if there is one.
     fn last_sent_tag(&self) -> Option<u64>
-        ensures { result ≡ last_of (plan_in self.now.part.now.cycle.f self.now.source self.now.text.now) self.now.part.now.s.first }
+        ensures { result ≡ last_of (plan_in self.now.part.now.cycle.now.f self.now.source self.now.text.now) self.now.part.now.s.first }
     {
         let sent = self.part.s.first;
         if sent == 0 {
@@ -169,10 +169,10 @@ impl Printer<'_> {
     // The first control pair of a bucket at x: the tag that was sent last, and the distance to the next cycle's start.
     #[tactic(auto, unfolding(crate::specs::Cycle::first_pair))]
     fn first_pair(&self, x: u64) -> Pair
-        requires { x < self.now.part.now.cycle.f.size }
+        requires { x < self.now.part.now.cycle.now.f.size }
         ensures { result ≡
-            first_pair (last_of (plan_in self.now.part.now.cycle.f self.now.source self.now.text.now) self.now.part.now.s.first)
-            (self.now.part.now.cycle.f.size - x) }
+            first_pair (last_of (plan_in self.now.part.now.cycle.now.f self.now.source self.now.text.now) self.now.part.now.s.first)
+            (self.now.part.now.cycle.now.f.size - x) }
     {
         Pair {
             tag: self.last_sent_tag(),
@@ -182,10 +182,10 @@ impl Printer<'_> {
 
     // The control pairs of a bucket of height e in the segment's tree, at x: the root of layout 2 has one.
     fn tree_pairs(&self, e: usize, x: u64) -> ArrayVec<Pair, 4>
-        requires { x < self.now.part.now.cycle.f.size }
+        requires { x < self.now.part.now.cycle.now.f.size }
         ensures { result.items ≡
-            tree_pairs (plan_in self.now.part.now.cycle.f self.now.source self.now.text.now) self.now.part.now.s.first
-            (self.now.part.now.cycle.f.size - x) e }
+            tree_pairs (plan_in self.now.part.now.cycle.now.f self.now.source self.now.text.now) self.now.part.now.s.first
+            (self.now.part.now.cycle.now.f.size - x) e }
     {
         let f = &self.part.cycle.f;
         let mut pairs = ArrayVec::new();
@@ -197,12 +197,12 @@ impl Printer<'_> {
 
     // The control pairs of the path bucket of level i of the segment, at x.
     fn path_pairs(&self, i: u64, x: u64) -> ArrayVec<Pair, 4>
-        requires some_data { 1 ≤ self.now.part.now.cycle.f.d }
-        requires x_in_bounds { x < self.now.part.now.cycle.f.size }
-        requires on_path { OnPath (plan_of self.now.part.now.cycle.f []) self.now.part.now.s.number i x }
-        ensures { result.items ≡ path_pairs self.now.part.now.cycle.f self.now.source self.now.text.now self.now.part.now.s i x }
+        requires some_data { 1 ≤ self.now.part.now.cycle.now.f.d }
+        requires x_in_bounds { x < self.now.part.now.cycle.now.f.size }
+        requires on_path { OnPath (plan_of self.now.part.now.cycle.now.f []) self.now.part.now.s.number i x }
+        ensures { result.items ≡ path_pairs self.now.part.now.cycle.now.f self.now.source self.now.text.now self.now.part.now.s i x }
     {
-        let cycle = &self.part.cycle;
+        let cycle = self.part.cycle;
         let mut pairs = ArrayVec::new();
         pairs.push(self.first_pair(x));
         for level in 2..i + 1 {
@@ -221,11 +221,11 @@ impl Printer<'_> {
     fn put_entries(&self, part: &mut [u8], e: usize, j: u64, x: u64, count: usize)
         requires part_len { length part.old ≡ bucket_length }
         requires entries_blank { EntriesBlank part.old }
-        requires index_place { IndexPlace self.now.part.now.cycle.f self.now.part.now.s e j x }
-        requires count_value { count ≡ length (children (plan_of self.now.part.now.cycle.f []) (self.now.part.now.cycle.f.k + 1 - e) j) }
+        requires index_place { IndexPlace self.now.part.now.cycle.now.f self.now.part.now.s e j x }
+        requires count_value { count ≡ length (children (plan_of self.now.part.now.cycle.now.f []) (self.now.part.now.cycle.now.f.k + 1 - e) j) }
         ensures { part.new ≡
             put part.old entries_start
-            (joined print_entry (child_entries self.now.part.now.cycle.f self.now.source self.now.text.now e j x count)) }
+            (joined print_entry (child_entries self.now.part.now.cycle.now.f self.now.source self.now.text.now e j x count)) }
     {
         let below = e - 1;
         let span = power(self.part.cycle.f.n, below);
@@ -249,28 +249,29 @@ impl Printer<'_> {
         pairs: &[Pair],
     )
         requires part_len { length part.old ≡ bucket_length }
-        requires index_place { IndexPlace self.now.part.now.cycle.f self.now.part.now.s e j x }
-        requires count_value { count ≡ length (children (plan_of self.now.part.now.cycle.f []) (self.now.part.now.cycle.f.k + 1 - e) j) }
+        requires index_place { IndexPlace self.now.part.now.cycle.now.f self.now.part.now.s e j x }
+        requires count_value { count ≡ length (children (plan_of self.now.part.now.cycle.now.f []) (self.now.part.now.cycle.now.f.k + 1 - e) j) }
         requires start_le_x { (self.now.part.now.s.start ≤ x) × (x < self.now.part.now.s.end) }
         requires pairs_le_pairs_most { length pairs.now ≤ pairs_most }
         ensures { part.new ≡
             put
-            (padded bucket_end (index_front (head_of (cycle_bucket (plan_of self.now.part.now.cycle.f []) x)) pairs.now count)
+            (padded bucket_end (index_front (head_of (cycle_bucket (plan_of self.now.part.now.cycle.now.f []) x)) pairs.now count)
             ++ newline ∷ [])
             entries_start
-            (joined print_entry (child_entries self.now.part.now.cycle.f self.now.source self.now.text.now e j x count)) }
+            (joined print_entry (child_entries self.now.part.now.cycle.now.f self.now.source self.now.text.now e j x count)) }
     {
         start_index(part, self.part.head_at(x), pairs, count);
         self.put_entries(part, e, j, x, count);
     }
 
     // Bucket j of height e of the segment's tree, at x, with `count` entries.
+    #[inline]
     pub fn print_tree_bucket(&self, part: &mut [u8], e: usize, j: u64, x: u64, count: usize)
         requires part_len { length part.old ≡ bucket_length }
-        requires tree_place { TreePlace self.now.part.now.cycle.f self.now.part.now.s e j x }
-        requires count_value { count ≡ length (children (plan_of self.now.part.now.cycle.f []) (self.now.part.now.cycle.f.k + 1 - e) j) }
+        requires tree_place { TreePlace self.now.part.now.cycle.now.f self.now.part.now.s e j x }
+        requires count_value { count ≡ length (children (plan_of self.now.part.now.cycle.now.f []) (self.now.part.now.cycle.now.f.k + 1 - e) j) }
         ensures { part.new ≡
-            print_bucket (cycle_bucket (plan_in self.now.part.now.cycle.f self.now.source self.now.text.now) x) }
+            print_bucket (cycle_bucket (plan_in self.now.part.now.cycle.now.f self.now.source self.now.text.now) x) }
     {
         let pairs = self.tree_pairs(e, x);
         self.print_index_bucket(part, e, j, x, count, pairs.as_slice());
@@ -279,11 +280,11 @@ impl Printer<'_> {
     // The path bucket of level i of the segment, at x.
     pub fn print_path_bucket(&self, part: &mut [u8], i: u64, x: u64)
         requires part_len { length part.old ≡ bucket_length }
-        requires path_place { PathPlace self.now.part.now.cycle.f self.now.part.now.s i x }
+        requires path_place { PathPlace self.now.part.now.cycle.now.f self.now.part.now.s i x }
         ensures { part.new ≡
-            print_bucket (cycle_bucket (plan_in self.now.part.now.cycle.f self.now.source self.now.text.now) x) }
+            print_bucket (cycle_bucket (plan_in self.now.part.now.cycle.now.f self.now.source self.now.text.now) x) }
     {
-        let cycle = &self.part.cycle;
+        let cycle = self.part.cycle;
         let h = (cycle.f.copies + 1 - i) as usize;
         let e = (cycle.f.k + 1 - i) as usize;
         let j = self.part.s.number / power(cycle.f.n, h);

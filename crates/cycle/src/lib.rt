@@ -229,12 +229,12 @@ pub struct Segment {
     pub end: u64,
 }
 
-// A segment with the cycle that it is one of.
+// A segment with the cycle that it is one of. The cycle is lent: a part that held it would be too long to be copied without memcpy.
 #[derive(Clone, Copy)]
-struct Part {
-    cycle: Cycle,
+struct Part<'a> {
+    cycle: &'a Cycle,
     s: Segment,
-    ghost placed: { (ls : List Line) → HoldsSegment (plan_of cycle.f ls) s } by { Prim.hlevel held },
+    ghost placed: { (ls : List Line) → HoldsSegment (plan_of cycle.now.f ls) s } by { Prim.hlevel held },
 }
 
 // Where lines stand: in a list, or in the data buckets of an image.

@@ -79,13 +79,13 @@ impl Cycle {
     }
 }
 
-impl Part {
+impl Part<'_> {
     // Where the image has that line, if the data buckets under the bucket are those of a segment of layout 1.
     fn segment_place(&self, span: u64, j: u64) -> usize
-        requires layout_value { layout_number self.now.cycle.f.layout ≡ 1 }
-        requires le_d { 1 ≤ self.now.cycle.f.d }
-        requires spans_in { SpansIn self.now.cycle.f self.now.s span j }
-        ensures { result ≡ tag_place self.now.cycle.f Source.Image span j }
+        requires layout_value { layout_number self.now.cycle.now.f.layout ≡ 1 }
+        requires le_d { 1 ≤ self.now.cycle.now.f.d }
+        requires spans_in { SpansIn self.now.cycle.now.f self.now.s span j }
+        ensures { result ≡ tag_place self.now.cycle.now.f Source.Image span j }
     {
         let f = &self.cycle.f;
         let q = lesser(f.d, (j + 1) * span) - 1;
@@ -98,10 +98,10 @@ impl Part {
     // The same wherever they stand: in layout 1, a bucket below the root of the segment's tree has them in the segment.
     #[tactic(auto, unfolding(crate::specs::Inner::Held::tag_place))]
     fn image_place(&self, span: u64, j: u64) -> usize
-        requires le_d { 1 ≤ self.now.cycle.f.d }
-        requires spans { Spans self.now.cycle.f span j }
-        requires spans_in { span < self.now.cycle.f.span → SpansIn self.now.cycle.f self.now.s span j }
-        ensures { result ≡ tag_place self.now.cycle.f Source.Image span j }
+        requires le_d { 1 ≤ self.now.cycle.now.f.d }
+        requires spans { Spans self.now.cycle.now.f span j }
+        requires spans_in { span < self.now.cycle.now.f.span → SpansIn self.now.cycle.now.f self.now.s span j }
+        ensures { result ≡ tag_place self.now.cycle.now.f Source.Image span j }
     {
         if self.cycle.f.layout == Layout::Distributed && span < self.cycle.f.span {
             return self.segment_place(span, j);
@@ -113,10 +113,10 @@ impl Part {
     // Where a text has it.
     #[tactic(auto, unfolding(crate::specs::Inner::Held::tag_place))]
     pub fn tag_place(&self, source: Source, span: u64, j: u64) -> usize
-        requires le_d { 1 ≤ self.now.cycle.f.d }
-        requires spans { Spans self.now.cycle.f span j }
-        requires spans_in { span < self.now.cycle.f.span → SpansIn self.now.cycle.f self.now.s span j }
-        ensures { result ≡ tag_place self.now.cycle.f source span j }
+        requires le_d { 1 ≤ self.now.cycle.now.f.d }
+        requires spans { Spans self.now.cycle.now.f span j }
+        requires spans_in { span < self.now.cycle.now.f.span → SpansIn self.now.cycle.now.f self.now.s span j }
+        ensures { result ≡ tag_place self.now.cycle.now.f source span j }
     {
         match source {
             Source::List => self

@@ -49,16 +49,16 @@ fn is_at(image: &[u8], x: u64, wanted: &[u8]) -> bool
 // A segment of a cycle, and an image of the right length that is held against it.
 #[derive(Clone, Copy)]
 struct Comparer<'a> {
-    part: Part,
+    part: Part<'a>,
     image: &'a [u8],
-    ghost comparing: { Comparing part.cycle.f image.now part.s } by { Prim.hlevel held },
+    ghost comparing: { Comparing part.cycle.now.f image.now part.s } by { Prim.hlevel held },
 }
 
 impl Comparer<'_> {
     // The position of the data bucket behind data bucket q, which stands at x.
     fn next_data(&self, q: u64, x: u64) -> u64
-        requires { DataPlace self.now.part.s q x × (q + 1 < self.now.part.cycle.f.d) }
-        ensures { result ≡ first_place (plan_of self.now.part.cycle.f []) (self.now.part.cycle.f.k + 1) (q + 1) }
+        requires { DataPlace self.now.part.s q x × (q + 1 < self.now.part.cycle.now.f.d) }
+        ensures { result ≡ first_place (plan_of self.now.part.cycle.now.f []) (self.now.part.cycle.now.f.k + 1) (q + 1) }
     {
         let next = q + 1;
         if next < self.part.s.last {
@@ -70,8 +70,8 @@ impl Comparer<'_> {
     // Whether data bucket q at x, with this last tag, has the right follow-on, and the next data bucket no lower tag.
     fn is_followed(&self, q: u64, x: u64, last: u64, follow_on: u64) -> bool
         requires { DataPlace self.now.part.s q x
-            × (last ≡ last_tag (plan_in self.now.part.cycle.f Source.Image self.now.image.now) q) }
-        ensures { Decides (Followed (plan_in self.now.part.cycle.f Source.Image self.now.image.now) q x follow_on) result }
+            × (last ≡ last_tag (plan_in self.now.part.cycle.now.f Source.Image self.now.image.now) q) }
+        ensures { Decides (Followed (plan_in self.now.part.cycle.now.f Source.Image self.now.image.now) q x follow_on) result }
     {
         let next = q + 1;
         if next == self.part.cycle.f.d {
@@ -93,7 +93,7 @@ impl Comparer<'_> {
     // only their number is compared.
     fn is_data(&self, q: u64, x: u64) -> bool
         requires { DataPlace self.now.part.s q x }
-        ensures { Decides (MatchesAt (plan_in self.now.part.cycle.f Source.Image self.now.image.now) self.now.image.now x) result }
+        ensures { Decides (MatchesAt (plan_in self.now.part.cycle.now.f Source.Image self.now.image.now) self.now.image.now x) result }
     {
         let f = &self.part.cycle.f;
         let at = (BUCKET * x) as usize;
@@ -118,7 +118,7 @@ impl Comparer<'_> {
     // Whether the data buckets of the segment stand in their places.
     fn are_datas(&self) -> bool
         ensures { Decides
-            (Matches (plan_in self.now.part.cycle.f Source.Image self.now.image.now) self.now.image.now self.now.part.s.data_at
+            (Matches (plan_in self.now.part.cycle.now.f Source.Image self.now.image.now) self.now.image.now self.now.part.s.data_at
             self.now.part.s.end)
             result }
     {
@@ -128,11 +128,11 @@ impl Comparer<'_> {
 
     // The lines of the segment's data buckets, each at its place in the list.
     fn write_lines(&self, out: &mut [u8])
-        requires { line_length * self.now.part.cycle.f.lines ≤ length out.old }
+        requires { line_length * self.now.part.cycle.now.f.lines ≤ length out.old }
         ensures { out.new ≡
-            put out.old (line_length * (self.now.part.s.first * self.now.part.cycle.f.p))
-            (list_text self.now.part.cycle.f self.now.image.now (self.now.part.s.first * self.now.part.cycle.f.p)
-            (min self.now.part.cycle.f.lines (self.now.part.s.last * self.now.part.cycle.f.p))) }
+            put out.old (line_length * (self.now.part.s.first * self.now.part.cycle.now.f.p))
+            (list_text self.now.part.cycle.now.f self.now.image.now (self.now.part.s.first * self.now.part.cycle.now.f.p)
+            (min self.now.part.cycle.now.f.lines (self.now.part.s.last * self.now.part.cycle.now.f.p))) }
     {
         let f = &self.part.cycle.f;
         let s = &self.part.s;
@@ -149,9 +149,9 @@ impl Comparer<'_> {
 // A segment of a cycle whose data buckets the image is known to have, so that the index buckets that belong to them can be printed.
 #[derive(Clone, Copy)]
 struct Checker<'a> {
-    part: Part,
+    part: Part<'a>,
     image: &'a [u8],
-    ghost checking: { Checking part.cycle.f image.now part.s } by { Prim.hlevel held },
+    ghost checking: { Checking part.cycle.now.f image.now part.s } by { Prim.hlevel held },
 }
 
 impl Checker<'_> {
@@ -170,9 +170,9 @@ impl Checker<'_> {
 
     // Whether bucket j of height e of the segment's tree, with `count` entries, stands at x.
     fn is_tree_bucket(&self, e: usize, j: u64, x: u64, count: usize) -> bool
-        requires { TreePlace self.now.part.cycle.f self.now.part.s e j x
-            × (count ≡ length (children (plan_of self.now.part.cycle.f []) (self.now.part.cycle.f.k + 1 - e) j)) }
-        ensures { Decides (MatchesAt (plan_in self.now.part.cycle.f Source.Image self.now.image.now) self.now.image.now x) result }
+        requires { TreePlace self.now.part.cycle.now.f self.now.part.s e j x
+            × (count ≡ length (children (plan_of self.now.part.cycle.now.f []) (self.now.part.cycle.now.f.k + 1 - e) j)) }
+        ensures { Decides (MatchesAt (plan_in self.now.part.cycle.now.f Source.Image self.now.image.now) self.now.image.now x) result }
     {
         let mut wanted = [0u8; Bucket::LENGTH];
         self.printer()
@@ -182,11 +182,11 @@ impl Checker<'_> {
 
     // The position behind the subtree of bucket j of height e, if it stands from x on.
     fn behind_subtree(&self, e: usize, j: u64, x: u64) -> Option<u64>
-        requires { TreePlace self.now.part.cycle.f self.now.part.s e j x }
+        requires { TreePlace self.now.part.cycle.now.f self.now.part.s e j x }
         ensures { Finds
-            (Matches (plan_in self.now.part.cycle.f Source.Image self.now.image.now) self.now.image.now x
-            (x + length (tree_at (plan_of self.now.part.cycle.f []) e j)))
-            (x + length (tree_at (plan_of self.now.part.cycle.f []) e j)) result }
+            (Matches (plan_in self.now.part.cycle.now.f Source.Image self.now.image.now) self.now.image.now x
+            (x + length (tree_at (plan_of self.now.part.cycle.now.f []) e j)))
+            (x + length (tree_at (plan_of self.now.part.cycle.now.f []) e j)) result }
     {
         let count = self.part.cycle.child_count(e, j);
         if !self.is_tree_bucket(e, j, x, count) {
@@ -205,8 +205,8 @@ impl Checker<'_> {
 
     // Whether the path bucket of level i of the segment stands at x.
     fn is_path_bucket(&self, i: u64, x: u64) -> bool
-        requires { PathPlace self.now.part.cycle.f self.now.part.s i x }
-        ensures { Decides (MatchesAt (plan_in self.now.part.cycle.f Source.Image self.now.image.now) self.now.image.now x) result }
+        requires { PathPlace self.now.part.cycle.now.f self.now.part.s i x }
+        ensures { Decides (MatchesAt (plan_in self.now.part.cycle.now.f Source.Image self.now.image.now) self.now.image.now x) result }
     {
         let mut wanted = [0u8; Bucket::LENGTH];
         self.printer().print_path_bucket(&mut wanted, i, x);
@@ -216,7 +216,7 @@ impl Checker<'_> {
     // Whether the path of the segment stands in its place.
     fn is_path(&self) -> bool
         ensures { Decides
-            (Matches (plan_in self.now.part.cycle.f Source.Image self.now.image.now) self.now.image.now self.now.part.s.start
+            (Matches (plan_in self.now.part.cycle.now.f Source.Image self.now.image.now) self.now.image.now self.now.part.s.start
             self.now.part.s.tree_at)
             result }
     {
@@ -227,7 +227,7 @@ impl Checker<'_> {
     // Whether the index buckets of the segment, its path and its tree, stand in their places as its data buckets do.
     fn is_segment(&self) -> bool
         ensures { Decides
-            (Matches (plan_in self.now.part.cycle.f Source.Image self.now.image.now) self.now.image.now self.now.part.s.start
+            (Matches (plan_in self.now.part.cycle.now.f Source.Image self.now.image.now) self.now.image.now self.now.part.s.start
             self.now.part.s.end)
             result }
     {
@@ -244,11 +244,11 @@ struct Held<'a> {
     ghost long: { length image.now ≡ bucket_length * cycle.f.size },
 }
 
-impl<'a> Held<'a> {
+impl Held<'_> {
     // Segment i of the cycle, to be held against the image.
-    fn comparer(&self, i: u64) -> Comparer<'a>
+    fn comparer(&self, i: u64) -> Comparer<'_>
         requires { i < segment_count (plan_of self.now.cycle.f []) }
-        ensures { (result.part.cycle.f ≡ self.now.cycle.f) × (result.image.now ≡ self.now.image.now) × (result.part.s.number ≡ i) }
+        ensures { (result.part.cycle.now.f ≡ self.now.cycle.f) × (result.image.now ≡ self.now.image.now) × (result.part.s.number ≡ i) }
     {
         Comparer {
             part: self.cycle.part(i),
@@ -257,10 +257,10 @@ impl<'a> Held<'a> {
     }
 
     // The same, where all data buckets stand in their places.
-    fn checker(&self, i: u64) -> Checker<'a>
+    fn checker(&self, i: u64) -> Checker<'_>
         requires { (i < segment_count (plan_of self.now.cycle.f []))
             × DataMatches (plan_in self.now.cycle.f Source.Image self.now.image.now) self.now.image.now 0 self.now.cycle.f.d }
-        ensures { (result.part.cycle.f ≡ self.now.cycle.f) × (result.image.now ≡ self.now.image.now) × (result.part.s.number ≡ i) }
+        ensures { (result.part.cycle.now.f ≡ self.now.cycle.f) × (result.image.now ≡ self.now.image.now) × (result.part.s.number ≡ i) }
     {
         Checker {
             part: self.cycle.part(i),

@@ -144,14 +144,14 @@ impl Cycle {
     // A segment by its number. The two `for` and two `all` that go over all of them count: a struct with an `impl Iterator` would be
     // longer than these lines.
     #[tactic(auto, using(crate::proofs::Segmenting::SegmentSizes::count_wholes), unfolding(crate::specs::Inner::Held::plan_of))]
-    pub fn part(&self, number: u64) -> Part
+    pub fn part(&self, number: u64) -> Part<'_>
         requires { number < segment_count (plan_of self.now.f []) }
-        ensures { (result.cycle.f ≡ self.now.f) × (result.s.number ≡ number) }
+        ensures { (result.cycle.now.f ≡ self.now.f) × (result.s.number ≡ number) }
     {
         let s = match self.f.layout {
             Layout::Distributed => self.distributed_segment(number),
             Layout::OneM => self.whole_segment(number),
         };
-        Part { cycle: *self, s }
+        Part { cycle: self, s }
     }
 }

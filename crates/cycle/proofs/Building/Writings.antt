@@ -42,7 +42,7 @@ module _ (f : Figures) (list : List ℕ) (sending : AcceptedList f list) (d : Li
 
 module _ (w : Sender) where
   abbrev f : Figures
-  f = w.part.cycle.f
+  f = w.part.cycle.now.f
 
   abbrev list : List ℕ
   list = w.list.now
@@ -75,7 +75,7 @@ module _ (w : Sender) where
     pub bucket_written :
         (q : Printer) → (q.part.now ≡ w.part) × (q.source ≡ InList) × (q.text.now ≡ list) →
         {last : List ℕ} → length last ≡ length (take (at + bucket_length - at) (drop at image)) →
-        last ≡ print_bucket (cycle_bucket (plan_in q.part.now.cycle.f q.source q.text.now) x) →
+        last ≡ print_bucket (cycle_bucket (plan_in q.part.now.cycle.now.f q.source q.text.now) x) →
         take at image ++ (last ++ drop (at + bucket_length - at) (drop at image)) ≡ written (plan_in f InList list) image x (x + 1)
     bucket_written q (part, source, text) {last} kept is =
         lent_written image at bucket_length last (print_bucket (cycle_bucket (plan_in f InList list) x)) lent_room kept

@@ -31,24 +31,24 @@ bounds {f} {s} {e} {j} {x} {i} ready p inside =
     }
 
 pub overflow_add-f : goal.overflow_add-f
-overflow_add-f c = omega (arith, bounds c.args.self.now.cycle.ready c.requires.index_place c.requires.i_in_bounds)
+overflow_add-f c = omega (arith, bounds c.args.self.now.cycle.now.ready c.requires.index_place c.requires.i_in_bounds)
 
 pub overflow_sub-f : goal.overflow_sub-f
-overflow_sub-f c = omega (arith, bounds c.args.self.now.cycle.ready c.requires.index_place c.requires.i_in_bounds)
+overflow_sub-f c = omega (arith, bounds c.args.self.now.cycle.now.ready c.requires.index_place c.requires.i_in_bounds)
 
 pub overflow_mul-j : goal.overflow_mul-j
-overflow_mul-j c = omega (arith, bounds c.args.self.now.cycle.ready c.requires.index_place c.requires.i_in_bounds)
+overflow_mul-j c = omega (arith, bounds c.args.self.now.cycle.now.ready c.requires.index_place c.requires.i_in_bounds)
 
 pub overflow_add-j : goal.overflow_add-j
-overflow_add-j c = omega (arith, bounds c.args.self.now.cycle.ready c.requires.index_place c.requires.i_in_bounds)
+overflow_add-j c = omega (arith, bounds c.args.self.now.cycle.now.ready c.requires.index_place c.requires.i_in_bounds)
 
 pub first_place-place-requires : goal.first_place-place-requires
 unfolding plan_of
 first_place-place-requires c =
-    let f = c.args.self.now.cycle.f in
+    let f = c.args.self.now.cycle.now.f in
     let e : ℕ = c.args.e in
     let p = c.requires.index_place in
-    let b = bounds c.args.self.now.cycle.ready p c.requires.i_in_bounds in
+    let b = bounds c.args.self.now.cycle.now.ready p c.requires.i_in_bounds in
     let above = c.if-self-e.true in
     let one : layout_number f.layout ≡ 1 = p.on_path_lem above in
     let tall : c.args.self.now.s.height ≡ f.k - f.copies =
@@ -58,13 +58,13 @@ first_place-place-requires c =
       omega (arith, b),
       omega (arith, b, above),
       subst (λ h. InTree f h (c.args.j * f.n + c.args.i)) height
-          (child_inside f c.args.self.now.cycle.ready e c.args.j p.low p.inside c.args.i c.requires.i_in_bounds),
+          (child_inside f c.args.self.now.cycle.now.ready e c.args.j p.low p.inside c.args.i c.requires.i_in_bounds),
     )
 
 pub returns-then-self-e : goal.returns-then-self-e
 unfolding child_distance plan_of
 returns-then-self-e c =
-    let f = c.args.self.now.cycle.f in
+    let f = c.args.self.now.cycle.now.f in
     let told : tree_height (plan_of f []) ≡ c.args.self.now.s.height = sym (c.args.self.now.placed []).height_is in
     c.ahead.ensures
     ∙ ap (ahead_of f.size c.args.x) c.first_place-place.ensures
@@ -73,7 +73,7 @@ returns-then-self-e c =
 pub returns : goal.returns
 unfolding child_distance
 returns c =
-    let f = c.args.self.now.cycle.f in
+    let f = c.args.self.now.cycle.now.f in
     let told : tree_height (plan_of f []) ≡ c.args.self.now.s.height = sym (c.args.self.now.placed []).height_is in
     c.tree_distance.ensures
     ∙ sym (rw (le-ltb (tree_height (plan_of f [])) c.args.e (omega (arith, told, c.if-self-e.false))))

@@ -53,49 +53,49 @@ pub overflow_add-j : goal.overflow_add-j
 overflow_add-j c =
     let p = c.args.self.now in
     let r = c.requires in
-    omega (arith, known p.cycle.ready p.placed r.layout_value r.le_d r.spans_in)
+    omega (arith, known p.cycle.now.ready p.placed r.layout_value r.le_d r.spans_in)
 
 pub overflow_mul-j : goal.overflow_mul-j
 overflow_mul-j c =
     let p = c.args.self.now in
     let r = c.requires in
-    omega (arith, known p.cycle.ready p.placed r.layout_value r.le_d r.spans_in)
+    omega (arith, known p.cycle.now.ready p.placed r.layout_value r.le_d r.spans_in)
 
 pub overflow_sub-q : goal.overflow_sub-q
 overflow_sub-q c =
     let p = c.args.self.now in
     let r = c.requires in
-    pos p.cycle.ready p.placed r.layout_value r.le_d r.spans_in c.lesser-q.ensures
+    pos p.cycle.now.ready p.placed r.layout_value r.le_d r.spans_in c.lesser-q.ensures
 
 pub overflow_mul-q : goal.overflow_mul-q
 overflow_mul-q c =
     let p = c.args.self.now in
     let r = c.requires in
-    omega (arith, room p.cycle.ready p.placed r.layout_value r.le_d r.spans_in c.lesser-q.ensures)
+    omega (arith, room p.cycle.now.ready p.placed r.layout_value r.le_d r.spans_in c.lesser-q.ensures)
 
 pub overflow_sub-f : goal.overflow_sub-f
 overflow_sub-f c =
     let p = c.args.self.now in
     let r = c.requires in
-    omega (arith, room p.cycle.ready p.placed r.layout_value r.le_d r.spans_in c.lesser-q.ensures)
+    omega (arith, room p.cycle.now.ready p.placed r.layout_value r.le_d r.spans_in c.lesser-q.ensures)
 
 pub overflow_sub-x : goal.overflow_sub-x
 overflow_sub-x c =
     let p = c.args.self.now in
     let r = c.requires in
-    omega (arith, room p.cycle.ready p.placed r.layout_value r.le_d r.spans_in c.lesser-q.ensures)
+    omega (arith, room p.cycle.now.ready p.placed r.layout_value r.le_d r.spans_in c.lesser-q.ensures)
 
 pub overflow_add-x : goal.overflow_add-x
 overflow_add-x c =
     let p = c.args.self.now in
     let r = c.requires in
-    omega (arith, room p.cycle.ready p.placed r.layout_value r.le_d r.spans_in c.lesser-q.ensures)
+    omega (arith, room p.cycle.now.ready p.placed r.layout_value r.le_d r.spans_in c.lesser-q.ensures)
 
 pub overflow_mul-result : goal.overflow_mul-result
 overflow_mul-result c =
     let p = c.args.self.now in
     let r = c.requires in
-    omega (arith, room p.cycle.ready p.placed r.layout_value r.le_d r.spans_in c.lesser-q.ensures)
+    omega (arith, room p.cycle.now.ready p.placed r.layout_value r.le_d r.spans_in c.lesser-q.ensures)
 
 pub overflow_sub-result : goal.overflow_sub-result
 overflow_sub-result c =
@@ -103,8 +103,8 @@ overflow_sub-result c =
     let r = c.requires in
     omega (
       arith,
-      lines_are p.cycle.ready p.placed r.layout_value r.le_d r.spans_in c.lesser-q.ensures c.lesser-lines.ensures,
-      (line_there p.cycle.ready p.placed r.layout_value r.le_d r.spans_in).some_lines,
+      lines_are p.cycle.now.ready p.placed r.layout_value r.le_d r.spans_in c.lesser-q.ensures c.lesser-lines.ensures,
+      (line_there p.cycle.now.ready p.placed r.layout_value r.le_d r.spans_in).some_lines,
     )
 
 pub overflow_add-result-2 : goal.overflow_add-result-2
@@ -113,13 +113,13 @@ overflow_add-result-2 c =
     let r = c.requires in
     omega (
       arith,
-      room p.cycle.ready p.placed r.layout_value r.le_d r.spans_in c.lesser-q.ensures,
+      room p.cycle.now.ready p.placed r.layout_value r.le_d r.spans_in c.lesser-q.ensures,
       c.lesser-lines.ensures,
-      p.cycle.ready.shaped.p_high,
+      p.cycle.now.ready.shaped.p_high,
     )
 
 pub returns : goal.returns
 returns c =
     let p = c.args.self.now in
     let r = c.requires in
-    there p.cycle.ready p.placed r.layout_value r.le_d r.spans_in c.lesser-q.ensures c.lesser-lines.ensures
+    there p.cycle.now.ready p.placed r.layout_value r.le_d r.spans_in c.lesser-q.ensures c.lesser-lines.ensures

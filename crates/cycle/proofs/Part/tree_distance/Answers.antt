@@ -105,32 +105,32 @@ module _ {f : Figures} {s : Segment} {e j x i : ℕ} (ready : Ready f) (p : Tree
 pub overflow_mul-result : goal.overflow_mul-result
 overflow_mul-result c =
     let r = c.requires in
-    omega (arith, full_small c.args.self.now.cycle.ready r.tree_place r.i_in_bounds c.args.full r.full_value)
+    omega (arith, full_small c.args.self.now.cycle.now.ready r.tree_place r.i_in_bounds c.args.full r.full_value)
 
 pub overflow_add-result : goal.overflow_add-result
 overflow_add-result c =
     let r = c.requires in
-    omega (arith, full_small c.args.self.now.cycle.ready r.tree_place r.i_in_bounds c.args.full r.full_value)
+    omega (arith, full_small c.args.self.now.cycle.now.ready r.tree_place r.i_in_bounds c.args.full r.full_value)
 
 pub returns-then-e-ne1 : goal.returns-then-e-ne1
 returns-then-e-ne1 c =
-    let cycle = c.args.self.now.cycle in
+    let cycle = c.args.self.now.cycle.now in
     let p = c.requires.tree_place in
     ap (λ z. 1 + c.args.i * z) c.requires.full_value
     ∙ near cycle.f cycle.ready c.args.e c.args.j p.low p.inside c.args.x c.args.i c.if-e-ne1.true c.requires.i_in_bounds
 
 pub overflow_mul-c : goal.overflow_mul-c
-overflow_mul-c c = omega (arith, child c.args.self.now.cycle.ready c.requires.tree_place c.requires.i_in_bounds c.if-e-ne1.false)
+overflow_mul-c c = omega (arith, child c.args.self.now.cycle.now.ready c.requires.tree_place c.requires.i_in_bounds c.if-e-ne1.false)
 
 pub overflow_add-c : goal.overflow_add-c
-overflow_add-c c = omega (arith, child c.args.self.now.cycle.ready c.requires.tree_place c.requires.i_in_bounds c.if-e-ne1.false)
+overflow_add-c c = omega (arith, child c.args.self.now.cycle.now.ready c.requires.tree_place c.requires.i_in_bounds c.if-e-ne1.false)
 
 pub overflow_sub-result : goal.overflow_sub-result
 overflow_sub-result c =
     let p = c.args.self.now in
     let r = c.requires in
     let one = ap layout_number c.in-Distributed.is in
-    omega (arith, (row p.cycle.ready r.tree_place r.i_in_bounds p.placed c.if-e-ne1.false one).low)
+    omega (arith, (row p.cycle.now.ready r.tree_place r.i_in_bounds p.placed c.if-e-ne1.false one).low)
 
 pub overflow_add-result-in-Distributed : goal.overflow_add-result-in-Distributed
 overflow_add-result-in-Distributed c =
@@ -139,34 +139,34 @@ overflow_add-result-in-Distributed c =
     let one = ap layout_number c.in-Distributed.is in
     omega (
       arith,
-      row p.cycle.ready r.tree_place r.i_in_bounds p.placed c.if-e-ne1.false one,
-      (child p.cycle.ready r.tree_place r.i_in_bounds c.if-e-ne1.false).few_children,
+      row p.cycle.now.ready r.tree_place r.i_in_bounds p.placed c.if-e-ne1.false one,
+      (child p.cycle.now.ready r.tree_place r.i_in_bounds c.if-e-ne1.false).few_children,
     )
 
 pub returns-in-Distributed : goal.returns-in-Distributed
 returns-in-Distributed c =
     let p = c.args.self.now in
-    let f = p.cycle.f in
+    let f = p.cycle.now.f in
     let r = c.requires in
-    let here = tree_before f p.s p.cycle.ready p.placed c.args.e c.args.j c.args.x r.tree_place in
+    let here = tree_before f p.s p.cycle.now.ready p.placed c.args.e c.args.j c.args.x r.tree_place in
     onward f.size c.args.x _ (omega (arith, here))
     ∙ far f c.args.x c.args.e c.args.j (c.args.j * f.n + c.args.i) _ c.if-e-ne1.false
-    (there p.cycle.ready r.tree_place r.i_in_bounds p.placed c.if-e-ne1.false (ap layout_number c.in-Distributed.is))
+    (there p.cycle.now.ready r.tree_place r.i_in_bounds p.placed c.if-e-ne1.false (ap layout_number c.in-Distributed.is))
 
 pub data_place-requires : goal.data_place-requires
-data_place-requires c = (child c.args.self.now.cycle.ready c.requires.tree_place c.requires.i_in_bounds c.if-e-ne1.false).below
+data_place-requires c = (child c.args.self.now.cycle.now.ready c.requires.tree_place c.requires.i_in_bounds c.if-e-ne1.false).below
 
 pub ahead-requires : goal.ahead-requires
 ahead-requires c =
     let p = c.args.self.now in
-    let f = p.cycle.f in
+    let f = p.cycle.now.f in
     omega (
       arith,
-      seated f p.s p.cycle.ready p.placed,
-      tree_before f p.s p.cycle.ready p.placed c.args.e c.args.j c.args.x c.requires.tree_place,
+      seated f p.s p.cycle.now.ready p.placed,
+      tree_before f p.s p.cycle.now.ready p.placed c.args.e c.args.j c.args.x c.requires.tree_place,
     )
 
 pub returns-in-OneM : goal.returns-in-OneM
 returns-in-OneM c =
-    let f = c.args.self.now.cycle.f in
+    let f = c.args.self.now.cycle.now.f in
     c.ahead.ensures ∙ far f c.args.x c.args.e c.args.j (c.args.j * f.n + c.args.i) _ c.if-e-ne1.false c.data_place.ensures

@@ -14,7 +14,7 @@ returns-then-e-eq1 t c =
     let a = c.args in
     let w = a.self.now in
     let end = alone w.sending.ready w.part.placed c.requires.1 c.if-e-eq1.true in
-    (end, c.write_tree_bucket-count.ensures.1 ∙ ap (written (plan_in w.part.cycle.f InList w.list.now) a.image.now a.x) end)
+    (end, c.write_tree_bucket-count.ensures.1 ∙ ap (written (plan_in w.part.cycle.now.f InList w.list.now) a.image.now a.x) end)
 
 pub overflow_mul-first : goal.overflow_mul-first
 overflow_mul-first t c = let w = c.args.self.now in first_fits w.sending.ready w.part.placed c.requires.1

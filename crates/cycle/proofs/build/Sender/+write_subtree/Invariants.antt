@@ -10,5 +10,5 @@ decreases-write_subtree l = l.e
 
 abbrev pub invariant-loop-i : goal.invariant-loop-i
 invariant-loop-i l =
-    Behind l.self.part.cycle.f l.e l.j l.x l.count l.i l.next
-    × (l.image ≡ written (plan_in l.self.part.cycle.f InList l.self.list.now) l.initial.image (l.x + 1) l.next)
+    Behind l.self.part.cycle.now.f l.e l.j l.x l.count l.i l.next
+    × (l.image ≡ written (plan_in l.self.part.cycle.now.f InList l.self.list.now) l.initial.image (l.x + 1) l.next)

@@ -15,12 +15,12 @@ use Rattle.cycle.proofs.Lines.FollowOns.{full_lines, follow_last, follow_next, f
 use Rattle.cycle.proofs.build.Sender.list_follow_on.Goals as goal
 
 pub overflow_add-next : goal.overflow_add-next
-overflow_add-next c = let w = c.args.self.now in omega (arith, c.requires.0, data_high w.part.cycle.f w.sending.ready.shaped)
+overflow_add-next c = let w = c.args.self.now in omega (arith, c.requires.0, data_high w.part.cycle.now.f w.sending.ready.shaped)
 
 pub returns-then-next-cycle : goal.returns-then-next-cycle
 returns-then-next-cycle c =
     let w = c.args.self.now in
-    sym (follow_last w.part.cycle.f w.sending.ready InList w.list.now c.args.q c.args.x c.requires.1 c.if-next-cycle.true)
+    sym (follow_last w.part.cycle.now.f w.sending.ready InList w.list.now c.args.q c.args.x c.requires.1 c.if-next-cycle.true)
 
 -- the line behind data bucket q, and the one before it
 record Lines (f : Figures) (list : List ℕ) (line : ℕ) : Type 0 where
@@ -58,7 +58,7 @@ overflow_sub-result c =
     omega (
       arith,
       c.data_place.ensures,
-      follow_far w.part.cycle.f w.sending.ready InList w.list.now c.args.q c.args.x c.requires.1
+      follow_far w.part.cycle.now.f w.sending.ready InList w.list.now c.args.q c.args.x c.requires.1
           (omega (arith, c.requires.0, c.if-next-cycle.false)),
     )
 
@@ -74,7 +74,7 @@ digits_there list other e same = ap (λ z. map (λ c. c - 48) (columns list z)) 
 pub returns-then-same_tags : goal.returns-then-same_tags
 returns-then-same_tags c =
     let w = c.args.self.now in
-    let f = w.part.cycle.f in
+    let f = w.part.cycle.now.f in
     let list : List ℕ = w.list.now in
     let more : c.args.q + 1 < f.d = omega (arith, c.requires.0, c.if-next-cycle.false) in
     let l = lines c.args.q w.sending more in
@@ -93,7 +93,7 @@ returns-then-same_tags c =
 pub returns : goal.returns
 returns c =
     let w = c.args.self.now in
-    let f = w.part.cycle.f in
+    let f = w.part.cycle.now.f in
     let list : List ℕ = w.list.now in
     let more : c.args.q + 1 < f.d = omega (arith, c.requires.0, c.if-next-cycle.false) in
     let l = lines c.args.q w.sending more in

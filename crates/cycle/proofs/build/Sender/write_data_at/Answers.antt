@@ -14,7 +14,7 @@ use Rattle.cycle.proofs.build.Sender.write_data_at.Goals as goal
 
 module _ (w : Sender) {q x : ℕ} (p : DataPlace w.part.s q x) where
   abbrev f : Figures
-  f = w.part.cycle.f
+  f = w.part.cycle.now.f
 
   stands : StandsAt (plan_of f []) x (slot (f.k + 1) q ∷ [])
   stands =
@@ -65,5 +65,5 @@ returns c =
     let here = data_below w c.requires.1 in
     lent_written c.args.image.now (bucket_length * c.args.x) bucket_length _ _ (omega (arith, here)) c.write_data.auto.part
     c.write_data.ensures
-    ∙ data_written w.part.cycle.f w.list.now w.sending c.args.x here.1 c.args.image.now c.requires.0 _ c.head_at.ensures c.args.q _ _
+    ∙ data_written w.part.cycle.now.f w.list.now w.sending c.args.x here.1 c.args.image.now c.requires.0 _ c.head_at.ensures c.args.q _ _
     (stands w c.requires.1) c.list_follow_on-follow_on.ensures t.lines_are

@@ -8,7 +8,7 @@ loop-q-init c =
     let w = c.args.self.now in
     let s = w.part.s in
     let none : s.data_at + (s.first - s.first) ≡ s.data_at = omega arith in
-    rw none (begun w.part.cycle.f w.list.now w.sending c.args.image.now c.requires s.data_at)
+    rw none (begun w.part.cycle.now.f w.list.now w.sending c.args.image.now c.requires s.data_at)
 
 pub loop-q-preserved : goal.loop-q-preserved
 loop-q-preserved c =
@@ -21,5 +21,5 @@ loop-q-preserved c =
     let next : s.data_at + (c.loop-q.q + 1 - s.first) ≡ x + 1 = omega arith in
     let before = rw here at c.loop-q.invariant in
     rw next
-    (grown w.part.cycle.f w.list.now w.sending c.args.image.now c.requires s.data_at c.loop-q.image _ x (x + 1)
+    (grown w.part.cycle.now.f w.list.now w.sending c.args.image.now c.requires s.data_at c.loop-q.image _ x (x + 1)
     (omega arith) (omega arith) (omega (arith, sits, ends)) before c.write_data_at.ensures)

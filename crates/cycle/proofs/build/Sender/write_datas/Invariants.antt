@@ -8,4 +8,4 @@ abbrev pub invariant-loop-q : goal.invariant-loop-q
 invariant-loop-q l =
     let w = l.self in
     let s = w.part.s in
-    l.image ≡ written (plan_in w.part.cycle.f InList w.list.now) l.fn.image s.data_at (s.data_at + (l.q - s.first))
+    l.image ≡ written (plan_in w.part.cycle.now.f InList w.list.now) l.fn.image s.data_at (s.data_at + (l.q - s.first))

@@ -6,7 +6,7 @@ use Rattle.cycle.proofs.build.Sender.write_path.Goals as goal
 pub loop-x-init : goal.loop-x-init
 loop-x-init c =
     let w = c.args.self.now in
-    begun w.part.cycle.f w.list.now w.sending c.args.image.now c.requires w.part.s.start
+    begun w.part.cycle.now.f w.list.now w.sending c.args.image.now c.requires w.part.s.start
 
 pub overflow_add-i : goal.overflow_add-i
 overflow_add-i c = omega (arith, path_below c.args.self.now c.loop-x.x (omega arith) c.loop-x-test.true)
@@ -29,7 +29,7 @@ loop-x-preserved c =
     let w = c.args.self.now in
     let x = c.loop-x.x in
     let inside = (path_below w x (omega arith) c.loop-x-test.true).0 in
-    grown w.part.cycle.f w.list.now w.sending c.args.image.now c.requires w.part.s.start c.loop-x.image _ x (x + 1)
+    grown w.part.cycle.now.f w.list.now w.sending c.args.image.now c.requires w.part.s.start c.loop-x.image _ x (x + 1)
     (omega arith) (omega arith) (omega arith) c.loop-x.invariant
     (bucket_written w c.loop-x.image (omega arith) x inside c.printer.result c.printer.ensures c.print_path_bucket.auto.part
     c.print_path_bucket.ensures)

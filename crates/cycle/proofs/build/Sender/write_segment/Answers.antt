@@ -12,7 +12,7 @@ write_subtree-requires c = (omega arith, own_tree c.args.self.now)
 pub returns : goal.returns
 returns c =
     let w = c.args.self.now in
-    let f = w.part.cycle.f in
+    let f = w.part.cycle.now.f in
     let list = w.list.now in
     let image = c.args.image.now in
     let s = w.part.s in

@@ -11,24 +11,24 @@ sent_within : (f : Figures) (s : Segment) → ((ls : List Line) → HoldsSegment
 unfolding plan_of
 sent_within f s placed some = omega (arith, (placed []).first_in, some)
 
-within : (c : goal.Else-sent-eq0) → c.args.self.now.part.now.s.first < c.args.self.now.part.now.cycle.f.d
-within c = let part = c.args.self.now.part.now in sent_within part.cycle.f part.s part.placed c.if-sent-eq0.false
+within : (c : goal.Else-sent-eq0) → c.args.self.now.part.now.s.first < c.args.self.now.part.now.cycle.now.f.d
+within c = let part = c.args.self.now.part.now in sent_within part.cycle.now.f part.s part.placed c.if-sent-eq0.false
 
 pub overflow_mul-sent : goal.overflow_mul-sent
 overflow_mul-sent c =
     let part = c.args.self.now.part.now in
-    let shaped = part.cycle.ready.shaped in
-    omega (arith, full_lines part.cycle.f shaped part.s.first (within c), shaped.lines_high)
+    let shaped = part.cycle.now.ready.shaped in
+    omega (arith, full_lines part.cycle.now.f shaped part.s.first (within c), shaped.lines_high)
 
 pub tag_of-requires : goal.tag_of-requires
 tag_of-requires c =
     let part = c.args.self.now.part.now in
-    omega (arith, full_lines part.cycle.f part.cycle.ready.shaped part.s.first (within c))
+    omega (arith, full_lines part.cycle.now.f part.cycle.now.ready.shaped part.s.first (within c))
 
 pub returns : goal.returns
 returns c =
     let part = c.args.self.now.part.now in
     ap Some c.tag_of.ensures
     ∙ sym
-    (last_sent_lem part.cycle.f part.cycle.ready c.args.self.now.source c.args.self.now.text.now part.s.first
-    (omega (arith, c.if-sent-eq0.false)) (sent_within part.cycle.f part.s part.placed c.if-sent-eq0.false))
+    (last_sent_lem part.cycle.now.f part.cycle.now.ready c.args.self.now.source c.args.self.now.text.now part.s.first
+    (omega (arith, c.if-sent-eq0.false)) (sent_within part.cycle.now.f part.s part.placed c.if-sent-eq0.false))

@@ -64,50 +64,50 @@ module _ (f : Figures) (ready : Ready f) {b i x : ℕ} (p : OnPath (plan_of f []
 
 pub overflow_add-level-end : goal.overflow_add-level-end
 overflow_add-level-end c =
-    let cycle = c.args.self.now.part.now.cycle in
+    let cycle = c.args.self.now.part.now.cycle.now in
     omega (arith, high cycle.f cycle.ready c.requires.on_path, (bounds cycle.f cycle.ready c.requires.on_path).0)
 
 pub overflow_add-h : goal.overflow_add-h
 overflow_add-h c =
-    let cycle = c.args.self.now.part.now.cycle in
+    let cycle = c.args.self.now.part.now.cycle.now in
     omega (arith, (bounds cycle.f cycle.ready c.requires.on_path).0)
 
 pub overflow_sub-h : goal.overflow_sub-h
 overflow_sub-h c =
-    let cycle = c.args.self.now.part.now.cycle in
+    let cycle = c.args.self.now.part.now.cycle.now in
     omega (arith, high cycle.f cycle.ready c.requires.on_path)
 
 pub overflow_add-e : goal.overflow_add-e
 overflow_add-e c =
-    let cycle = c.args.self.now.part.now.cycle in
+    let cycle = c.args.self.now.part.now.cycle.now in
     omega (arith, (bounds cycle.f cycle.ready c.requires.on_path).2)
 
 pub overflow_sub-e : goal.overflow_sub-e
 overflow_sub-e c =
-    let cycle = c.args.self.now.part.now.cycle in
+    let cycle = c.args.self.now.part.now.cycle.now in
     omega (arith, high cycle.f cycle.ready c.requires.on_path, (bounds cycle.f cycle.ready c.requires.on_path).1)
 
 pub power-requires : goal.power-requires
 power-requires c =
-    let cycle = c.args.self.now.part.now.cycle in
+    let cycle = c.args.self.now.part.now.cycle.now in
     let shaped = cycle.ready.shaped in
     (shaped.n_low, shaped.n_high, omega (arith, (bounds cycle.f cycle.ready c.requires.on_path).0))
 
 pub nonzero_div-place : goal.nonzero_div-place
 nonzero_div-place c =
-    let cycle = c.args.self.now.part.now.cycle in
+    let cycle = c.args.self.now.part.now.cycle.now in
     some_power cycle.f cycle.ready c.requires.on_path c.loop-level.level (omega arith) (omega arith) c.power.result c.power.ensures
 
 pub largest_tag-requires : goal.largest_tag-requires
 largest_tag-requires c =
-    let cycle = c.args.self.now.part.now.cycle in (
+    let cycle = c.args.self.now.part.now.cycle.now in (
       c.requires.some_data,
       inside cycle.f cycle.ready c.requires.on_path c.loop-level.level (omega arith) (omega arith) c.power.result c.power.ensures,
     )
 
 pub pair_distance-requires : goal.pair_distance-requires
 pair_distance-requires c =
-    let cycle = c.args.self.now.part.now.cycle in
+    let cycle = c.args.self.now.part.now.cycle.now in
     let on = c.requires.on_path in
     let level = c.loop-level.level in (
       c.requires.some_data,
@@ -122,7 +122,7 @@ pair_distance-requires c =
 pub push-requires-in-loop-level : goal.push-requires-in-loop-level
 push-requires-in-loop-level c =
     let p = c.args.self.now in
-    let cycle = p.part.now.cycle in (
+    let cycle = p.part.now.cycle.now in (
       omega arith,
       omega (
         arith,
@@ -138,8 +138,8 @@ pub loop-level-preserved : goal.loop-level-preserved
 unfolding path_pair plan_in
 loop-level-preserved c =
     let p = c.args.self.now in
-    let f = p.part.now.cycle.f in
-    let ready = p.part.now.cycle.ready in
+    let f = p.part.now.cycle.now.f in
+    let ready = p.part.now.cycle.now.ready in
     let b = p.part.now.s.number in
     let x : ℕ = c.args.x in
     let level = c.loop-level.level in
@@ -166,10 +166,10 @@ pub returns : goal.returns
 unfolding path_pairs
 returns c =
     let p = c.args.self.now in
-    let f = p.part.now.cycle.f in
+    let f = p.part.now.cycle.now.f in
     let s = p.part.now.s in
     let x : ℕ = c.args.x in
-    let all : c.loop-level.level ≡ c.args.i + 1 = omega (arith, low f p.part.now.cycle.ready c.requires.on_path) in
+    let all : c.loop-level.level ≡ c.args.i + 1 = omega (arith, low f p.part.now.cycle.now.ready c.requires.on_path) in
     c.loop-level.invariant.1
     ∙ ap
     (λ z.

@@ -7,7 +7,7 @@ use Rattle.cycle.proofs.index.Printer.path_pairs.Given as goal
 
 abbrev pub invariant-loop-level : goal.invariant-loop-level
 invariant-loop-level l =
-    let f = l.self.part.now.cycle.f in
+    let f = l.self.part.now.cycle.now.f in
     let s = l.self.part.now.s in
     let text = l.self.text.now in
     (2 ≤ l.level)

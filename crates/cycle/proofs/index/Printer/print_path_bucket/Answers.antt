@@ -59,8 +59,8 @@ print_index_bucket-requires-clause-index_place c = there c.args.self.now.printin
 pub print_index_bucket-requires-clause-start_le_x : goal.print_index_bucket-requires-clause-start_le_x
 print_index_bucket-requires-clause-start_le_x c =
     let part = c.args.self.now.part.now in
-    let sits = seated part.cycle.f part.s part.cycle.ready part.placed in
-    let size = path_size part.cycle.f part.s part.cycle.ready part.placed in
+    let sits = seated part.cycle.now.f part.s part.cycle.now.ready part.placed in
+    let size = path_size part.cycle.now.f part.s part.cycle.now.ready part.placed in
     (omega (arith, c.requires.path_place.here), omega (arith, c.requires.path_place, sits, size))
 
 pub returns : goal.returns

@@ -14,7 +14,7 @@ pub print_index_bucket-requires-clause-start_le_x : goal.print_index_bucket-requ
 print_index_bucket-requires-clause-start_le_x c =
     let part = c.args.self.now.part.now in
     let p = c.requires.tree_place in
-    let sits = seated part.cycle.f part.s part.cycle.ready part.placed in
+    let sits = seated part.cycle.now.f part.s part.cycle.now.ready part.placed in
     (omega (arith, sits, p.behind_path_lem), omega (arith, sits, before_data c.args.self.now.printing p))
 
 pub returns : goal.returns

@@ -9,19 +9,19 @@ use Rattle.cycle.proofs.index.Printer.put_entries.Goals as goal
 
 pub power-span-requires : goal.power-span-requires
 power-span-requires c =
-    let cycle = c.args.self.now.part.now.cycle in
+    let cycle = c.args.self.now.part.now.cycle.now in
     let shaped = cycle.ready.shaped in
     (shaped.n_low, shaped.n_high, omega (arith, (reached cycle.f c.args.e c.args.j shaped c.requires.index_place.inside).height))
 
 pub full_size-full-requires : goal.full_size-full-requires
 full_size-full-requires c =
-    let cycle = c.args.self.now.part.now.cycle in
+    let cycle = c.args.self.now.part.now.cycle.now in
     let shaped = cycle.ready.shaped in
     (shaped.n_low, shaped.n_high, omega (arith, (reached cycle.f c.args.e c.args.j shaped c.requires.index_place.inside).height))
 
 pub overflow_mul-first : goal.overflow_mul-first
 overflow_mul-first c =
-    let cycle = c.args.self.now.part.now.cycle in
+    let cycle = c.args.self.now.part.now.cycle.now in
     let place = c.requires.index_place in
     omega (arith, first_small cycle.f cycle.ready c.args.e c.args.j place.low place.inside)
 
@@ -33,7 +33,7 @@ within e h = omega arith
 
 pub overflow_add-first : goal.overflow_add-first
 overflow_add-first c =
-    let cycle = c.args.self.now.part.now.cycle in
+    let cycle = c.args.self.now.part.now.cycle.now in
     let place = c.requires.index_place in
     omega (
       arith,

@@ -15,7 +15,7 @@ pub returns-then-e-f : goal.returns-then-e-f
 unfolding plan_in plan_of
 returns-then-e-f c =
     let p = c.args.self.now in
-    let f = p.part.now.cycle.f in
+    let f = p.part.now.cycle.now.f in
     c.push.ensures.items
     ∙ ap₂ (λ (ps : List Pair) (q : Pair). ps ++ q ∷ []) c.new-pairs.ensures c.first_pair.ensures
     ∙ sym
@@ -26,7 +26,7 @@ pub returns-else-eq : goal.returns-else-eq
 unfolding plan_in plan_of
 returns-else-eq c =
     let p = c.args.self.now in
-    let f = p.part.now.cycle.f in
+    let f = p.part.now.cycle.now.f in
     let t = plan_in f p.source p.text.now in
     let first = p.part.now.s.first in
     c.new-pairs.ensures

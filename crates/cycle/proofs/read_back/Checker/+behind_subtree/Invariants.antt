@@ -11,6 +11,6 @@ decreases-behind_subtree l = l.e
 
 abbrev pub invariant-loop-i : goal.invariant-loop-i
 invariant-loop-i l =
-    let f = l.self.part.cycle.f in
+    let f = l.self.part.cycle.now.f in
     let bytes = l.self.image.now in
     Behind f l.e l.j l.x l.count l.i l.next × Matches (plan_in f InImage bytes) bytes l.x l.next

@@ -11,7 +11,7 @@ use Rattle.cycle.proofs.read_back.Checker.is_path.Goals as goal
 pub all-requires-clause-callable : goal.all-requires-clause-callable
 all-requires-clause-callable c =
     let v = c.args.self.now in
-    let f = v.part.cycle.f in
+    let f = v.part.cycle.now.f in
     let s = v.part.s in
     let w = v.checking.comparing in
     serves_from_Range (λ x q k. search rules)
@@ -27,7 +27,7 @@ pub returns : goal.returns
 returns c =
     let v = c.args.self.now in
     let bytes = v.image.now in
-    let t = plan_in v.part.cycle.f InImage bytes in
+    let t = plan_in v.part.cycle.now.f InImage bytes in
     let s = v.part.s in
     decides_by_all (MatchesAt t bytes) (λ x. MatchesAt t bytes x → ⊥) (Matches t bytes s.start s.tree_at) c.all.ensures.ran
     (λ x b q k. let told : Decides (MatchesAt t bytes x) b = search rules in (search rules, tells told))

@@ -8,7 +8,7 @@ use Rattle.cycle.proofs.read_back.Checker.is_path_bucket.Goals as goal
 pub is_at-requires : goal.is_at-requires
 is_at-requires c =
     let v = c.args.self.now in
-    let f = v.part.cycle.f in
+    let f = v.part.cycle.now.f in
     let w = v.checking.comparing in
     let p = c.requires in
     let below : c.args.x < v.part.s.end =
@@ -20,5 +20,5 @@ pub returns : goal.returns
 returns c =
     let v = c.args.self.now in
     let p = c.requires in
-    path_decided v.part.cycle.f v.image.now v.part.s v.checking c.args.i c.args.x p.from_top p.high p.here c.is_at.result
+    path_decided v.part.cycle.now.f v.image.now v.part.s v.checking c.args.i c.args.x p.from_top p.high p.here c.is_at.result
     (subst (λ b. Decides (bucket_at v.image.now c.args.x ≡ b) c.is_at.result) (cc) c.is_at.ensures)

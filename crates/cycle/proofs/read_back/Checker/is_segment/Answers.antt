@@ -13,7 +13,7 @@ use Rattle.cycle.proofs.read_back.Checker.is_segment.Goals as goal
 pub behind_subtree-requires : goal.behind_subtree-requires
 behind_subtree-requires c =
     let v = c.args.self.now in
-    own_tree v.part.cycle.f v.part.s v.checking.comparing.holding.ready v.checking.comparing.placed
+    own_tree v.part.cycle.now.f v.part.s v.checking.comparing.holding.ready v.checking.comparing.placed
 
 finds_decides : {P : Type 0} (y : ℕ) (r : Option ℕ) → Finds P y r → Decides P (is_some r)
 finds_decides y None told = decides_no told
@@ -22,7 +22,7 @@ finds_decides y (Some z) told = decides_yes told.0
 pub returns-then-is_path : goal.returns-then-is_path
 returns-then-is_path c =
     let v = c.args.self.now in
-    let f = v.part.cycle.f in
+    let f = v.part.cycle.now.f in
     let s = v.part.s in
     let w = v.checking.comparing in
     let sits = seats f v.image.now s w in
@@ -37,5 +37,5 @@ returns-then-is_path c =
 pub returns-else-is_path : goal.returns-else-is_path
 returns-else-is_path c =
     let v = c.args.self.now in
-    let sits = seats v.part.cycle.f v.image.now v.part.s v.checking.comparing in
+    let sits = seats v.part.cycle.now.f v.image.now v.part.s v.checking.comparing in
     rw c.if-is_path.false (decides_no (λ whole. c.if-is_path.ensures.no refl (matches_part _ _ (omega arith) (omega (arith, sits)) whole)))

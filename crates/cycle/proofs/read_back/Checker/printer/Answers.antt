@@ -5,4 +5,4 @@ use Rattle.cycle.proofs.read_back.Checker.printer.Goals as goal
 pub invariant_of-result : goal.invariant_of-result
 invariant_of-result c =
     let v = c.args.self.now in
-    record { printing = printing v.part.cycle.f v.image.now v.part.s v.checking }
+    record { printing = printing v.part.cycle.now.f v.image.now v.part.s v.checking }

@@ -11,7 +11,7 @@ pub returns : goal.returns
 returns c =
     let v = c.args.self.now in
     let bytes = v.image.now in
-    let t = plan_in v.part.cycle.f InImage bytes in
+    let t = plan_in v.part.cycle.now.f InImage bytes in
     let s = v.part.s in
     let row = v.comparing.placed [] in
     decides_by_all (λ q. MatchesAt t bytes (s.data_at + (q - s.first))) (λ q. MatchesAt t bytes (s.data_at + (q - s.first)) → ⊥)

@@ -38,7 +38,7 @@ some_same a b e = cc
 
 module _ (v : Comparer) (q x : ℕ) (p : DataPlace v.part.s q x) where
   abbrev f : Figures
-  f = v.part.cycle.f
+  f = v.part.cycle.now.f
 
   abbrev image : List ℕ
   image = v.image.now
@@ -214,7 +214,7 @@ bounds-tags-tags c =
 pub is_followed-requires : goal.is_followed-requires
 is_followed-requires c =
     let v = c.args.self.now in
-    let f = v.part.cycle.f in
+    let f = v.part.cycle.now.f in
     let p = c.requires in
     let read =
     data_read c.read_into.new.items c.in-Some.frame c.in-Data.follow_on

@@ -51,7 +51,7 @@ module _ {f : Figures} {image : List ℕ} {s : Segment} (w : Comparing f image s
 pub overflow_add-next : goal.overflow_add-next
 overflow_add-next c =
     let v = c.args.self.now in
-    let f = v.part.cycle.f in
+    let f = v.part.cycle.now.f in
     let w = v.comparing in
     omega (arith, data_high f w.holding.ready.shaped, data_in f v.part.s w.holding.ready w.placed c.args.q c.requires.0.high)
 
@@ -59,7 +59,7 @@ pub returns-then-next-self : goal.returns-then-next-self
 returns-then-next-self c =
     let v = c.args.self.now in
     let p = c.requires.0 in
-    last_followed v.part.cycle.f v.image.now v.part.s v.comparing c.args.q c.args.x p.low p.high p.here c.args.follow_on _
+    last_followed v.part.cycle.now.f v.image.now v.part.s v.comparing c.args.q c.args.x p.low p.high p.here c.args.follow_on _
     c.if-next-self.true (decides_eqb c.args.follow_on 0)
 
 pub next_data-place-requires : goal.next_data-place-requires
@@ -83,7 +83,7 @@ returns-then-first-last c =
     let w = v.comparing in
     let p = c.requires.0 in
     decides_no
-    (next_falls v.part.cycle.f v.image.now v.part.s w c.args.q c.args.x p.low p.high p.here c.args.last c.spelled_tag-first.result
+    (next_falls v.part.cycle.now.f v.image.now v.part.s w c.args.q c.args.x p.low p.high p.here c.args.last c.spelled_tag-first.result
     (next w p c.if-next-self.false) c.requires.1
     (first_is w p c.if-next-self.false c.next_data-place.result c.spelled_tag-first.result c.next_data-place.ensures
     c.spelled_tag-first.ensures)
@@ -94,11 +94,11 @@ overflow_sub-result c =
     let v = c.args.self.now in
     let w = v.comparing in
     let p = c.requires.0 in
-    let stands = stands_here v.part.cycle.f v.image.now v.part.s w c.args.q c.args.x p.low p.high p.here in
+    let stands = stands_here v.part.cycle.now.f v.image.now v.part.s w c.args.q c.args.x p.low p.high p.here in
     omega (
       arith,
       c.next_data-place.ensures,
-      follow_far v.part.cycle.f w.holding.ready InImage v.image.now c.args.q c.args.x stands (next w p c.if-next-self.false),
+      follow_far v.part.cycle.now.f w.holding.ready InImage v.image.now c.args.q c.args.x stands (next w p c.if-next-self.false),
     )
 
 pub returns-then-first-last-2 : goal.returns-then-first-last-2

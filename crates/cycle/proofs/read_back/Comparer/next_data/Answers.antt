@@ -8,12 +8,12 @@ use Rattle.cycle.proofs.Sequences.LastSent.{data_first}
 use Rattle.cycle.proofs.read_back.Comparer.next_data.Goals as goal
 
 pub overflow_add-next : goal.overflow_add-next
-overflow_add-next c = omega (arith, data_high c.args.self.now.part.cycle.f c.args.self.now.comparing.holding.ready.shaped)
+overflow_add-next c = omega (arith, data_high c.args.self.now.part.cycle.now.f c.args.self.now.comparing.holding.ready.shaped)
 
 pub returns-then-next-self : goal.returns-then-next-self
 unfolding plan_of
 returns-then-next-self c =
-    let f = c.args.self.now.part.cycle.f in
+    let f = c.args.self.now.part.cycle.now.f in
     let s = c.args.self.now.part.s in
     let w = c.args.self.now.comparing in
     let t : Plan = plan_of f [] in

@@ -20,7 +20,7 @@ use Rattle.cycle.proofs.read_back.Comparer.write_lines.Goals as goal
 pub loop-q-init : goal.loop-q-init
 loop-q-init c =
     let v = c.args.self.now in
-    let f = v.part.cycle.f in
+    let f = v.part.cycle.now.f in
     let a : ℕ = v.part.s.first * f.p in
     sym
     (ap (put c.args.out.now (line_length * a)) (text_none f v.image.now v.comparing.holding a (min f.lines a) (omega arith))
@@ -70,7 +70,7 @@ copy_lines-requires c =
 pub loop-q-preserved : goal.loop-q-preserved
 loop-q-preserved c =
     let v = c.args.self.now in
-    let f = v.part.cycle.f in
+    let f = v.part.cycle.now.f in
     let w = v.comparing in
     let q = c.loop-q.q in
     bucket_more f v.image.now w.holding c.args.out.now c.loop-q.out _
@@ -80,7 +80,7 @@ loop-q-preserved c =
 pub returns : goal.returns
 returns c =
     let v = c.args.self.now in
-    let f = v.part.cycle.f in
+    let f = v.part.cycle.now.f in
     let a : ℕ = v.part.s.first * f.p in
     let all : c.loop-q.q ≡ v.part.s.last = omega (arith, (v.comparing.placed []).first_last) in
     c.loop-q.invariant ∙ ap (λ q. put c.args.out.now (line_length * a) (list_text f v.image.now a (min f.lines (q * f.p)))) all

@@ -7,7 +7,7 @@ use Rattle.cycle.proofs.read_back.Comparer.write_lines.Given as goal
 
 abbrev pub invariant-loop-q : goal.invariant-loop-q
 invariant-loop-q l =
-    let f = l.self.part.cycle.f in
+    let f = l.self.part.cycle.now.f in
     let s = l.self.part.s in
     l.out
     ≡ put l.fn.out (line_length * (s.first * f.p)) (list_text f l.self.image.now (s.first * f.p) (min f.lines (l.q * f.p)))

@@ -21,8 +21,8 @@ returns c =
     decides_by_all (Goes f P) (λ i. DataMatches t bytes 0 f.d → ⊥) (DataMatches t bytes 0 f.d) c.all.ensures.ran
     (λ x b q k.
     let v : Comparer = search rules in
-    let told : ((v.part.cycle.f ≡ f) × (v.image.now ≡ bytes) × (v.part.s.number ≡ x))
-    × Decides (Matches (plan_in v.part.cycle.f InImage v.image.now) v.image.now v.part.s.data_at v.part.s.end) b = search rules in
+    let told : ((v.part.cycle.now.f ≡ f) × (v.image.now ≡ bytes) × (v.part.s.number ≡ x))
+    × Decides (Matches (plan_in v.part.cycle.now.f InImage v.image.now) v.image.now v.part.s.data_at v.part.s.end) b = search rules in
     let s = v.part.s in
     let w : Comparing f bytes s = moved told.0.0 told.0.1 (λ g a. Comparing g a s) v.comparing in
     let here : Decides (Matches t bytes s.data_at s.end) b =

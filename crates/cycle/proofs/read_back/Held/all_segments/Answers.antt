@@ -18,8 +18,8 @@ returns c =
     decides_by_all (Goes f (Matches t bytes 0)) (λ i. Matches t bytes 0 f.size → ⊥) (Matches t bytes 0 f.size) c.all.ensures.ran
     (λ x b q k.
     let v : Checker = search rules in
-    let told : ((v.part.cycle.f ≡ f) × (v.image.now ≡ bytes) × (v.part.s.number ≡ x))
-    × Decides (Matches (plan_in v.part.cycle.f InImage v.image.now) v.image.now v.part.s.start v.part.s.end) b = search rules in
+    let told : ((v.part.cycle.now.f ≡ f) × (v.image.now ≡ bytes) × (v.part.s.number ≡ x))
+    × Decides (Matches (plan_in v.part.cycle.now.f InImage v.image.now) v.image.now v.part.s.start v.part.s.end) b = search rules in
     let s = v.part.s in
     let w : Comparing f bytes s = moved told.0.0 told.0.1 (λ g a. Comparing g a s) v.checking.comparing in
     let here : Decides (Matches t bytes s.start s.end) b =
