@@ -20,8 +20,7 @@ use Rattle.buckets.specs.Bucket.{Body, index_body, data_body, Bucket, print_head
 use Rattle.buckets.specs.BucketLines.{body_lines, nth, bucket_line, numbers, line_bytes}
 use Rattle.buckets.specs.declared.Misprinted.{Misprinted}
 use Rattle.arrayvec.specs.ArrayVec.{ArrayVec}
-use Rattle.buckets.specs.declared.Contents.TheVariants.{Index, Data}
-use Rattle.buckets.specs.Inner.Held.{contents_of}
+use Rattle.buckets.specs.Inner.Held.{Index, Data, contents_of}
 use Rattle.buckets.proofs.ListLines.{length_line_columns, spelled_alone}
 use Rattle.buckets.proofs.Good.{GoodData, bucket_good}
 use Rattle.buckets.proofs.Buckets.{length_print_head, print_of_read_bucket}

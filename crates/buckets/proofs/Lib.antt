@@ -21,6 +21,7 @@ pub mod EntriesPut
 pub mod BodyItems
 pub mod ByField
 pub mod Progress
+pub mod Filled
 pub mod Holding
 pub mod Fronts
 pub mod Pages

@@ -1,7 +1,7 @@
 // List lines and buckets: document 01, "A list line" and "A bucket".
 #![tactic(auto)]
 
-ghost use Rattle.std.specs.Prelude.{◌≡◌};
+ghost use Rattle.std.specs.Prelude.{◌≡◌, take};
 ghost use Rattle.buckets.specs.Inner.Held.{no_items};
 
 use arrayvec::ArrayVec;
@@ -154,22 +154,70 @@ pub struct Entry {
     pub distance: u64,
 }
 
+// An index bucket's control pairs: `count` of them, and the least pair in the places behind them.
+#[derive(Clone, Copy)]
+pub struct ControlPairs {
+    pub items: [Pair; Bucket::PAIRS_MOST],
+    pub count: usize,
+}
+
+impl ControlPairs {
+    // The pairs themselves.
+    pub fn as_slice(&self) -> &[Pair]
+        ensures { result.now ≡ take self.now.count self.now.items }
+    {
+        &self.items[..self.count.min(Bucket::PAIRS_MOST)]
+    }
+}
+
+// An index bucket's entries: `count` of them, and zeros in the places behind them.
+#[derive(Clone, Copy)]
+pub struct IndexEntries {
+    pub items: [Entry; Bucket::ENTRIES_MOST],
+    pub count: usize,
+}
+
+impl IndexEntries {
+    // The entries themselves.
+    pub fn as_slice(&self) -> &[Entry]
+        ensures { result.now ≡ take self.now.count self.now.items }
+    {
+        &self.items[..self.count.min(Bucket::ENTRIES_MOST)]
+    }
+}
+
+// The tags of a data bucket's lines: `count` of them, and zeros in the places behind them.
+#[derive(Clone, Copy)]
+pub struct LineTags {
+    pub items: [u64; Bucket::LINES_MOST],
+    pub count: usize,
+}
+
+impl LineTags {
+    // The tags themselves.
+    pub fn as_slice(&self) -> &[u64]
+        ensures { result.now ≡ take self.now.count self.now.items }
+    {
+        &self.items[..self.count.min(Bucket::LINES_MOST)]
+    }
+}
+
 // What a bucket holds behind its head: an index bucket its control pairs and entries, a data bucket its follow-on and lines, of
 // which the tags alone are held, since reading all numbers of each line would cost too much.
-#[derive(Drop)]
+#[derive(Clone, Copy)]
 pub enum Contents {
     Index {
-        pairs: ArrayVec<Pair, { Bucket::PAIRS_MOST }>,
-        entries: ArrayVec<Entry, { Bucket::ENTRIES_MOST }>,
+        pairs: ControlPairs,
+        entries: IndexEntries,
     },
     Data {
         follow_on: u64,
-        tags: ArrayVec<u64, { Bucket::LINES_MOST }>,
+        tags: LineTags,
     },
 }
 
-// A bucket that was read.
-#[derive(Drop)]
+// A bucket that was read. It is `Copy`, which a vector is not, so its items stand in arrays.
+#[derive(Clone, Copy)]
 pub struct Reading {
     pub head: Head,
     pub contents: Contents,

@@ -187,8 +187,6 @@ pub fn copy_lines(out: &mut [u8], to: usize, text: &[u8], from: usize, count: us
 }
 
 // The number that the columns of a text from a place on spell, a blank counting as 0.
-// Compiled once, since the header promises how much code there is.
-#[inline(never)]
 fn spelled_columns(text: &[u8], at: usize, width: usize) -> u64
     requires { (at + width ≤ length text.now) × (width ≤ tag_width) }
     ensures { result ≡ value 0 (take width (drop at text.now)) }

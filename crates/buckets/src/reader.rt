@@ -6,11 +6,13 @@ ghost use Rattle.buckets.specs.Lengths.{entry_width, line_columns_width, bucket_
 ghost use Rattle.buckets.specs.Lengths.{pairs_most, entries_most, bucket_lines_most};
 ghost use Rattle.buckets.specs.Bucket.{read_bucket};
 ghost use Rattle.buckets.specs.Inner.Held.{no_items, reading_of, frame, reading_with};
+ghost use Rattle.buckets.specs.Inner.Arrays.{pairs_in, entries_in, tags_in, in_arrays, held_reading};
 ghost use Rattle.buckets.specs.Inner.Columns.{read_entry, read_blank_pair, read_printed_pair, read_pair, read_line_tag, read_items, read_head, read_index, read_data, read_by_letter};
 
 use super::fields::number_within;
 use super::{
-    Bucket, Contents, Entry, Frame, Head, Items, Kind, Line, NEWLINE, Pair, Reading, lines,
+    Bucket, Contents, ControlPairs, Entry, Frame, Head, IndexEntries, Items, Kind, Line, LineTags,
+    NEWLINE, Pair, Reading, lines,
 };
 use arrayvec::ArrayVec;
 use columns;
@@ -291,19 +293,63 @@ pub fn read_into(part: &[u8], items: &mut Items) -> Option<Frame>
     Some(Frame { head, kind })
 }
 
-// A frame with its items.
-#[tactic(auto, unfolding(crate::specs::Inner::Held::reading_with))]
-fn with_items(frame: Frame, items: Items) -> Reading
-    ensures { result ≡ reading_with items frame }
+// Control pairs in an array.
+fn pairs_in(pairs: &ArrayVec<Pair, { Bucket::PAIRS_MOST }>) -> ControlPairs
+    ensures { result ≡ pairs_in pairs.now.items }
+{
+    let pairs = pairs.as_slice();
+    let mut items = [Pair {
+        tag: None,
+        distance: 1,
+    }; Bucket::PAIRS_MOST];
+    items[..pairs.len()].copy_from_slice(pairs);
+    ControlPairs {
+        items,
+        count: pairs.len(),
+    }
+}
+
+// Entries in an array.
+fn entries_in(entries: &ArrayVec<Entry, { Bucket::ENTRIES_MOST }>) -> IndexEntries
+    ensures { result ≡ entries_in entries.now.items }
+{
+    let entries = entries.as_slice();
+    let mut items = [Entry {
+        tag: 0,
+        distance: 0,
+    }; Bucket::ENTRIES_MOST];
+    items[..entries.len()].copy_from_slice(entries);
+    IndexEntries {
+        items,
+        count: entries.len(),
+    }
+}
+
+// The tags of lines in an array.
+fn tags_in(tags: &ArrayVec<u64, { Bucket::LINES_MOST }>) -> LineTags
+    ensures { result ≡ tags_in tags.now.items }
+{
+    let tags = tags.as_slice();
+    let mut items = [0; Bucket::LINES_MOST];
+    items[..tags.len()].copy_from_slice(tags);
+    LineTags {
+        items,
+        count: tags.len(),
+    }
+}
+
+// A frame with its items, as a reading holds them.
+fn with_items(frame: Frame, items: &Items) -> Reading
+    ensures { result ≡ in_arrays (reading_with items.now frame) }
 {
     let contents = match frame.kind {
         Kind::Index => Contents::Index {
-            pairs: items.pairs,
-            entries: items.entries,
+            pairs: pairs_in(&items.pairs),
+            entries: entries_in(&items.entries),
         },
         Kind::Data { follow_on } => Contents::Data {
             follow_on,
-            tags: items.tags,
+            tags: tags_in(&items.tags),
         },
     };
     Reading {
@@ -314,9 +360,9 @@ fn with_items(frame: Frame, items: Items) -> Reading
 
 // The bucket that part is; of the lines of a data bucket the tags are held.
 pub fn read_bucket(part: &[u8]) -> Option<Reading>
-    ensures { result ≡ option_map reading_of (read_bucket part.now) }
+    ensures { result ≡ option_map held_reading (read_bucket part.now) }
 {
     let mut items = Items::new();
     let frame = read_into(part, &mut items)?;
-    Some(with_items(frame, items))
+    Some(with_items(frame, &items))
 }

@@ -8,6 +8,7 @@ pub mod Put
 pub mod FromTheRight
 pub mod Padded
 pub mod Places
+pub mod PlaceNumbers
 pub mod Lenient
 pub mod SpelledSoFar
 pub mod Rows

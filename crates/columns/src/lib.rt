@@ -3,7 +3,7 @@
 
 ghost use Rattle.std.specs.Prelude.{not, ◌≡◌, ◌-◌, ◌^◌, ◌<◌, ◌≤◌, true, ◌&&◌, ◌||◌, [], ◌∷◌, length, take, drop, ◌==◌};
 ghost use Rattle.columns.specs.Lists.{pick, put, every};
-ghost use Rattle.columns.specs.Inner.Places.{leading, column_printed, column_digits};
+ghost use Rattle.columns.specs.Inner.Places.{place_of, leading, column_printed, column_digits};
 ghost use Rattle.columns.specs.Inner.Starts.{IsUsed};
 ghost use Rattle.columns.specs.PrintedNumbers.{print, blanks, all_blank, value, digit, read_number, blanks_digits, blank_zeros};
 
@@ -14,6 +14,19 @@ pub enum Place {
     First,
     Between,
     Last,
+}
+
+// The place that a number names, so that any number is answered: 1 the first, 2 the last, every other one between them.
+impl From<u8> for Place {
+    ghost from_gives = { λ k place. place ≡ place_of k };
+
+    fn from(k: u8) -> Place {
+        match k {
+            1 => Place::First,
+            2 => Place::Last,
+            _ => Place::Between,
+        }
+    }
 }
 
 // The bytes of columns: a blank, and the first digit.

@@ -7,9 +7,6 @@ use Rattle.columns.specs.Lists.{joined, padded}
 use Rattle.columns.specs.PrintedNumbers.{blanks}
 use Rattle.buckets.specs.declared.Line.{Line}
 use Rattle.buckets.specs.declared.Head.{Head}
-use Rattle.buckets.specs.declared.Contents.{Contents}
-use Rattle.buckets.specs.declared.Contents.TheVariants.{Index, Data}
-use Rattle.buckets.specs.declared.Reading.{Reading}
 use Rattle.buckets.specs.declared.Kind.{Kind}
 use Rattle.buckets.specs.declared.Kind.TheVariants as KindVariants
 use Rattle.buckets.specs.declared.Frame.{Frame}
@@ -29,6 +26,15 @@ unfoldable pub head_of : Bucket → Head
 head_of b = record { position = b.position; to_cycle = b.to_cycle; to_segment = b.to_segment }
 
 -- ---- a bucket that was read
+
+-- what it holds behind its head, the items in vectors
+pub data Contents : Type 0 where
+  Index : ArrayVec Pair → ArrayVec Entry → Contents
+  Data : ℕ → ArrayVec ℕ → Contents
+
+pub record Reading : Type 0 where
+  pub head : Head
+  pub contents : Contents
 
 abbrev pub vector : {A : Type 0} → List A → ArrayVec A
 vector xs = record { items = xs }

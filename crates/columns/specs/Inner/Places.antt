@@ -7,6 +7,10 @@ use Rattle.columns.specs.PrintedNumbers.{digit}
 use Rattle.columns.specs.declared.Place.{Place}
 use Rattle.columns.specs.declared.Place.TheVariants.{First, Between, Last}
 
+-- the place that a number names: 1 the first, 2 the last, any other one between them
+abbrev pub place_of : ℕ → Place
+place_of k = pick (k == 1) First (pick (k == 2) Last Between)
+
 -- the places of the columns of a field of w + 2 columns
 abbrev pub places : ℕ → List Place
 places w = First ∷ (replicate w Between ++ Last ∷ [])

@@ -13,13 +13,11 @@ use lib.Seq.{ext_get_or, get_or-take, get_or-drop}
 use Rattle.columns.specs.Lists.{last_or}
 use Rattle.buckets.specs.declared.Line.{Line}
 use Rattle.buckets.specs.declared.Head.{Head}
-use Rattle.buckets.specs.declared.Contents.TheVariants.{Data}
 use Rattle.arrayvec.specs.ArrayVec.{ArrayVec}
 use Rattle.std.specs.Option.{option_map}
-use Rattle.buckets.specs.declared.Reading.{Reading}
 use Rattle.buckets.specs.ListLine.{spelled}
 use Rattle.buckets.specs.Bucket.{Body, index_body, data_body, Bucket, print_bucket, read_bucket, good, follow_on}
-use Rattle.buckets.specs.Inner.Held.{head_of, tags_held, contents_of, reading_of, bucket_with}
+use Rattle.buckets.specs.Inner.Held.{Reading, Data, head_of, tags_held, contents_of, reading_of, bucket_with}
 use Rattle.buckets.proofs.Chained.{none_not_some, map_found}
 use Rattle.buckets.proofs.Buckets.{print_of_read_bucket, read_of_print_bucket}
 use Rattle.cycle.specs.Tree.{Plan, lines_of, tags_of, last_tag}

@@ -13,10 +13,8 @@ use Rattle.buckets.specs.declared.Line.{Line}
 use Rattle.buckets.specs.declared.Head.{Head}
 use Rattle.buckets.specs.declared.Pair.{Pair}
 use Rattle.buckets.specs.declared.Entry.{Entry}
-use Rattle.buckets.specs.declared.Reading.{Reading}
-use Rattle.buckets.specs.declared.Contents.TheVariants.{Index, Data}
 use Rattle.buckets.specs.Bucket.{Body, index_body, data_body, Bucket, read_bucket}
-use Rattle.buckets.specs.Inner.Held.{bucket_with, head_of, contents_of, reading_of}
+use Rattle.buckets.specs.Inner.Held.{Reading, Index, Data, bucket_with, head_of, contents_of, reading_of}
 use Rattle.buckets.proofs.Chained.{map_found}
 use Rattle.buckets.proofs.Good.{Good, GoodIndex, GoodData, bucket_good}
 use Rattle.buckets.proofs.Buckets.{print_of_read_bucket}

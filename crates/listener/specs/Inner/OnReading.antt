@@ -10,9 +10,8 @@ use Rattle.buckets.specs.declared.Line.{Line}
 use Rattle.buckets.specs.declared.Head.{Head}
 use Rattle.buckets.specs.declared.Pair.{Pair}
 use Rattle.buckets.specs.declared.Entry.{Entry}
-use Rattle.buckets.specs.declared.Reading.{Reading}
 use Rattle.buckets.specs.Bucket.{read_bucket}
-use Rattle.buckets.specs.Inner.Held.{reading_of}
+use Rattle.buckets.specs.Inner.Held.{Reading, reading_of}
 use Rattle.listener.specs.Listener.{at_most}
 use Rattle.listener.specs.declared.Phase.{Phase}
 use Rattle.listener.specs.declared.Phase.TheVariants

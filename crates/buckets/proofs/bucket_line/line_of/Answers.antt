@@ -2,12 +2,11 @@
 use Rattle.std.proofs.Common.{◌≡◌, ℕ, List, Some, Ok, length, sym, ap, ◌∙◌, arith}
 use Rattle.std.specs.Option.{option_map}
 use Rattle.buckets.specs.declared.Items.{Items}
-use Rattle.buckets.specs.declared.Reading.{Reading}
 use Rattle.buckets.specs.declared.Kind.TheVariants.{Data}
 use Rattle.buckets.specs.declared.Frame.{Frame}
 use Rattle.buckets.specs.Bucket.{read_bucket}
 use Rattle.buckets.specs.BucketLines.{bucket_line}
-use Rattle.buckets.specs.Inner.Held.{reading_of, contents_with, reading_with}
+use Rattle.buckets.specs.Inner.Held.{Reading, reading_of, contents_with, reading_with}
 use Rattle.buckets.proofs.Chained.{map_found}
 use Rattle.buckets.proofs.BucketLines.{DataRead, of_index, of_data}
 use Rattle.buckets.proofs.bucket_line.line_of.Goals as goal

@@ -2,11 +2,9 @@
 use Rattle.std.proofs.Common.{ℕ, List, Option, Some, map, sym, ap, ◌∙◌, arith}
 use Rattle.columns.proofs.Put.{length_part}
 use Rattle.buckets.specs.declared.Line.{Line}
-use Rattle.buckets.specs.declared.Reading.{Reading}
-use Rattle.buckets.specs.declared.Contents.TheVariants.{Data}
 use Rattle.buckets.specs.Bucket.{columns}
 use Rattle.buckets.specs.Lengths.{line_columns_width, bucket_lines_most, lines_start, lines_width}
-use Rattle.buckets.specs.Inner.Held.{vector, head_of, bucket_with, reading_of, reading_with}
+use Rattle.buckets.specs.Inner.Held.{Reading, Data, vector, head_of, bucket_with, reading_of, reading_with}
 use Rattle.buckets.specs.Inner.Columns.{read_line_columns, read_lines, read_data}
 use Rattle.buckets.proofs.Bounds.{number_most}
 use Rattle.buckets.proofs.Chained.{map_found, map_none}

@@ -8,13 +8,11 @@ use Rattle.columns.proofs.Strict.{both}
 use Rattle.std.specs.Option.{option_map}
 use Rattle.arrayvec.specs.ArrayVec.{ArrayVec}
 use Rattle.buckets.specs.declared.Head.{Head}
-use Rattle.buckets.specs.declared.Reading.{Reading}
-use Rattle.buckets.specs.declared.Contents.TheVariants.{Data}
 use Rattle.buckets.specs.declared.Items.{Items}
 use Rattle.buckets.specs.declared.Kind.TheVariants as Kinds
 use Rattle.buckets.specs.declared.Frame.{Frame}
 use Rattle.buckets.specs.Bucket.{read_bucket, follow_on}
-use Rattle.buckets.specs.Inner.Held.{head_of, contents_with, reading_of, reading_with}
+use Rattle.buckets.specs.Inner.Held.{Reading, Data, head_of, contents_with, reading_of, reading_with}
 use Rattle.buckets.specs.Lengths.{bucket_lines_most, bucket_length, buckets_most}
 use Rattle.buckets.proofs.Chained.{none_not_some}
 use Rattle.cycle.specs.declared.Figures.{Figures}
