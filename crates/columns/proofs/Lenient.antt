@@ -12,7 +12,7 @@ use Rattle.std.specs.Prelude.{None, Some}
 use borrow.Author.Tests.{eqb-false}
 use Rattle.columns.specs.Lists.{pick, every}
 use Rattle.columns.specs.PrintedNumbers.{print, value, digit, read_number, blanks_digits, blank_zeros}
-use Rattle.columns.proofs.Strict.{both}
+use Rattle.columns.proofs.Strict.{both, and_false}
 use Rattle.columns.proofs.Joined.{every_at}
 use Rattle.columns.proofs.Printed.{length_print, value_print, read_of_print, print_of_read}
 use Rattle.columns.proofs.OnePass.{digits_small, read_blank, read_zero, read_digits_lem}
@@ -29,18 +29,37 @@ length_blanked (c ∷ d ∷ s) = go (eqb c 32 || eqb c 48) (length_blanked (d �
     go false rest = refl
 
 -- a column that is passed over, and one that is not
-blank_on : (c : ℕ) (s : List ℕ) → 1 ≤ length s → (eqb c 32 || eqb c 48) ≡ true → blank_zeros (c ∷ s) ≡ 32 ∷ blank_zeros s
+pub blank_on : (c : ℕ) (s : List ℕ) → 1 ≤ length s → (eqb c 32 || eqb c 48) ≡ true → blank_zeros (c ∷ s) ≡ 32 ∷ blank_zeros s
 blank_on c [] h e = absurd (omega arith)
 blank_on c (d ∷ s) h e = rw e
 
-blank_stop : (c : ℕ) (s : List ℕ) → (eqb c 32 || eqb c 48) ≡ false → blank_zeros (c ∷ s) ≡ c ∷ s
+pub blank_stop : (c : ℕ) (s : List ℕ) → (eqb c 32 || eqb c 48) ≡ false → blank_zeros (c ∷ s) ≡ c ∷ s
 blank_stop c [] e = refl
 blank_stop c (d ∷ s) e = rw e
 
-blank_one : (s : List ℕ) → length s ≤ 1 → blank_zeros s ≡ s
+pub blank_one : (s : List ℕ) → length s ≤ 1 → blank_zeros s ≡ s
 blank_one [] h = refl
 blank_one (c ∷ []) h = refl
 blank_one (c ∷ d ∷ s) h = absurd (omega arith)
+
+-- one column, where `leading` says that none before it is the number's and `more` that columns are left
+pub blank_column : (leading more : Bool) (c : ℕ) (s : List ℕ) → (more ≡ true → 1 ≤ length s) → (more ≡ false → length s ≡ 0)
+    → pick leading (blank_zeros (c ∷ s)) (c ∷ s)
+    ≡ pick ((leading && (eqb c 32 || eqb c 48)) && more) 32 c ∷ pick ((leading && (eqb c 32 || eqb c 48)) && more) (blank_zeros s) s
+blank_column false more c s left gone = refl
+blank_column true more c [] left gone = go more left
+  where
+    go : (m : Bool) → (m ≡ true → 1 ≤ length {A = ℕ} [])
+        → c ∷ [] ≡ pick ((eqb c 32 || eqb c 48) && m) 32 c ∷ pick ((eqb c 32 || eqb c 48) && m) [] []
+    go true k = absurd (omega (arith, k refl))
+    go false k = rw (and_false (eqb c 32 || eqb c 48))
+blank_column true more c (d ∷ s) left gone = go more (eqb c 32 || eqb c 48) gone
+  where
+    go : (m t : Bool) → (m ≡ false → length (d ∷ s) ≡ 0)
+        → pick t (32 ∷ blank_zeros (d ∷ s)) (c ∷ d ∷ s) ≡ pick (t && m) 32 c ∷ pick (t && m) (blank_zeros (d ∷ s)) (d ∷ s)
+    go true true k = refl
+    go true false k = refl
+    go false t k = absurd (omega (arith, k refl))
 
 -- the first i columns of s are made blank, and those from i on are still to be looked at
 pub record Blanked (s part : List ℕ) (i : ℕ) : Type 0 where

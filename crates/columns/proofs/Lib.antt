@@ -2,6 +2,7 @@
 pub mod Strict
 pub mod Printed
 pub mod OnePass
+pub mod Digits
 pub mod Joined
 pub mod LeadingBlanks
 pub mod Put

@@ -1,6 +1,6 @@
 -- What judging and building answer under each condition, as an equation; and the figures that judging hands out.
 -- Assumes nothing.
-use mathlib.Core.Path.{◌≡◌, sym, ap, ap₂, ◌∙◌, subst}
+use mathlib.Core.Path.{◌≡◌, refl, sym, ap, ap₂, ◌∙◌, subst}
 use Prim.Native.Nat.{ℕ, ◌+◌, ◌*◌, ◌/◌, ◌%◌, ◌^◌, ◌≤◌, ◌<◌}
 use native.Mathlib.Omega.{arith}
 use native.Mathlib.Nat.{div-add-mod'}
@@ -14,7 +14,7 @@ use Rattle.columns.specs.Lists.{onto}
 use Rattle.buckets.specs.declared.Line.{Line}
 use Rattle.buckets.specs.ListLine.{cut_lines, list_lines, whole_lines, misprint_from, fall_from}
 use Rattle.buckets.proofs.Lists.{length_list_lines}
-use Rattle.cycle.specs.Tree.{Plan, plan}
+use Rattle.cycle.specs.Tree.{settings, Plan, plan}
 use Rattle.cycle.specs.declared.Settings.{Settings}
 use Rattle.cycle.specs.Cycle.{cycle_size, image_length, image}
 use Rattle.cycle.specs.Refusals.{refusal, row, first_refusal, outcome}
@@ -25,7 +25,7 @@ use Rattle.cycle.specs.declared.Refusal.{Refusal}
 use Rattle.cycle.specs.declared.Figures.{Figures}
 use Rattle.cycle.specs.declared.Source.TheVariants.{List as InList}
 use Rattle.cycle.specs.Inner.Held.{plan_of, InRange, sized, Ready, AcceptedList, plan_in, written}
-use Rattle.cycle.specs.declared.Reason.TheVariants.{SettingsOut, LengthOut, CopiesOut, CycleTooLong, BufferTooShort}
+use Rattle.cycle.specs.declared.Reason.TheVariants.{SettingsOut, LengthOut, LineMisprinted, TagFalls, CopiesOut, CycleTooLong, BufferTooShort}
 use Rattle.cycle.proofs.Building.Accepted.{Ranged, plan_ranged, whole_lines_lem}
 use Rattle.cycle.proofs.Building.AcceptedPlans.{copies_shape}
 use Rattle.cycle.proofs.Building.AcceptedLists.{size_shape, plan_in_lem, long_in}
@@ -92,7 +92,19 @@ module _ (s : Settings) (list : List ℕ) (room : ℕ) where
   refused_2 e w = rw (e, w)
 
   module _ (one : settings_fit s ≡ true) (two : whole_lines (length list) ≡ true) where
-    -- 3 and 4
+    pub refused_3 :
+        (place : ℕ) → misprint_from 0 (cut_lines list) ≡ Some place →
+        first_refusal (conditions s list room) ≡ Some (refusal LineMisprinted place)
+    unfolding conditions
+    refused_3 place e = rw (one, two, e)
+
+    pub refused_4 :
+        (place : ℕ) → misprint_from 0 (cut_lines list) ≡ None → fall_from 0 0 (list_lines list) ≡ Some place →
+        first_refusal (conditions s list room) ≡ Some (refusal TagFalls place)
+    unfolding conditions
+    refused_4 place e f = rw (one, two, e, f)
+
+    -- both
     pub lines_refused : (r : Refusal) → first_refusal (line_misprinted list ∷ tag_falls list ∷ []) ≡ Some r → first_refusal (conditions s list room) ≡ Some r
     unfolding conditions
     lines_refused r h =
@@ -120,6 +132,11 @@ module _ (s : Settings) (list : List ℕ) (room : ℕ) where
       let t : Plan = plan s (list_lines list) in
       let e = refused_by (first_refusal (conditions s list room)) (figures_of t) r h in
       (sym (ap (λ o. (building.outcome o t).answer) e), sym (ap (λ o. onto (building.outcome o t).output d) e))
+
+-- 1 does not look at copies
+pub any_copies : (n p layout c d : ℕ) → settings_fit (settings n p layout d) ≡ settings_fit (settings n p layout c)
+unfolding settings_fit
+any_copies n p layout c d = refl
 
 module _ (c : ℕ) where
   pub no_multiple : (c % 27 ≡ 0 → ⊥) → whole_lines c ≡ false

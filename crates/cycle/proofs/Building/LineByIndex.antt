@@ -1,4 +1,4 @@
--- The lines of a list by their number: line i, the first misprinted one, the first whose tag falls, and a tag that is greater.
+-- The lines of a list by their number: line i, the first misprinted one, the first whose tag falls, and a tag that is greater or not.
 -- Assumes nothing.
 use mathlib.Core.Path.{◌≡◌, sym, ◌∙◌}
 use Prim.Native.Nat.{ℕ, ◌+◌, ◌*◌, ◌/◌, ◌≤◌, ◌<◌}
@@ -11,7 +11,7 @@ use mathlib.Core.List.{List, [], ◌∷◌}
 use lib.Dec.{leb}
 use lib.ListN.{length, take, drop, drop_of_length-le}
 use lib.Seq.{drop-cons}
-use borrow.Author.Tests.{lt-leb, lt-ltb}
+use borrow.Author.Tests.{lt-leb, lt-ltb, le-ltb}
 use Rattle.columns.specs.PrintedNumbers.{value}
 use Rattle.buckets.specs.declared.Line.{Line}
 use Rattle.buckets.specs.ListLine.{read_line, spelled, cut_lines, list_lines, misprint_from, fall_from}
@@ -61,9 +61,13 @@ module _ (list : List ℕ) (lines : ℕ) (whole : length list ≡ line_length * 
         let found : fall_from 0 0 (list_lines list) ≡ Some i = so ∙ rw (line_here h, down) in
         sym found
 
--- ---- a greater tag
+-- ---- a greater tag, and one that is not
 
 module _ (tag : ℕ) (s : List ℕ) (x : ℕ) (read : x ≡ value 0 (take tag_width s)) where
   pub tag_over_lem : tag < x → tag_over tag (spelled s) ≡ true
   unfolding spelled
   tag_over_lem h = lt-ltb tag (value 0 (take tag_width s)) (omega arith)
+
+  pub tag_not_over : x ≤ tag → tag_over tag (spelled s) ≡ false
+  unfolding spelled
+  tag_not_over h = le-ltb tag (value 0 (take tag_width s)) (omega arith)

@@ -68,7 +68,7 @@ module _ (w : Sender) where
     abbrev at : ℕ
     at = bucket_length * x
 
-    lent_room : at + bucket_length ≤ length image
+    pub lent_room : at + bucket_length ≤ length image
     lent_room = omega arith
 
     -- by a printer of the segment

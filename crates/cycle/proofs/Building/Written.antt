@@ -1,6 +1,7 @@
 -- Writing the cycle part by part: the laws of `written t d x y`, buckets x up to y of the image written over d.
 --     written_none, written_on, written_next    nothing; two adjoining parts; one bucket more
 --     written_one, written_all                  one bucket as printed; the whole image
+--     length_written                            the length stays
 -- Assumes nothing.
 use mathlib.Core.Path.{◌≡◌, refl, sym, ap, ◌∙◌}
 use Prim.Native.Nat.{ℕ, ◌+◌, ◌-◌, ◌*◌, ◌≤◌}
@@ -10,7 +11,7 @@ use mathlib.Core.List.{List, [], ◌++◌}
 use lib.ListN.{length, take, drop}
 use lib.Seq.{take-add, drop-drop, take_all}
 use Rattle.columns.specs.Lists.{put, onto}
-use Rattle.columns.proofs.Put.{length_part, put_nil, put_part, put_put}
+use Rattle.columns.proofs.Put.{length_part, length_put, put_nil, put_part, put_put}
 use Rattle.buckets.specs.Lengths.{bucket_length}
 use Rattle.cycle.specs.Tree.{Plan}
 use Rattle.cycle.specs.Cycle.{image}
@@ -54,6 +55,11 @@ module _ (t : Plan) (n : ℕ) (long : length (image t) ≡ bucket_length * n) wh
     written_none x =
         let e : x - x ≡ 0 = omega arith in
         ap (λ (c : ℕ). put d (bucket_length * x) (image_part t x c)) e ∙ ap (put d (bucket_length * x)) (part_none t x) ∙ put_nil d (bucket_length * x)
+
+    pub length_written : (x y : ℕ) → x ≤ y → y ≤ n → length (written t d x y) ≡ length d
+    unfolding written
+    length_written x y h g =
+        let l = length_image_part x (y - x) (omega arith) in length_put d (bucket_length * x) (image_part t x (y - x)) (omega (arith, l))
 
     pub written_on : (x y z : ℕ) → x ≤ y → y ≤ z → z ≤ n → written t (written t d x y) y z ≡ written t d x z
     unfolding written

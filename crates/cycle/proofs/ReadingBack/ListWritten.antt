@@ -9,7 +9,7 @@ use native.Mathlib.Omega.{arith}
 use mathlib.Core.List.{List, []}
 use lib.ListN.{length, drop}
 use Rattle.columns.specs.Lists.{put, up}
-use Rattle.columns.proofs.Put.{put_nil, put_put}
+use Rattle.columns.proofs.Put.{put_nil, put_put, length_put}
 use Rattle.buckets.specs.ListLine.{ended_lines}
 use Rattle.buckets.specs.Lengths.{line_length, bucket_length, lines_start}
 use Rattle.cycle.specs.Tree.{Plan}
@@ -57,6 +57,14 @@ module _ (f : Figures) (bytes : List ℕ) (w : Holding f bytes) where
       ∙ (put_put d (line_length * a) (list_text f bytes a b) (line_length * b) (list_text f bytes b (b + count)) (omega arith) (omega arith)
       ∙ ap (put d (line_length * a)) (sym (text_on f bytes w a b (b + count) low (omega arith)) ∙ ap (list_text f bytes a) end)))
 
+  -- what was written has the buffer's length
+  pub length_written :
+      (d : List ℕ) (a q : ℕ) → line_length * f.lines ≤ length d → a ≤ f.lines → a ≤ q * f.p →
+      length (put d (line_length * a) (list_text f bytes a (min f.lines (q * f.p)))) ≡ length d
+  length_written d a q room high low =
+      let long = length_text f bytes w a (min f.lines (q * f.p)) (omega arith) (omega arith) in
+      length_put d (line_length * a) (list_text f bytes a (min f.lines (q * f.p))) (omega arith)
+
   -- ---- the segments
 
   fine : Sound (plan_of f [])
@@ -76,6 +84,13 @@ module _ (f : Figures) (bytes : List ℕ) (w : Holding f bytes) where
       let d_is = w.ready.shaped.d_is in
       let end : min f.lines (up f.lines f.p * f.p) ≡ f.lines = omega arith in
       ap (λ c. list_text f bytes 0 (min f.lines (c * f.p))) (all ∙ d_is) ∙ ap (list_text f bytes 0) end
+
+  pub length_to : (d : List ℕ) (x : ℕ) → line_length * f.lines ≤ length d → length (put d 0 (text_to f bytes x)) ≡ length d
+  unfolding text_to
+  length_to d x room =
+      let c : ℕ = min f.lines (sent_by (plan_of f []) x * f.p) in
+      let long : length (list_text f bytes 0 c) ≡ line_length * (c - 0) = length_text f bytes w 0 c (omega arith) (omega arith) in
+      length_put d 0 (list_text f bytes 0 c) (omega arith)
 
   pub segment_more :
       (d out behind : List ℕ) (s : Segment) → HoldsSegment (plan_of f []) s → line_length * f.lines ≤ length d → out ≡ put d 0 (text_to f bytes s.start) →

@@ -10,7 +10,7 @@ use Rattle.cycle.specs.declared.Figures.{Figures}
 use Rattle.cycle.specs.declared.Segment.{Segment}
 use Rattle.cycle.specs.Inner.Held.{plan_of, Ready, HoldsSegment, segment_count}
 use Rattle.cycle.proofs.Basics.RangeTests.{Each}
-use Rattle.cycle.proofs.Segmenting.SegmentParts.{before, before_none, before_all, start_before, end_before}
+use Rattle.cycle.proofs.Segmenting.SegmentParts.{before, before_none, before_all, before_within, start_before, end_before}
 
 -- the loop has come to segment i of `count`, and P holds of the number of buckets before it
 pub record Through (f : Figures) (P : ℕ → Type 0) (count i : ℕ) : Type 0 where
@@ -31,6 +31,9 @@ module _ {f : Figures} {P : ℕ → Type 0} {count i : ℕ} (t : Through f P cou
       record { within = omega arith; holds = subst Q end (step (subst P (sym start) t.holds)) }
 
   module _ (ready : Ready f) (counted : count ≡ segment_count (plan_of f [])) where
+    pub before_size : before (plan_of f []) i ≤ f.size
+    before_size = omega (arith, before_within (plan_of f []) i (omega (arith, t.within)), ready.size_is)
+
     pub through_all : count ≤ i → P f.size
     through_all h =
         let last : i ≡ segment_count (plan_of f []) = omega (arith, t.within) in

@@ -60,6 +60,14 @@ module _ (f : Figures) (ls ms : List Line) where
   unfolding width plan_of
   width_shape i = refl
 
+  pub subtree_shape : (h i j : ℕ) → subtree (plan_of f ls) h i j ≡ subtree (plan_of f ms) h i j
+  unfolding plan_of
+  subtree_shape h i j = subtree_over (plan_of f []) ls ms h i j
+
+  pub under_shape : (h i j : ℕ) → under (plan_of f ls) h i j ≡ under (plan_of f ms) h i j
+  unfolding plan_of
+  under_shape h i j = under_over (plan_of f []) ls ms h i j
+
   pub tree_at_shape : (e j : ℕ) → tree_at (plan_of f ls) e j ≡ tree_at (plan_of f ms) e j
   unfolding tree_at plan_of
   tree_at_shape e j = subtree_over (plan_of f []) ls ms e (f.k + 1 - e) j
@@ -67,6 +75,10 @@ module _ (f : Figures) (ls ms : List Line) where
   pub distributed_shape : (b : ℕ) → distributed_segment (plan_of f ls) b ≡ distributed_segment (plan_of f ms) b
   unfolding plan_of
   distributed_shape b = distributed_over (plan_of f []) ls ms b
+
+  pub whole_shape : (i : ℕ) → whole_segment (plan_of f ls) i ≡ whole_segment (plan_of f ms) i
+  unfolding plan_of
+  whole_shape i = whole_over (plan_of f []) ls ms i
 
   pub slots_shape : slots (plan_of f ls) ≡ slots (plan_of f ms)
   unfolding plan_of

@@ -1,25 +1,26 @@
 -- A lookup's outcome, condition by condition.
 -- Assumes nothing.
-use mathlib.Core.Path.{◌≡◌, refl, ◌∙◌, ap}
-use mathlib.Core.Bool.{Bool, true, false}
-use Rattle.std.specs.Prelude.{None, Some, Result, Ok, Err}
+use mathlib.Core.Path.{◌≡◌, refl, sym, ◌∙◌, ap}
+use mathlib.Core.Bool.{Bool, true, false, not}
+use Rattle.std.specs.Prelude.{Option, None, Some, Result, Ok, Err}
 use mathlib.Core.List.{List, [], ◌∷◌}
 use Prim.Native.Nat.{ℕ, ◌*◌, ◌/◌, ◌≤◌, ◌<◌}
 use native.Mathlib.Omega.{arith}
-use lib.Dec.{ltb}
+use lib.Dec.{leb, ltb}
 use lib.ListN.{length}
 use borrow.Author.Tests.{lt-ltb, le-ltb}
-use Rattle.columns.specs.Lists.{pick, joined}
+use Rattle.columns.specs.Lists.{pick, joined, put}
 use Rattle.buckets.specs.Lengths.{bucket_length, line_length}
 use Rattle.buckets.specs.declared.Line.{Line}
 use Rattle.buckets.specs.ListLine.{print_line}
 use Rattle.cycle.specs.Refusals.{refusal, row, first_refusal}
 use Rattle.cycle.specs.declared.Refusal.{Refusal}
-use Rattle.cycle.specs.declared.Reason.TheVariants.{BufferTooShort}
+use Rattle.cycle.specs.declared.Reason.TheVariants.{BufferTooShort, ImageLengthOut, TuneInOut}
 use Rattle.cycle.specs.Building.{buffer_too_short}
+use Rattle.cycle.specs.ReadingBack.{whole_buckets}
 use Rattle.cycle.proofs.Basics.Conditions.{none_before, first_stands}
 use Rattle.listener.specs.Lookup.{Finish, found, absent, refused, whole_run, got_by, step_refused, tune_in_conditions, run_conditions, conditions, refused_or, run_over, as_ending}
-use Rattle.listener.specs.Lookup.{refuse, outcome, lookup}
+use Rattle.listener.specs.Lookup.{Outcome, numbers, refuse, outcome, lookup}
 use Rattle.listener.specs.Inner.OnRun.{concluded}
 use Rattle.listener.specs.declared.Listener.{Listener}
 use Rattle.listener.specs.declared.Looked.{Looked}
@@ -89,6 +90,32 @@ module _ (image : List ℕ) (tag t : ℕ) where
       (first_stands (tune_in_conditions image t)
       (step_refused ran ∷ buffer_too_short room (line_length * length (got_by ran)) ∷ []) r h)
 
+  -- by how the run ends
+  pub concludes : (space : ℕ) {f : Finish} → run_over image tag t ≡ f → lookup image tag t space ≡ concluded space f
+  concludes space {f} e = by (first_refusal (tune_in_conditions image t)) refl
+    where
+      by : (o : Option Refusal) → first_refusal (tune_in_conditions image t) ≡ o → lookup image tag t space ≡ concluded space f
+      by None h = looks_up space h ∙ ap (concluded space) (sym (runs h) ∙ e)
+      by (Some r) h = looks_not space r h ∙ ap (concluded space) (sym (runs_not r h) ∙ e)
+
+  -- by two tests
+  pub lookup_by_tests :
+      (room : ℕ) →
+      lookup image tag t room ≡
+      concluded room
+      (pick (not (whole_buckets (length image))) (refused ImageLengthOut 0)
+      (pick (leb (length image / bucket_length) t) (refused TuneInOut 0) (whole_run image (length image / bucket_length) tag t)))
+  unfolding run_over run_conditions tune_in_conditions
+  lookup_by_tests room = concludes room (by (not (whole_buckets (length image))) (leb (length image / bucket_length) t))
+    where
+      by :
+          (w l : Bool) →
+          refused_or (first_refusal (row ImageLengthOut w ∷ row TuneInOut l ∷ step_refused ran ∷ [])) ran ≡
+          pick w (refused ImageLengthOut 0) (pick l (refused TuneInOut 0) ran)
+      by true l = refl
+      by false true = refl
+      by false false = run_told ran
+
 -- ---- how a run ends
 
 pub record FoundIn (f : Finish) (s : Listener) (n : ℕ) : Type 0 where
@@ -132,6 +159,12 @@ module _ (room : ℕ) (s : Listener) (got : List Line) where
         output = joined print_line got;
       }
   finds h = rw (le-ltb room (line_length * length got) (has_room h))
+
+-- what is handed back, by an outcome that is known
+pub handed :
+    {o o' : Outcome} {r : Result Looked Refusal} (d : List ℕ) {e : List ℕ} → o ≡ o' → r ≡ o'.answer → e ≡ put d 0 o'.output →
+    (numbers r ≡ numbers o.answer) × (e ≡ put d 0 o.output)
+handed d k a w = (ap numbers (a ∙ ap (λ z. z.answer) (sym k)), w ∙ ap (λ z. put d 0 z.output) (sym k))
 
 abbrev pub answered : Looked → Result Looked Refusal
 answered l = Ok l

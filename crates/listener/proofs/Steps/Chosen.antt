@@ -55,14 +55,14 @@ turn true d o p rest = refl
 turn false d o p rest = refl
 
 module _ (tag : ℕ) where
-  entry_chosen : (es : List Entry) → entry_choice tag es ≡ dozes_or (chosen (λ e. leb tag e.tag) (λ e. e.distance) es) Either misses
+  pub entry_chosen : (es : List Entry) → entry_choice tag es ≡ dozes_or (chosen (λ e. leb tag e.tag) (λ e. e.distance) es) Either misses
   entry_chosen [] = refl
   entry_chosen (e ∷ es) =
       ap (pick (leb tag e.tag) (dozes e.distance Either 0 0)) (entry_chosen es)
       ∙ turn (leb tag e.tag) e.distance (chosen (λ x. leb tag x.tag) (λ x. x.distance) es) Either misses
 
   module _ (es : List Entry) where
-    later_chosen :
+    pub later_chosen :
         (ps : List Pair) →
         later_choice tag ps es ≡ dozes_or (chosen (λ p. tag_below p.tag tag) (λ p. p.distance) ps) Index (entry_choice tag es)
     later_chosen [] = refl

@@ -3,14 +3,18 @@
 use mathlib.Core.Path.{◌≡◌, sym, ◌∙◌}
 use mathlib.Core.Bool.{Bool, true, false}
 use Rattle.std.specs.Prelude.{None, Some}
-use mathlib.Core.List.{List}
+use mathlib.Core.List.{List, [], ◌∷◌, map}
 use Prim.Native.Nat.{ℕ, suc, ◌+◌, ◌≤◌, ◌<◌}
 use native.Mathlib.Numerals.{add-one}
+use native.Mathlib.Omega.{arith}
 use borrow.Author.Tests.{eq-eqb, ne_eqb}
-use lib.ListN.{length, drop, get_or, length-map, drop_of_length-le}
+use lib.ListN.{length, drop, get_or, length-map, drop_of_length-le, get_or-map}
 use lib.Seq.{drop-cons}
 use Rattle.listener.specs.Listener.{before, matching}
 use Rattle.listener.specs.Inner.OnReading.{chosen, tagged, tagged_lines}
+
+pub next {ℓ} : {A : Type ℓ} (xs : List A) (i : ℕ) (d : A) → i < length xs → drop i xs ≡ get_or xs i d ∷ drop (i + 1) xs
+next xs i d h = rw (add-one, drop-cons xs i d h)
 
 -- ---- a loop that chooses
 
@@ -30,6 +34,14 @@ module _ {A : Type 0} (f : A → Bool) (distance : A → ℕ) (d : A) (xs ys : L
 pub length_tagged : (ts : List ℕ) → length (tagged_lines ts) ≡ length ts
 unfolding tagged_lines
 length_tagged ts = length-map ts tagged
+
+pub tagged_more : (ts : List ℕ) (i : ℕ) → i < length ts → drop i (tagged_lines ts) ≡ tagged (get_or ts i 0) ∷ drop (i + 1) (tagged_lines ts)
+unfolding tagged_lines
+tagged_more ts i h =
+    rw (next (map tagged ts) i (tagged 0) (omega (arith, length-map ts tagged)), get_or-map tagged ts i 0)
+
+pub tagged_end : (ts : List ℕ) (i : ℕ) → length ts ≤ i → drop i (tagged_lines ts) ≡ []
+tagged_end ts i h = drop_of_length-le (tagged_lines ts) (omega (arith, length_tagged ts))
 
 module _ (tag : ℕ) (ts : List ℕ) (i : ℕ) where
   module _ (h : i < length ts) where

@@ -41,7 +41,7 @@ module _ (bytes : List ℕ) (b : Bucket) (read : Some b ≡ read_bucket bytes) w
   fine : Good b
   fine = bucket_good b (print_of_read_bucket bytes (sym read)).1
 
-  index_of : (qs : List Pair) (fs : List Entry) → b.body ≡ index_body qs fs → IndexRead (head_of b) qs fs (read_bucket bytes)
+  pub index_of : (qs : List Pair) (fs : List Entry) → b.body ≡ index_body qs fs → IndexRead (head_of b) qs fs (read_bucket bytes)
   unfolding head_of bucket_with
   index_of qs fs body =
       let rules : GoodIndex b.to_cycle qs fs = rw body at fine.good_rest in

@@ -3,9 +3,10 @@
 use mathlib.Core.Path.{◌≡◌, refl, ◌∙◌, ap}
 use mathlib.Core.Bool.{Bool, true, false, ◌&&◌}
 use mathlib.Core.List.{List, [], ◌∷◌, map}
-use Prim.Native.Nat.{ℕ, suc, ◌-◌, ◌≤◌}
+use Prim.Native.Nat.{ℕ, zero, suc, ◌-◌, ◌≤◌}
 use native.Mathlib.Omega.{arith}
 use lib.Dec.{eqb}
+use lib.ListN
 use lib.ListN.{length, get_or}
 use Rattle.columns.specs.Lists.{pick, only, last_or}
 use Rattle.buckets.specs.declared.Line.{Line}
@@ -116,6 +117,11 @@ matching_few tag (l ∷ ls) = passed (eqb l.tag tag) (matching_few tag ls)
         length (pick b (l ∷ only (λ m. eqb m.tag tag) ls) (only (λ m. eqb m.tag tag) ls)) ≤ suc (length ls)
     passed true r = omega arith
     passed false r = omega arith
+
+pub last_taken : (m t : ℕ) (ts : List ℕ) → m ≤ length ts → last_or t (ListN.take m ts) ≡ get_or (t ∷ ts) m 0
+last_taken zero t ts h = refl
+last_taken (suc m) t [] h = absurd (omega arith)
+last_taken (suc m) t (u ∷ us) h = last_taken m u us (omega arith)
 
 -- the last of some lines
 pub last_tagged :
