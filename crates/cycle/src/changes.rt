@@ -13,7 +13,7 @@ ghost use Rattle.cycle.specs.Inner.ListLines.{Told};
 ghost use Rattle.cycle.specs.Inner.Changing.{first_from, tag_over, with_line, without_line, counts_held};
 ghost use Rattle.cycle.specs.declared.Source.TheVariants as Source;
 
-use super::conditions::{first_misprint, judge_lines, judge_room};
+use super::conditions::{all_rise, first_misprint, judge_lines, judge_room};
 use super::measures::{figures_of, settings_fit};
 use super::{Accepted, Counts, Cycle, Figures, LINE, Reason, Refusal, Settings};
 use buckets::Line;
@@ -37,6 +37,13 @@ fn judge_lines_given(list: &[u8], given: &[u8]) -> Result<bool, Refusal>
 {
     if line_tag(given).is_none() {
         let lines = (list.len() / Line::LENGTH) as u64;
+        // lines without leading zeros, as most lists have them, are looked at with less work
+        if all_rise(list, true) {
+            return Err(Refusal {
+                reason: Reason::LineMisprinted,
+                place: lines,
+            });
+        }
         let place = first_misprint(list).unwrap_or(lines);
         return Err(Refusal {
             reason: Reason::LineMisprinted,

@@ -59,7 +59,7 @@ fn tag_read(part: &[u8], plain: bool) -> Option<u64>
 
 // Whether every line is well printed, without leading zeros where `plain` says so, and no tag falls, in one pass. Where it is
 // not so, the place is looked for anew.
-fn all_rise(list: &[u8], plain: bool) -> bool
+pub fn all_rise(list: &[u8], plain: bool) -> bool
     ensures { result ≡ true →
         (misprint_from 0 (cut_lines list.now) ≡ None) × (fall_from 0 0 (list_lines list.now) ≡ None)
         × (plain ≡ true → length list.now % line_length ≡ 0 → PlainList list.now) }

@@ -12,6 +12,14 @@ use Rattle.cycle.specs.declared.Reason.TheVariants.{LineMisprinted}
 use Rattle.cycle.proofs.Changing.GivenJudging.{given_misprinted_lem, given_printed, told_by}
 use Rattle.cycle.proofs.changes.judge_lines_given.Goals as goal
 
+-- no line of the list is misprinted, so the given one is the first
+pub returns-then-all_rise : goal.returns-then-all_rise
+returns-then-all_rise c =
+    let lines = length c.args.list.now / line_length in
+    given_misprinted_lem c.args.list.now lines c.args.given.now
+    (mapped_none (λ (l : Line). l.tag) (read_line c.args.given.now) c.line_tag.ensures c.if-is_none.ensures)
+    ∙ ap (λ o. Some (refusal LineMisprinted (unwrap_or o lines))) ((c.all_rise.ensures c.if-all_rise.true).0)
+
 pub returns-then-is_none : goal.returns-then-is_none
 returns-then-is_none c =
     let lines = length c.args.list.now / line_length in
