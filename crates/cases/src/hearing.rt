@@ -1,5 +1,5 @@
 // H and Q: one listener, given bucket after bucket; in Q some may be lost.
-ghost use Rattle.std.specs.Prelude.{◌<◌};
+ghost use Rattle.std.specs.Prelude.{◌≡◌, ◌<◌, take, drop};
 
 use super::answers::say;
 use super::errors::{Stopped, StreamError};
@@ -70,6 +70,14 @@ impl TryFrom<u8> for Mark {
     }
 }
 
+// The bucket in front of what is left, of size bytes or, at the end, of fewer; and what is behind it.
+fn cut_bucket(left: &[u8], size: usize) -> (&[u8], &[u8])
+    ensures bucket { result.0.now ≡ take size left.now }
+    ensures behind { result.1.now ≡ drop size left.now }
+{
+    left.split_at(size.min(left.len()))
+}
+
 // A listener started with tag, given the buckets of body in turn, each behind its letter. It ends by what is left: a letter X has no
 // bucket behind it, so the parts have no one length.
 pub fn hear_marked(rt: &impl Print, tag: u64, size: usize, body: &[u8]) -> Result<(), Stopped> {
@@ -78,7 +86,7 @@ pub fn hear_marked(rt: &impl Print, tag: u64, size: usize, body: &[u8]) -> Resul
     while let Some((letter, behind)) = rest.split_first() {
         let (bucket, next) = match Mark::try_from(*letter)? {
             Mark::Bytes => {
-                let (bytes, next) = behind.split_at(size.min(behind.len()));
+                let (bytes, next) = cut_bucket(behind, size);
                 (Some(bytes), next)
             }
             Mark::Lost => (None, behind),
