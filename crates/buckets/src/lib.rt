@@ -137,7 +137,7 @@ pub struct Pair {
 }
 
 // The least pair, which fills a vector's unused places: were it all zeros, the compiler would clear `Items` by `memset`, and the
-// library calls `memcpy` alone.
+// library needs nothing of the C library but `memcpy` at most.
 impl Default for Pair {
     fn default() -> Pair {
         Pair {
